@@ -1,0 +1,12 @@
+pub mod Count
+pub mod Took
+pub mod Wrote
+pub mod Sent
+pub mod Whole
+pub mod PlainSource
+pub mod PlainSink
+pub mod FaultPlan
+pub mod MemorySource
+pub mod MemorySink
+pub mod RealSource
+pub mod RealSink
