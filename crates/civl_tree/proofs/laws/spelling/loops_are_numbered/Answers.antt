@@ -1,0 +1,5 @@
+use Rattle.civl_tree.proofs.Numbers as law
+use Rattle.civl_tree.proofs.laws.spelling.loops_are_numbered.Goals as goal
+
+pub returns : goal.returns
+returns c = law.loops_are_numbered

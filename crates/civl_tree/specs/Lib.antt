@@ -1,0 +1,13 @@
+pub mod formers
+pub mod Token
+pub mod Numbering
+pub mod Spelling
+pub mod SpellingStmt
+pub mod SpellingProgram
+pub mod SpellingScript
+pub mod SpellingDomain
+pub mod SpellingText
+pub mod Raised
+pub mod SpellingLaws
+pub mod rules
+pub mod examples

@@ -1,0 +1,17 @@
+pub mod Names
+pub mod Scopes
+pub mod Sorts
+pub mod Exprs
+pub mod Uses
+pub mod Twice
+pub mod Unknown
+pub mod Count
+pub mod Width
+pub mod Sorted
+pub mod Index
+pub mod Arity
+pub mod StoreSize
+pub mod Signature
+pub mod Places
+pub mod Refusals
+pub mod Broken

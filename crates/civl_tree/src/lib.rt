@@ -1,0 +1,28 @@
+//! The tree of a source text, as the grammar names its parts, and the tokens that spell it.
+//!
+//! A tree is plain data: contracts see a [`List`] as a list and a [`Boxed`] value as the value, so two equal trees
+//! are equal values.
+#![tactic(auto)]
+
+mod action;
+mod boxed;
+mod expr;
+pub mod laws;
+mod list;
+mod memory;
+mod name;
+mod program;
+mod refusal;
+mod script;
+mod stmt;
+
+pub use action::{Action, Choice, Mode, Mover, Param, Update};
+pub use boxed::Boxed;
+pub use expr::{Expr, One, Sort, Two};
+pub use list::List;
+pub use memory::Memory;
+pub use name::Name;
+pub use program::{Global, Invariant, Local, Proc, Program, Refines, Thread};
+pub use refusal::{Refusal, Refused};
+pub use script::{Entry, Literal, Script, Told};
+pub use stmt::Stmt;
