@@ -1,0 +1,3 @@
+pub mod Satisfying
+pub mod Extending
+pub mod Tables
