@@ -1,0 +1,131 @@
+-- Complete runs of unit propagation, and new clauses.
+use Rattle.std.proofs.Common.{◌<◌, length, ◌≡◌, ◌⊎◌, ℕ, zero, suc, List, [], ◌∷◌, get_or, refl, sym, ◌∙◌, ap, inl, inr, arith, Bool, true, false, not, ◌&&◌, ◌||◌, cond, ◌++◌, take}
+use Rattle.std.specs.Prelude.{All, Contains, ◌↔◌, nat_eq, ◌≢◌}
+use Rattle.std.proofs.lemmas.Bool.Decides.{eqb_tells}
+use Rattle.std.proofs.lemmas.Bool.{eqb-true}
+use Rattle.std.proofs.lemmas.List.Elements.{All-nil, All-cons, All-head, All-tail, All-contains, Contains-get_or}
+use Rattle.civl_cnf.specs.Literal.{Literal, opposite}
+use Rattle.civl_cnf.specs.ClauseSet.{ClauseSet}
+use Rattle.civl_rup.specs.Propagation.{Holds, Fails, IsFalsified, IsClosedAt, IsClosed, HasConflict, GivesConflict}
+use Rattle.civl_rup.specs.Rup.{IsNew, IsNewBy, Spends}
+use Rattle.civl_rup.specs.Laws.{set_of, IsRun, IsComplete, AreOthers}
+use Rattle.civl_rup.specs.Marks.{IsIncluded}
+use Rattle.civl_rup.proofs.Propagating.{any_by, unit_grows, conflict_grows}
+
+and_both : (a b : Bool) → (a && b) ≡ true → (a ≡ true) × (b ≡ true)
+and_both true true e = (refl, refl)
+and_both true false e = cc
+and_both false b e = cc
+
+or_either : (a b : Bool) → (a || b) ≡ true → (a ≡ true) ⊎ (b ≡ true)
+or_either true b e = inl refl
+or_either false b e = inr e
+
+same_sign : (p b : Bool) → cond p b (not b) ≡ true → p ≡ b
+same_sign true true e = refl
+same_sign true false e = cc
+same_sign false true e = cc
+same_sign false false e = refl
+
+not_not : (b : Bool) → not (not b) ≡ b
+not_not true = refl
+not_not false = refl
+
+-- each literal of a run is in every closed set in which the literals are false
+pub run_sound : (clauses : List (List Literal)) (falses run : List Literal) → IsRun clauses falses run → (s : ℕ → Bool → Bool) → All (Fails s) falses → IsClosed s clauses → IsIncluded (set_of run) s
+run_sound clauses falses [] steps s fails closed v b held = cc
+run_sound clauses falses (l ∷ before) steps s fails closed v b held =
+    let earlier : IsIncluded (set_of before) s = run_sound clauses falses before steps.1 s fails closed in
+    let this : Holds s l = elim steps.0 [
+      | inl there ↦
+          let f : Fails s (opposite l) = All-contains (Fails s) falses (opposite l) fails there in
+          ap (λ x. s l.variable x) (sym (not_not l.positive)) ∙ f
+      | inr some ↦
+          let at : IsClosedAt s some.1 = All-contains (IsClosedAt s) clauses some.1 closed (some.0, some.2, some.3) in
+          at l (unit_grows (set_of before) s some.1 l earlier some.4)
+    ] in
+    elim (or_either (nat_eq l.variable v && cond l.positive b (not b)) (set_of before v b) held) [
+      | inl here ↦
+          let both = and_both (nat_eq l.variable v) (cond l.positive b (not b)) here in
+          let is : l.variable ≡ v = eqb-true l.variable v both.0 in
+          let sign : l.positive ≡ b = same_sign l.positive b both.1 in
+          ap (λ n. s n b) (sym is) ∙ ap (λ x. s l.variable x) (sym sign) ∙ this
+      | inr there ↦ earlier v b there
+    ]
+
+pub run_decides : (clauses : List (List Literal)) (falses run : List Literal) → IsRun clauses falses run → IsComplete clauses falses run → GivesConflict clauses falses ↔ HasConflict (set_of run) clauses
+run_decides clauses falses run steps complete = (
+  λ gives. elim complete.1 [ inl found ↦ found | inr closed ↦ gives (set_of run) complete.0 closed ],
+  λ found s fails closed. conflict_grows (set_of run) s clauses (run_sound clauses falses run steps s fails closed) found,
+)
+
+signs_tell : (a b : Bool) → (a ≡ b) ⊎ (a ≢ b)
+signs_tell true true = inl refl
+signs_tell true false = inr (λ e. cc)
+signs_tell false true = inr (λ e. cc)
+signs_tell false false = inl refl
+
+literals_tell : (m l : Literal) → (m ≡ l) ⊎ (m ≢ l)
+literals_tell m l = elim (eqb_tells m.variable l.variable) [
+  | inl v ↦ elim (signs_tell m.positive l.positive) [
+    | inl p ↦
+        let with_variable : ℕ → Literal = λ x. record { variable = x; positive = m.positive } in
+        let with_sign : Bool → Literal = λ x. record { variable = l.variable; positive = x } in
+        inl (ap with_variable v.1 ∙ ap with_sign p)
+    | inr p ↦ inr (λ e. p (ap (λ (x : Literal). x.positive) e))
+  ]
+  | inr v ↦ inr (λ e. v.1 (ap (λ (x : Literal). x.variable) e))
+]
+
+-- where the other literals fail
+others_fail : (clause others : List Literal) (l : Literal) (s : ℕ → Bool → Bool) → AreOthers clause l others → All (λ m. (m ≡ l) ⊎ Fails s m) clause → All (Fails s) others
+others_fail clause others l s are forms k d low =
+    let m : Literal = get_or others k d in
+    let in_clause = (are m).0 (Contains-get_or others k d low) in
+    let form : (m ≡ l) ⊎ Fails s m = All-contains (λ n. (n ≡ l) ⊎ Fails s n) clause m forms in_clause.0 in
+    elim form [ inl e ↦ absurd (in_clause.1 e) | inr f ↦ f ]
+
+pub run_shows_new : (clauses : List (List Literal)) (clause : List Literal) (l : Literal) (others run : List Literal) → Contains clause l → AreOthers clause l others → IsRun clauses others run → IsComplete clauses others run → IsNewBy clauses clause l ↔ ((HasConflict (set_of run) clauses → ⊥) × (Holds (set_of run) l → ⊥))
+run_shows_new clauses clause l others run there are steps complete = (
+  λ n.
+      let within : IsIncluded (set_of run) n.set = run_sound clauses others run steps n.set (others_fail clause others l n.set are n.others) n.closed in
+      (λ found. n.quiet (conflict_grows (set_of run) n.set clauses within found), λ holds. n.free (within l.variable l.positive holds)),
+  λ both. record {
+    there = there;
+    set = set_of run;
+    others = λ k d low.
+        let m : Literal = get_or clause k d in
+        elim (literals_tell m l) [
+          | inl e ↦ inl e
+          | inr differ ↦ inr (All-contains (Fails (set_of run)) others m complete.0 ((are m).1 (Contains-get_or clause k d low, differ)))
+        ];
+    closed = elim complete.1 [ inl found ↦ absurd (both.0 found) | inr closed ↦ closed ];
+    quiet = both.0;
+    free = both.1;
+  },
+)
+
+-- a list whose literals fail but for one: the one is in it, or all fail
+one_or_none : (s : ℕ → Bool → Bool) (l : Literal) (xs : List Literal) → All (λ m. (m ≡ l) ⊎ Fails s m) xs → Contains xs l ⊎ All (Fails s) xs
+one_or_none s l [] h = inr (All-nil (Fails s))
+one_or_none s l (x ∷ xs) h = elim (All-head (λ m. (m ≡ l) ⊎ Fails s m) x xs h) [
+  | inl e ↦ inl (zero, omega arith, e)
+  | inr f ↦ elim (one_or_none s l xs (All-tail (λ m. (m ≡ l) ⊎ Fails s m) x xs h)) [
+    | inl there ↦ let low = there.1 in inl (suc there.0, omega arith, there.2)
+    | inr all ↦ inr (All-cons (Fails s) x xs f all)
+  ]
+]
+
+pub new_is_no_superset : (clauses : List (List Literal)) (clause : List Literal) → IsNew clauses clause → All (λ other. All (Contains clause) other → ⊥) clauses
+new_is_no_superset clauses clause new k e low subset =
+    let other : List Literal = get_or clauses k e in
+    let l : Literal = new.0 in
+    let n = new.1 in
+    let forms : All (λ m. (m ≡ l) ⊎ Fails n.set m) other = λ i d small. All-contains (λ m. (m ≡ l) ⊎ Fails n.set m) clause (get_or other i d) n.others (subset i d small) in
+    elim (one_or_none n.set l other forms) [
+      | inl there ↦ n.free (n.closed k e low l (there, forms))
+      | inr all ↦ n.quiet (any_by (IsFalsified n.set) clauses other (Contains-get_or clauses k e low) all)
+    ]
+
+pub spent_is_no_superset : (set : ClauseSet) (log : List (List Literal)) (count : ℕ) → Spends set log count → (i : ℕ) → i < length log → All (λ other. All (Contains (get_or log i [])) other → ⊥) (set.clauses ++ take i log)
+spent_is_no_superset set log count spends i low = new_is_no_superset (set.clauses ++ take i log) (get_or log i []) (spends.fresh i low)

@@ -1,0 +1,6 @@
+use Rattle.std.proofs.Common.{length}
+use Rattle.civl_rup.proofs.Assumed.{Assumes}
+use Rattle.civl_rup.proofs.propagation.assume.Given as goal
+
+abbrev pub invariant-loop-lit : goal.invariant-loop-lit
+invariant-loop-lit l = Assumes l.marks (length l.fn.marks) l.clause l.lit-index

@@ -1,0 +1,22 @@
+//! Replays a log of learned clauses by reverse unit propagation (Goldberg and Novikov, "Verification of proofs of unsatisfiability for CNF formulas", 2003; Van Gelder, "Verifying RUP proofs of propositional unsatisfiability", 2008), and the laws of these proofs.
+#![tactic(auto)]
+
+mod answer;
+mod laws;
+mod marking;
+mod marks;
+mod memory;
+mod occurrences;
+mod propagation;
+mod replaying;
+
+pub use answer::Replay;
+pub use laws::{
+    complete_run_decides, complete_run_shows_new, new_clause_is_no_superset,
+    rup_clause_is_entailed, spent_clause_is_no_superset,
+};
+pub use memory::Memory;
+pub use replaying::replay;
+
+#[cfg(test)]
+mod tests;
