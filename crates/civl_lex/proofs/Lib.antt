@@ -1,0 +1,9 @@
+pub mod Fronts
+pub mod Gaps
+pub mod Runs
+pub mod Spellings
+pub mod Numbers
+pub mod Texts
+pub mod Steps
+pub mod Readings
+pub mod Spaces

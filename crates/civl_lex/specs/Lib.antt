@@ -1,0 +1,6 @@
+pub mod Front
+pub mod Gap
+pub mod Laws
+pub mod Lexical
+pub mod Spelled
+pub mod Text
