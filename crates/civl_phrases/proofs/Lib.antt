@@ -1,0 +1,11 @@
+pub mod Nesting
+pub mod Joins
+pub mod Tokens
+pub mod Repeated
+pub mod Heads
+pub mod Lists
+pub mod Tables
+pub mod Leaves
+pub mod Places
+pub mod Exactly
+pub mod OfExample
