@@ -1,0 +1,11 @@
+pub mod Numbers
+pub mod Places
+pub mod Placing
+pub mod Stepping
+pub mod Runs
+pub mod Failures
+pub mod Schedules
+pub mod Stores
+pub mod Safe
+pub mod Agreeing
+pub mod Zeros

@@ -1,0 +1,9 @@
+pub mod Written
+pub mod Operators
+pub mod Scopes
+pub mod Places
+pub mod Steps
+pub mod Increments
+pub mod Flag
+pub mod Pool
+pub mod Spinlock

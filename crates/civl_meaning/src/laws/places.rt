@@ -1,0 +1,9 @@
+//! What stands at the places of a body with branches and loops.
+ghost use Rattle.civl_meaning.specs.examples.Places.{ThirteenStatements, PlacesInOrder, PlacesBehind};
+
+/// How many statements there are, and what comes from each place on and behind it.
+pub fn places()
+    ensures count { ThirteenStatements }
+    ensures first { PlacesInOrder }
+    ensures second { PlacesBehind }
+{}
