@@ -1,0 +1,5 @@
+pub mod Breaking
+pub mod Listing
+pub mod Lists
+pub mod Tabling
+pub mod Values
