@@ -2,6 +2,8 @@
 use Rattle.std.specs.Prelude.{◌≡◌, ℕ, IsTrue, List, [], ◌∷◌, ◌++◌, map, Result, codes}
 use Rattle.std.specs.List.{AllByRecursion, flat_map}
 use Rattle.civl_tree.specs.Token.{Token, Named, Reserved, Sign, Number, text_of, IsToken}
+use Rattle.civl_tree.specs.examples.SpellingFlag.{flag_tokens}
+use Rattle.civl_tree.specs.examples.SpellingTexts.{lines}
 use Rattle.civl_lex.specs.Gap.{is_blank}
 use Rattle.civl_lex.specs.Text.{HasTokens, NoTokenAt, StartsAt, IsAnswer}
 
@@ -40,3 +42,19 @@ pub record Examples : Type 0 where
   pub past : NoTokenAt (codes "4294967296") 0
   pub comments : HasTokens (codes "a//b" ++ 10 ∷ codes "c//d") (Named (codes "a") ∷ Named (codes "c") ∷ [])
   pub slash : NoTokenAt (codes "a /") 2
+
+-- The text of a whole program, with no more blanks than its author wants, has the tokens that spell the program.
+abbrev pub flag_text : List ℕ
+flag_text = lines ("civl 1; layers 1; permissions 1;"
+    ∷ "global f : bool layers 0 to 1;"
+    ∷ "init true; // any store"
+    ∷ "action Set() -> () choose () layers 0 to 0 atomic"
+    ∷ "  gate true guard true { f := true; }"
+    ∷ "action AtomSet() -> () choose () layers 1 to 1 atomic"
+    ∷ "  gate true guard true { f := true; }"
+    ∷ "proc DoSet() -> () refines AtomSet with () layer 1"
+    ∷ "  { call Set() -> (); commit; }"
+    ∷ "thread DoSet();" ∷ [])
+
+abbrev pub FlagHasTokens : Type 0
+FlagHasTokens = HasTokens flag_text flag_tokens

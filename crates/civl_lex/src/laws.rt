@@ -1,5 +1,5 @@
 // Laws of the definitions, each the contract of a function that does nothing.
-ghost use Rattle.civl_lex.specs.Laws.{OneAnswer, SomeAnswer, OneStart, SpacedTokens, Examples};
+ghost use Rattle.civl_lex.specs.Laws.{OneAnswer, SomeAnswer, OneStart, SpacedTokens, Examples, FlagHasTokens};
 
 /// A text has one list of tokens at most, or one first place without a token, and never both.
 pub fn one_answer()
@@ -24,4 +24,9 @@ pub fn spaced_tokens()
 /// What some short texts are.
 pub fn examples()
     ensures { Examples }
+{}
+
+/// The text of the flag program has the tokens that spell it.
+pub fn flag_has_its_tokens()
+    ensures { FlagHasTokens }
 {}

@@ -5,7 +5,7 @@ use Rattle.civl_tree.specs.Token.{Token}
 use Rattle.civl_phrases.specs.declared.halt.Stop.{Stop}
 use Rattle.civl_phrases.specs.Bracket.{opens, closes, Opens, Closes, side, turn}
 use Rattle.civl_phrases.specs.Reader.{lookahead, is_same, begins, Answer, Reader, ◌>>=◌, expect, after, opened, done, both, mapped, then_token, chosen, flagged}
-use Rattle.civl_phrases.specs.List.{joined, comma, separated, perhaps, repeated, cons, series, enclosed, option_of}
+use Rattle.civl_phrases.specs.List.{joined, comma, separated, perhaps, repeated, cons, series, enclosed, option_of, flag_spelled}
 use Rattle.civl_phrases.specs.Phrase.{Any, PerhapsFits, IsReader, Heads, Image}
 use Rattle.civl_phrases.proofs.Joins.{both_is, mapped_is, image_is, refit_is, chosen_is}
 use Rattle.civl_phrases.proofs.Tokens.{after_is, done_is, opened_is}
@@ -72,9 +72,6 @@ commas_is {A} {B} {d} {e} {z} {s1} {f1} {x} {s2} {f2} {y} stop on off no_comma p
 
 unfoldable flag : {A : Type 0} → Token → Reader A → Reader (Bool × A)
 flag token r = chosen (begins token) (mapped (λ a. (true, a)) (after token r)) (mapped (λ a. (false, a)) r)
-
-abbrev pub flag_spelled : {A : Type 0} → Token → (A → List Token) → Bool × A → List Token
-flag_spelled t s p = cond p.0 (t ∷ s p.1) (s p.1)
 
 flag_back : {A : Type 0} (f : A → Type 0) (b : Bool) (a : A) → f a → Image {B = Bool × A} (λ (a : A). (true, a)) f (b, a) ⊎ Image {B = Bool × A} (λ (a : A). (false, a)) f (b, a)
 flag_back f true a h = inl (a, refl, h)

@@ -1,5 +1,5 @@
 -- Readers of lists and of optional parts, and how lists are spelled.
-use Rattle.std.specs.Prelude.{ℕ, zero, suc, Bool, List, [], ◌∷◌, ◌++◌, length, map, Option, Some, None, Ok, codes}
+use Rattle.std.specs.Prelude.{ℕ, zero, suc, Bool, if◌then◌else◌, List, [], ◌∷◌, ◌++◌, length, map, Option, Some, None, Ok, codes}
 use Rattle.civl_tree.specs.Token.{Token, Sign}
 use Rattle.civl_phrases.specs.Reader.{Answer, Reader, ◌>>=◌, miss, begins, after, both, mapped, then_token, chosen, done}
 
@@ -21,6 +21,10 @@ separated s (x ∷ xs) = s x ++ joined (map (λ y. comma ∷ s y) xs)
 abbrev pub perhaps : {A : Type 0} → (A → List Token) → Option A → List Token
 perhaps s None = []
 perhaps s (Some a) = s a
+
+-- the word or sign where it stands, and then the value's spelling
+abbrev pub flag_spelled : {A : Type 0} → Token → (A → List Token) → Bool × A → List Token
+flag_spelled token s p = if p.0 then token ∷ s p.1 else s p.1
 
 -- ---- lists
 
