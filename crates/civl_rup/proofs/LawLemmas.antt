@@ -12,7 +12,7 @@ use Rattle.civl_rup.specs.Laws.{set_of, IsRun, IsComplete, AreOthers}
 use Rattle.civl_rup.specs.Marks.{IsIncluded}
 use Rattle.civl_rup.proofs.Propagating.{any_by, unit_grows, conflict_grows}
 
-and_both : (a b : Bool) → (a && b) ≡ true → (a ≡ true) × (b ≡ true)
+pub and_both : (a b : Bool) → (a && b) ≡ true → (a ≡ true) × (b ≡ true)
 and_both true true e = (refl, refl)
 and_both true false e = cc
 and_both false b e = cc
@@ -21,13 +21,13 @@ or_either : (a b : Bool) → (a || b) ≡ true → (a ≡ true) ⊎ (b ≡ true)
 or_either true b e = inl refl
 or_either false b e = inr e
 
-same_sign : (p b : Bool) → cond p b (not b) ≡ true → p ≡ b
+pub same_sign : (p b : Bool) → cond p b (not b) ≡ true → p ≡ b
 same_sign true true e = refl
 same_sign true false e = cc
 same_sign false true e = cc
 same_sign false false e = refl
 
-not_not : (b : Bool) → not (not b) ≡ b
+pub not_not : (b : Bool) → not (not b) ≡ b
 not_not true = refl
 not_not false = refl
 

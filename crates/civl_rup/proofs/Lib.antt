@@ -5,3 +5,5 @@ pub mod Assumed
 pub mod Entailing
 pub mod Replays
 pub mod LawLemmas
+pub mod Listing
+pub mod Visiting

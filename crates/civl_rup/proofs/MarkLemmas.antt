@@ -5,7 +5,8 @@ use Rattle.std.proofs.lemmas.Bool.Decides.{eqb_tells}
 use Rattle.std.proofs.lemmas.Bool.{ltb-true, ltb-false}
 use Rattle.std.proofs.Math.Dec.{ltb}
 use Rattle.civl_rup.specs.Propagation.{Fails}
-use Rattle.civl_rup.specs.Marks.{same, marked, IsOpen}
+use Rattle.civl_rup.specs.Marks.{same, marked}
+use Rattle.civl_rup.specs.Trail.{IsOpen}
 use Rattle.civl_cnf.specs.Literal.{Literal}
 
 pub same_self : (b : Bool) → same b b ≡ true

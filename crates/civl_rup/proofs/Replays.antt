@@ -7,23 +7,23 @@ use Rattle.civl_cnf.specs.Literal.{Literal}
 use Rattle.civl_cnf.specs.ClauseSet.{ClauseSet, IsBelow, AreBelow, SatisfiesClause, Satisfies}
 use Rattle.civl_rup.specs.Propagation.{Fails, HasConflict}
 use Rattle.civl_rup.specs.Rup.{HasRup, HasEachOnce, HaveRup, Refutes, HasRupAndNoEmpty, IsFirstWithoutRup, IsUnsatisfiable}
-use Rattle.civl_rup.specs.Marks.{marked, EndsBy, AreAssumed, IsQuiet, ScanSays, Chases, Propagates}
+use Rattle.civl_rup.specs.Marks.{marked, EndsBy, AreAssumed, IsQuiet, ScanSays, Propagates}
 use Rattle.civl_rup.specs.declared.answer.Replay.{Replay}
 use Rattle.civl_rup.specs.declared.answer.Replay.TheVariants.{Refutes as Refuting, NotRup, NoEmpty}
 use Rattle.civl_rup.proofs.MarkLemmas.{lt_or_eq, below_or_not}
 use Rattle.civl_rup.proofs.Entailing.{rup_entails}
-use Rattle.civl_rup.proofs.Propagating.{ends_in_conflict}
+use Rattle.civl_rup.proofs.Propagating.{conflict_grows}
 
 -- RUP by propagation, and the other way round
-pub rup_by : (first last : List (Option Bool)) (variables : ℕ) (clauses : List (List Literal)) (clause : List Literal) (r : Bool) → IsBelow variables clause → HasEachOnce clause → AreAssumed first clause → EndsBy first last clauses r → (IsTrue r → HasRup variables clauses clause) × (HasRup variables clauses clause → IsTrue r)
-rup_by first last variables clauses clause true below once assumed ends =
-    (λ t. record { below = below; once = once; conflict = λ s fails closed. ends s (assumed.no_more s fails) closed }, λ h. refl)
-rup_by first last variables clauses clause false below once assumed ends = (
+pub rup_by : (first last : List (Option Bool)) (variables : ℕ) (clauses : List (List Literal)) (clause : List Literal) (r : Bool) → IsBelow variables clause → HasEachOnce clause → AreAssumed first clause → Propagates first last clauses → EndsBy last clauses r → (IsTrue r → HasRup variables clauses clause) × (HasRup variables clauses clause → IsTrue r)
+rup_by first last variables clauses clause true below once assumed reached ends =
+    (λ t. record { below = below; once = once; conflict = λ s fails closed. conflict_grows (marked last) s clauses (reached.sound s (assumed.no_more s fails) closed) ends }, λ h. refl)
+rup_by first last variables clauses clause false below once assumed reached ends = (
   λ t. cc,
   λ h.
-      let fails : All (Fails (marked last)) clause = λ k d low. ends.0 (get_or clause k d).variable (not (get_or clause k d).positive) (assumed.hold k d low) in
-      let found : HasConflict (marked last) clauses = h.conflict (marked last) fails (λ k d low. (ends.1 k d low).0) in
-      let quiet = subst (IsQuiet (marked last)) found.3 (ends.1 found.0 found.1 found.2) in
+      let fails : All (Fails (marked last)) clause = λ k d low. reached.stay (get_or clause k d).variable (not (get_or clause k d).positive) (assumed.hold k d low) in
+      let found : HasConflict (marked last) clauses = h.conflict (marked last) fails (λ k d low. (ends k d low).0) in
+      let quiet = subst (IsQuiet (marked last)) found.3 (ends found.0 found.1 found.2) in
       absurd (quiet.1 found.4),
 )
 
@@ -99,16 +99,3 @@ pub exactly_refutes : (set : ClauseSet) (log : List (List Literal)) (r : Replay)
 exactly_refutes set log (NotRup j) says = (λ e. cc, λ p. absurd (first_or_all set log j says p.rup))
 exactly_refutes set log NoEmpty says = (λ e. cc, λ p. absurd (says.none p.empty))
 exactly_refutes set log Refuting says = (λ e. says, λ p. refl)
-
--- a conflict that was found
-pub chased : (first last : List (Option Bool)) (variables : ℕ) (clauses : List (List Literal)) (clause : List Literal) (r : Bool) → IsTrue r → IsBelow variables clause → HasEachOnce clause → AreAssumed first clause → Chases first last clauses r → HasRup variables clauses clause
-chased first last variables clauses clause r t below once assumed chases = record {
-  below = below;
-  once = once;
-  conflict = λ s fails closed. ends_in_conflict first last clauses chases.reached (chases.found t) s (assumed.no_more s fails) closed;
-}
-
--- marks that lead to an end, and what led to them
-pub ends_after : (a b c : List (Option Bool)) (clauses : List (List Literal)) (r : Bool) → Propagates a b clauses → EndsBy b c clauses r → EndsBy a c clauses r
-ends_after a b c clauses true p ends = λ s within closed. ends s (p.sound s within closed) closed
-ends_after a b c clauses false p ends = (λ v x held. ends.0 v x (p.stay v x held), ends.1)

@@ -1,7 +1,7 @@
 // What one clause says under marks, and what it marks.
-ghost use Rattle.std.specs.Prelude.{◌≡◌, ◌<◌, ◌∷◌, [], length, All, IfOk};
+ghost use Rattle.std.specs.Prelude.{length, IfOk};
 ghost use Rattle.civl_cnf.specs.ClauseSet.{IsBelow};
-ghost use Rattle.civl_rup.specs.Marks.{RuleSays, VisitSays, both_visits};
+ghost use Rattle.civl_rup.specs.Marks.{RuleSays, VisitSays};
 
 use crate::Memory;
 use crate::marks::Marks;
@@ -15,35 +15,10 @@ pub enum Rule {
     Quiet,
 }
 
-/// What a visit of clauses did.
-#[derive(Clone, Copy, Drop)]
-pub enum Visit {
-    Conflict,
-    Marked,
-    Quiet,
-}
-
-impl Visit {
-    /// What this visit and the next did together.
-    pub fn then(self, next: Visit) -> Visit
-        ensures { result ≡ both_visits self next }
-    {
-        match self {
-            Visit::Conflict => Visit::Conflict,
-            Visit::Quiet => next,
-            Visit::Marked => match next {
-                Visit::Conflict => Visit::Conflict,
-                Visit::Marked => Visit::Marked,
-                Visit::Quiet => Visit::Marked,
-            },
-        }
-    }
-}
-
 /// What the clause says, read as the set of its literals: no literal is left, one is, or it says nothing.
 pub fn rule_of(marks: &Marks, clause: &[Lit]) -> Rule
-    requires { IsBelow (length marks.now) clause.now }
-    ensures { RuleSays marks.now clause.now result }
+    requires { IsBelow (length marks.now.values) clause.now }
+    ensures { RuleSays marks.now.values clause.now result }
 {
     let mut open: Option<Lit> = None;
     for lit in clause {
@@ -69,17 +44,17 @@ pub fn rule_of(marks: &Marks, clause: &[Lit]) -> Rule
     }
 }
 
-/// Marks what the clause forces.
-pub fn mark_forced(marks: &mut Marks, clause: &[Lit]) -> Result<Visit, Memory>
-    requires { IsBelow (length marks.old) clause.now }
-    ensures { IfOk result (λ visit. VisitSays marks.old marks.new (clause.now ∷ []) visit) }
+/// Marks what the clause forces: whether it is falsified.
+pub fn mark_forced(marks: &mut Marks, clause: &[Lit]) -> Result<bool, Memory>
+    requires { IsBelow (length marks.old.values) clause.now }
+    ensures { IfOk result (λ falsified. VisitSays marks.old marks.new clause.now falsified) }
 {
     match rule_of(marks, clause) {
-        Rule::Falsified => Ok(Visit::Conflict),
-        Rule::Quiet => Ok(Visit::Quiet),
+        Rule::Falsified => Ok(true),
+        Rule::Quiet => Ok(false),
         Rule::Forces(lit) => {
             marks.set(lit)?;
-            Ok(Visit::Marked)
+            Ok(false)
         }
     }
 }

@@ -1,12 +1,13 @@
 // Marks for variables.
-ghost use Rattle.std.specs.Prelude.{◌≡◌, ◌<◌, All, length, replicate, slice_set, slice_index_or, Some, None, IfOk, OnOk, OnErr, IfSome};
+ghost use Rattle.std.specs.Prelude.{◌≡◌, ◌<◌, [], All, length, replicate, slice_get, slice_index_or, None, IfOk, OnOk, OnErr, IfSome};
+ghost use Rattle.civl_rup.specs.Trail.{IsOpen, IsTrail, with_mark};
 
 use crate::Memory;
 use civl_cnf::Lit;
 use std::alloc::Global;
 use std::marker::Model;
 
-/// The truth values that variables were given so far, and in which order. Contracts see it as the list of the values.
+/// The truth values that variables were given so far, and in which order. Contracts see it as the record of the values and of the trail, which is that order.
 #[derive(Drop)]
 pub struct Marks {
     values: Vec<Option<bool>>,
@@ -14,12 +15,11 @@ pub struct Marks {
 }
 
 impl Model for Marks {
-    ghost use Rattle.std.specs.Prelude.{List, Option, Bool};
-    ghost use Rattle.civl_rup.specs.Trail.{IsTrail};
+    ghost use Rattle.civl_rup.specs.Trail.{Marking, IsTrail};
 
-    ghost Value = { List (Option Bool) };
+    ghost Value = { Marking };
 
-    ghost view = { λ m. m.values.items };
+    ghost view = { λ m. record { values = m.values.items; trail = m.trail.items } };
 
     ghost invariant = { λ m. IsTrail m.values.items m.trail.items };
 }
@@ -27,7 +27,7 @@ impl Model for Marks {
 impl Marks {
     /// No marks on so many variables.
     pub fn new(alloc: Global, variables: u32) -> Result<Marks, Memory>
-        ensures { IfOk result (λ marks. marks ≡ replicate variables None) }
+        ensures { IfOk result (λ marks. marks ≡ record { values = replicate variables None; trail = [] }) }
     {
         let values = Vec::from_elem(alloc, None, variables as usize)?;
         Ok(Marks {
@@ -36,25 +36,27 @@ impl Marks {
         })
     }
 
-    /// How many variables there are.
+    /// How many variables there are, each at most once in the trail.
     pub fn len(&self) -> usize
-        ensures { result ≡ length self.now }
+        ensures is { result ≡ length self.now.values }
+        ensures trail { IsTrail self.now.values self.now.trail }
     {
         self.values.len()
     }
 
     /// The value that a variable was given.
     pub fn get(&self, variable: u32) -> Option<bool>
-        requires { variable < length self.now }
-        ensures { result ≡ slice_index_or self.now variable None }
+        requires { variable < length self.now.values }
+        ensures { result ≡ slice_index_or self.now.values variable None }
     {
         self.values[variable as usize]
     }
 
-    /// Gives the literal's variable the value that makes the literal true.
+    /// Gives the literal's variable, which has no value, the one that makes the literal true.
     pub fn set(&mut self, lit: Lit) -> Result<(), Memory>
-        requires { lit.variable < length self.old }
-        ensures ok { OnOk result (self.new ≡ slice_set self.old lit.variable (Some lit.positive)) }
+        requires below { lit.variable < length self.old.values }
+        requires free { IsOpen self.old.values lit }
+        ensures ok { OnOk result (self.new ≡ with_mark self.old lit) }
         ensures err { OnErr result (self.new ≡ self.old) }
     {
         self.trail.push(lit.variable())?;
@@ -64,15 +66,17 @@ impl Marks {
 
     /// The variable that was marked at a place in the order, from 0, if so many were.
     pub fn marked_at(&self, at: usize) -> Option<u32>
-        ensures { IfSome result (λ variable. variable < length self.now) }
+        ensures is { result ≡ slice_get self.now.trail at }
+        ensures below { IfSome result (λ variable. variable < length self.now.values) }
     {
         self.trail.get(at).copied()
     }
 
     /// Takes all marks away.
     pub fn clear(&mut self)
-        ensures none { All (λ value. value ≡ None) self.new }
-        ensures size { length self.new ≡ length self.old }
+        ensures none { All (λ value. value ≡ None) self.new.values }
+        ensures size { length self.new.values ≡ length self.old.values }
+        ensures trail { self.new.trail ≡ [] }
     {
         while let Some(variable) = self.trail.pop() {
             self.values[variable as usize] = None;

@@ -1,91 +1,144 @@
 // Where literals stand in clauses.
-ghost use Rattle.std.specs.Prelude.{◌≡◌, ◌<◌, vec_len, IfOk, OnOk};
+ghost use Rattle.std.specs.Prelude.{◌≡◌, ◌<◌, ◌↔◌, [], length, replicate, slice_set, slice_index_or, IsTrue, IfOk, OnOk, OnErr};
 ghost use Rattle.civl_cnf.specs.ClauseSet.{IsBelow};
-ghost use Rattle.civl_rup.specs.Occurrences.{HasLists};
+ghost use Rattle.civl_rup.specs.Occurrences.{nowhere, of_sign, with_number, numbers_of, AreListed, IsSingle, IsUnitListed, IsPartlyAdded};
 
 use crate::Memory;
 use civl_cnf::Lit;
 use std::alloc::Global;
+use std::marker::Model;
 
-/// For each literal the numbers of the clauses in which it stands, and the numbers of the clauses that force a literal by themselves. They are hints, which make propagation fast: no answer rests on them.
+/// The numbers of the clauses in which a variable stands, and of those in which its negation stands. Contracts see it as the record of both lists.
 #[derive(Drop)]
-pub struct Occurrences {
-    pub positive: Vec<Vec<usize>>,
-    pub negative: Vec<Vec<usize>>,
-    pub units: Vec<usize>,
+struct Places {
+    positive: Vec<usize>,
+    negative: Vec<usize>,
 }
 
-/// So many empty lists.
-fn empty_lists(alloc: Global, count: u32) -> Result<Vec<Vec<usize>>, Memory>
-    ensures { IfOk result (λ lists. vec_len lists ≡ count) }
-{
-    let mut lists = Vec::new(alloc);
-    for _at in 0..count {
-        lists.push(Vec::new(alloc))?;
+impl Model for Places {
+    ghost use Rattle.civl_rup.specs.Occurrences.{BothSigns};
+
+    ghost Value = { BothSigns };
+
+    ghost view = { λ p. record { positive = p.positive.items; negative = p.negative.items } };
+}
+
+impl Places {
+    /// No numbers.
+    fn new(alloc: Global) -> Places
+        ensures { result ≡ nowhere }
+    {
+        Places {
+            positive: Vec::new(alloc),
+            negative: Vec::new(alloc),
+        }
     }
-    Ok(lists)
+
+    /// Adds a number at the end of the list of a sign.
+    fn add(&mut self, positive: bool, number: usize) -> Result<(), Memory>
+        ensures ok { OnOk result (self.new ≡ with_number positive number self.old) }
+        ensures err { OnErr result (self.new ≡ self.old) }
+    {
+        if positive {
+            self.positive.push(number)?;
+        } else {
+            self.negative.push(number)?;
+        }
+        Ok(())
+    }
+
+    /// The numbers of a sign.
+    fn of(&self, positive: bool) -> &[usize]
+        ensures { result.now ≡ of_sign positive self.now }
+    {
+        if positive {
+            self.positive.as_slice()
+        } else {
+            self.negative.as_slice()
+        }
+    }
+}
+
+/// For each literal the numbers of the clauses in which it stands, and the numbers of the clauses that force a literal by themselves. Propagation looks for units nowhere else.
+#[derive(Drop)]
+pub struct Occurrences {
+    variables: Vec<Places>,
+    units: Vec<usize>,
+}
+
+impl Model for Occurrences {
+    ghost use Rattle.civl_rup.specs.Occurrences.{OccurrenceLists};
+
+    ghost Value = { OccurrenceLists };
+
+    ghost view = { λ o. record { variables = o.variables.items; units = o.units.items } };
+}
+
+/// Whether no two literals of the clause differ.
+fn is_single(clause: &[Lit]) -> bool
+    ensures { IsTrue result ↔ IsSingle clause.now }
+{
+    for lit in clause {
+        if *lit != clause[0] {
+            return false;
+        }
+    }
+    true
 }
 
 impl Occurrences {
-    /// No clauses, over so many variables.
+    /// Empty lists, for so many variables.
     pub fn new(alloc: Global, variables: u32) -> Result<Occurrences, Memory>
-        ensures { IfOk result (HasLists variables) }
+        ensures { IfOk result (λ lists. lists ≡ record { variables = replicate variables nowhere; units = [] }) }
     {
-        let positive = empty_lists(alloc, variables)?;
-        let negative = empty_lists(alloc, variables)?;
+        let mut lists = Vec::new(alloc);
+        for _at in 0..variables {
+            lists.push(Places::new(alloc))?;
+        }
         Ok(Occurrences {
-            positive,
-            negative,
+            variables: lists,
             units: Vec::new(alloc),
         })
     }
 
     /// Adds one place at which a literal stands.
     fn add_lit(&mut self, lit: Lit, number: usize) -> Result<(), Memory>
-        requires positive { lit.variable < vec_len self.old.positive }
-        requires negative { lit.variable < vec_len self.old.negative }
-        ensures positive { vec_len self.new.positive ≡ vec_len self.old.positive }
-        ensures negative { vec_len self.new.negative ≡ vec_len self.old.negative }
+        requires { lit.variable < length self.old.variables }
+        ensures ok { OnOk result (self.new ≡ record self.old { variables = slice_set self.old.variables lit.variable (with_number lit.positive number (slice_index_or self.old.variables lit.variable nowhere)) }) }
+        ensures err { OnErr result (self.new ≡ self.old) }
     {
-        let at = lit.variable() as usize;
-        if lit.positive() {
-            self.positive[at].push(number)?;
-        } else {
-            self.negative[at].push(number)?;
-        }
-        Ok(())
+        self.variables[lit.variable() as usize].add(lit.positive(), number)
     }
 
-    /// Adds a clause under its number.
+    /// Adds a clause under its number. Where memory is wanting, a front of its literals may be listed.
     pub fn add(&mut self, clause: &[Lit], number: usize) -> Result<(), Memory>
-        requires positive { IsBelow (vec_len self.old.positive) clause.now }
-        requires negative { IsBelow (vec_len self.old.negative) clause.now }
-        ensures positive { vec_len self.new.positive ≡ vec_len self.old.positive }
-        ensures negative { vec_len self.new.negative ≡ vec_len self.old.negative }
+        requires { IsBelow (length self.old.variables) clause.now }
+        ensures size { length self.new.variables ≡ length self.old.variables }
+        ensures listed { OnOk result (AreListed self.old self.new clause.now number) }
+        ensures unit { OnOk result (IsUnitListed self.old self.new clause.now number) }
+        ensures err { OnErr result (IsPartlyAdded self.old self.new clause.now number) }
     {
-        if clause.iter().all(|lit| *lit == clause[0]) {
-            self.units.push(number)?;
-        }
         for lit in clause {
             self.add_lit(*lit, number)?;
         }
+        if is_single(clause) {
+            self.units.push(number)?;
+        }
         Ok(())
     }
 
-    /// The numbers of the clauses in which a literal stands.
+    /// The numbers of the clauses in which a literal stands, one for each place.
     pub fn of(&self, variable: u32, positive: bool) -> &[usize]
-        requires positive { variable < vec_len self.now.positive }
-        requires negative { variable < vec_len self.now.negative }
+        requires { variable < length self.now.variables }
+        ensures { result.now ≡ numbers_of self.now (record { variable = variable; positive = positive }) }
     {
-        if positive {
-            self.positive[variable as usize].as_slice()
-        } else {
-            self.negative[variable as usize].as_slice()
-        }
+        self.variables[variable as usize].of(positive)
     }
 
     /// The numbers of the clauses that force a literal by themselves.
-    pub fn units(&self) -> &[usize] {
+    pub fn units(&self) -> &[usize]
+        ensures { result.now ≡ self.now.units }
+    {
         self.units.as_slice()
     }
 }

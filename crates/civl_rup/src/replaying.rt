@@ -1,7 +1,7 @@
 // Replaying a log.
 ghost use Rattle.std.specs.Prelude.{◌≡◌, ◌↔◌, [], ℕ, length, IfOk, IsTrue, Contains};
-ghost use Rattle.civl_rup.specs.Marks.{ScanSays};
-ghost use Rattle.civl_rup.specs.Occurrences.{HasLists};
+ghost use Rattle.civl_rup.specs.Marks.{ScanSays, ScanLists};
+ghost use Rattle.civl_rup.specs.Occurrences.{AreOccurrences};
 ghost use Rattle.civl_rup.specs.Rup.{HasRupAndNoEmpty, IsFirstWithoutRup, IsUnsatisfiable, Refutes};
 
 use crate::marks::Marks;
@@ -25,7 +25,8 @@ fn has_empty(clauses: &[Clause]) -> bool
 
 /// Where the literals stand in the clause set.
 fn occurrences_of(alloc: Global, cnf: &Cnf) -> Result<Occurrences, Memory>
-    ensures { IfOk result (HasLists cnf.now.variables) }
+    ensures size { IfOk result (λ lists. length lists.variables ≡ cnf.now.variables) }
+    ensures lists { IfOk result (AreOccurrences cnf.now.clauses) }
 {
     let mut occurrences = Occurrences::new(alloc, cnf.variables())?;
     for at in 0..cnf.len() {
@@ -41,9 +42,11 @@ fn scan(
     cnf: &Cnf,
     log: &Log,
 ) -> Result<Replay, Memory>
-    requires marks { length marks.old ≡ cnf.now.variables }
-    requires lists { HasLists cnf.now.variables occurrences.old }
-    ensures { IfOk result (λ found. ScanSays cnf.now log.now found) }
+    requires marks { length marks.old.values ≡ cnf.now.variables }
+    requires size { length occurrences.old.variables ≡ cnf.now.variables }
+    requires lists { AreOccurrences cnf.now.clauses occurrences.old }
+    ensures found { IfOk result (λ found. ScanSays cnf.now log.now found) }
+    ensures lists { IfOk result (λ found. ScanLists cnf.now log.now occurrences.new found) }
 {
     let clauses = log.clauses();
     for at in 0..clauses.len() {

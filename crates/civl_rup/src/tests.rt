@@ -1,10 +1,11 @@
 // Small clause sets with logs that were worked out by hand, both written as in DIMACS: 1 is the first variable, -1 its negation, and 0 ends a clause.
-ghost use Rattle.std.specs.Prelude.{IsTrue};
+ghost use Rattle.std.specs.Prelude.{◌≡◌, length, IsTrue, IfOk};
 ghost use Rattle.civl_cnf.specs.ClauseSet.{IsBelow};
 
+use crate::occurrences::Occurrences;
 use crate::{
-    Replay, complete_run_decides, complete_run_shows_new, new_clause_is_no_superset, replay,
-    rup_clause_is_entailed, spent_clause_is_no_superset,
+    Memory, Replay, complete_run_decides, complete_run_shows_new, new_clause_is_no_superset,
+    replay, rup_clause_is_entailed, spent_clause_is_no_superset,
 };
 use civl_cnf::{Clause, Cnf, Lit, Log};
 use std::alloc::{AllocError, Global};
@@ -164,6 +165,31 @@ fn pigeons(rt: HostRuntime) -> Result<(), Fail> {
         let found = replayed(&rt, rt.alloc(), 12, PIGEONS, log)?;
         assert_eq!(rt; found, answer, "{log}");
     }
+    Ok(())
+}
+
+/// The lists of the clauses 1 1 -2, numbered 7, and -2, numbered 8.
+fn lists_of_two(alloc: Global) -> Result<Occurrences, Memory>
+    ensures { IfOk result (λ lists. length lists.variables ≡ 2) }
+{
+    let one = Lit::new(0, true);
+    let other = Lit::new(1, false);
+    let mut lists = Occurrences::new(alloc, 2)?;
+    lists.add(&[one, one, other], 7)?;
+    lists.add(&[other], 8)?;
+    Ok(lists)
+}
+
+#[test]
+fn literals_are_listed(rt: HostRuntime) -> Result<(), Fail> {
+    let Ok(lists) = lists_of_two(rt.alloc()) else {
+        return Err(AllocError)?;
+    };
+    assert_eq!(rt; lists.of(0, true), [7, 7].as_slice());
+    assert!(rt; lists.of(0, false).is_empty());
+    assert!(rt; lists.of(1, true).is_empty());
+    assert_eq!(rt; lists.of(1, false), [7, 8].as_slice());
+    assert_eq!(rt; lists.units(), [8].as_slice());
     Ok(())
 }
 

@@ -3,4 +3,4 @@ use Rattle.civl_rup.proofs.Assumed.{Assumes}
 use Rattle.civl_rup.proofs.propagation.assume.Given as goal
 
 abbrev pub invariant-loop-lit : goal.invariant-loop-lit
-invariant-loop-lit l = Assumes l.marks (length l.fn.marks) l.clause l.lit-index
+invariant-loop-lit l = Assumes l.marks.values (length l.fn.marks.values) l.clause l.lit-index

@@ -1,28 +1,57 @@
-use Rattle.std.proofs.Common.{◌++◌, ◌∙◌, subst}
-use Rattle.civl_rup.specs.Marks.{VisitSays}
-use Rattle.civl_rup.specs.declared.marking.Visit.{Visit}
-use Rattle.civl_rup.proofs.Propagating.{visit_propagates, propagates_then, ends_in_conflict, ends_quietly}
+use Rattle.std.proofs.Common.{◌++◌, ◌∙◌, Bool, List, ℕ, sym, subst, arith}
+use Rattle.civl_rup.specs.Marks.{NumbersSay, VariableSays}
+use Rattle.civl_rup.proofs.Propagating.{propagates_then}
+use Rattle.civl_rup.proofs.Visiting.{start_settled, next_settled, ends_quietly, past_end, conflict_then}
 use Rattle.civl_rup.proofs.propagation.propagate.Goals as goal
 
-pub returns-in-Conflict : goal.returns-in-Conflict
-returns-in-Conflict c =
+pub returns-then-branch : goal.returns-then-branch
+returns-then-branch c =
     let clauses = c.args.formula.now ++ c.args.earlier.now in
-    let found = subst (λ (r : Visit). VisitSays c.loop.marks c.sweep_both.new.marks clauses r) c.in-Conflict.is c.in_ok-sweep_both.ensures in
-    let all = propagates_then c.args.marks.now c.loop.marks c.sweep_both.new.marks clauses c.loop.invariant found.0 in
-    record { ends = ends_in_conflict c.args.marks.now c.sweep_both.new.marks clauses all found.1; size = all.size }
+    let met = subst (λ (r : Bool). NumbersSay c.args.marks.now c.visit_numbers.new.marks clauses c.units.result.now r) c.if-branch.true c.in_ok-visit_numbers.ensures in
+    record { reached = met.reached; ends = met.found }
 
-pub returns-in-Quiet : goal.returns-in-Quiet
-returns-in-Quiet c =
+pub loop-at-init : goal.loop-at-init
+loop-at-init c =
     let clauses = c.args.formula.now ++ c.args.earlier.now in
-    let quiet = subst (λ (r : Visit). VisitSays c.loop.marks c.sweep_both.new.marks clauses r) c.in-Quiet.is c.in_ok-sweep_both.ensures in
-    let next = visit_propagates c.loop.marks c.sweep_both.new.marks clauses c.in_ok-sweep_both.field-0 c.in_ok-sweep_both.ensures in
+    let listed = subst (λ (numbers : List ℕ). NumbersSay c.args.marks.now c.visit_numbers.new.marks clauses numbers c.in_ok-visit_numbers.field-0) c.units.ensures c.in_ok-visit_numbers.ensures in
+    let says = subst (λ (r : Bool). NumbersSay c.args.marks.now c.visit_numbers.new.marks clauses c.args.occurrences.now.units r) c.if-branch.false listed in
     record {
-      ends = ends_quietly c.args.marks.now c.loop.marks c.sweep_both.new.marks clauses c.loop.invariant quiet;
-      size = next.size ∙ c.loop.invariant.size;
+      reached = says.0.reached;
+      count = says.0.count ∙ c.len-variables.ensures.trail.count;
+      settled = start_settled c.args.marks.now c.visit_numbers.new.marks clauses c.args.occurrences.now c.len-variables.ensures.trail c.requires.lists says;
     }
 
-pub loop-preserved : goal.loop-preserved
-loop-preserved c =
+pub returns-in-None : goal.returns-in-None
+returns-in-None c =
     let clauses = c.args.formula.now ++ c.args.earlier.now in
-    let next = visit_propagates c.loop.marks c.sweep_both.new.marks clauses c.in_ok-sweep_both.field-0 c.in_ok-sweep_both.ensures in
-    propagates_then c.args.marks.now c.loop.marks c.sweep_both.new.marks clauses c.loop.invariant next
+    record {
+      reached = c.loop-at.invariant.reached;
+      ends = ends_quietly c.loop-at.marks clauses c.loop-at.at (past_end _ _ (sym c.in-None.ensures.is)) c.loop-at.invariant.settled;
+    }
+
+pub returns-then-branch-2 : goal.returns-then-branch-2
+returns-then-branch-2 c =
+    let clauses = c.args.formula.now ++ c.args.earlier.now in
+    let met = subst (λ (r : Bool). VariableSays c.loop-at.marks c.visit_variable.new.marks clauses c.in-Some.variable r) c.if-branch-2.true c.in_ok-visit_variable-in-Some.ensures in
+    let all = conflict_then c.args.marks.now c.loop-at.marks c.visit_variable.new.marks clauses c.loop-at.invariant.reached met in
+    record { reached = all.reached; ends = all.found }
+
+pub loop-at-preserved : goal.loop-at-preserved
+loop-at-preserved c =
+    let clauses = c.args.formula.now ++ c.args.earlier.now in
+    let says = subst (λ (r : Bool). VariableSays c.loop-at.marks c.visit_variable.new.marks clauses c.in-Some.variable r) c.if-branch-2.false c.in_ok-visit_variable-in-Some.ensures in
+    record {
+      reached = propagates_then _ _ _ clauses c.loop-at.invariant.reached says.0.reached;
+      count = says.0.count ∙ c.loop-at.invariant.count;
+      settled = next_settled c.loop-at.marks c.visit_variable.new.marks clauses c.loop-at.at c.in-Some.variable (sym c.in-Some.ensures.is) c.loop-at.invariant.settled says;
+    }
+
+pub returns : goal.returns
+returns c =
+    let clauses = c.args.formula.now ++ c.args.earlier.now in
+    let count = c.loop-at.invariant.count in
+    let size = c.len-variables.ensures.is in
+    record {
+      reached = c.loop-at.invariant.reached;
+      ends = ends_quietly c.loop-at.marks clauses c.loop-at.at (omega arith) c.loop-at.invariant.settled;
+    }

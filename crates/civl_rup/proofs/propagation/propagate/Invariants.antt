@@ -1,9 +1,11 @@
-use Rattle.std.proofs.Common.{◌++◌}
-use Rattle.civl_rup.specs.Marks.{Propagates, open_count}
+use Rattle.std.proofs.Common.{◌≡◌, ◌<◌, ◌+◌, ◌++◌, ℕ, [], length, get_or}
+use Rattle.civl_rup.specs.Trail.{open_count}
+use Rattle.civl_rup.specs.Marks.{Propagates, IsSettled}
 use Rattle.civl_rup.proofs.propagation.propagate.Given as goal
 
-abbrev pub invariant-loop : goal.invariant-loop
-invariant-loop l = Propagates l.fn.marks l.marks (l.formula ++ l.earlier)
-
-abbrev pub decreases-loop : goal.decreases-loop
-decreases-loop l = open_count l.marks
+abbrev pub invariant-loop-at : goal.invariant-loop-at
+invariant-loop-at l = record {
+  reached : Propagates l.fn.marks.values l.marks.values (l.formula ++ l.earlier);
+  count : length l.marks.trail + open_count l.marks.values ≡ length l.fn.marks.values;
+  settled : (n : ℕ) → n < length (l.formula ++ l.earlier) → IsSettled l.marks l.at (get_or (l.formula ++ l.earlier) n []);
+}

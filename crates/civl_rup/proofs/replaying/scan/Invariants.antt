@@ -1,11 +1,12 @@
-use Rattle.std.proofs.Common.{◌≡◌, length}
-use Rattle.civl_rup.specs.Occurrences.{HasLists}
+use Rattle.std.proofs.Common.{◌≡◌, ◌++◌, length, take}
+use Rattle.civl_rup.specs.Occurrences.{AreOccurrences}
 use Rattle.civl_rup.specs.Rup.{HaveRup}
 use Rattle.civl_rup.proofs.replaying.scan.Given as goal
 
 abbrev pub invariant-loop-at : goal.invariant-loop-at
 invariant-loop-at l = record {
-  marks : length l.marks ≡ l.cnf.variables;
-  lists : HasLists l.cnf.variables l.occurrences;
+  marks : length l.marks.values ≡ l.cnf.variables;
+  size : length l.occurrences.variables ≡ l.cnf.variables;
+  lists : AreOccurrences (l.cnf.clauses ++ take l.at l.log) l.occurrences;
   rup : HaveRup l.cnf l.log l.at;
 }

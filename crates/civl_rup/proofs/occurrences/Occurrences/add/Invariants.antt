@@ -1,8 +1,10 @@
-use Rattle.std.proofs.Common.{◌≡◌, vec_len}
+use Rattle.std.proofs.Common.{◌≡◌, length, take}
+use Rattle.civl_rup.specs.Occurrences.{AreListed}
 use Rattle.civl_rup.proofs.occurrences.Occurrences.add.Given as goal
 
 abbrev pub invariant-loop-lit : goal.invariant-loop-lit
 invariant-loop-lit l = record {
-  positive : vec_len l.self.positive ≡ vec_len l.fn.self.positive;
-  negative : vec_len l.self.negative ≡ vec_len l.fn.self.negative;
+  size : length l.self.variables ≡ length l.fn.self.variables;
+  listed : AreListed l.fn.self l.self (take l.lit-index l.clause) l.number;
+  units : l.self.units ≡ l.fn.self.units;
 }
