@@ -9,3 +9,10 @@ pub mod Stores
 pub mod Safe
 pub mod Agreeing
 pub mod Zeros
+pub mod Operating
+pub mod Joining
+pub mod Finding
+pub mod Putting
+pub mod Shifting
+pub mod Firsts
+pub mod Rests

@@ -7,17 +7,41 @@
 //! stores (`Permissions`, `Initial`), and what a layered program is verified for (`Preserves`). [`laws`] has theorems
 //! about them, and worked examples.
 //!
-//! Code evaluates one form of expression so far, built from names of bools, `true`, `false`, `!`, `&&` and `||`: its
-//! value in one store ([`holds`]), and in all stores at once ([`truth_table`]).
+//! Code does what they say: it gives the value of an expression ([`evaluate`]), fires an action ([`fire`]), starts a plain
+//! program ([`start`]), takes a step of a configuration ([`step`]), and finds the first thread that fails ([`failing`]).
+//! Expressions of names of bools, `true`, `false`, `!`, `&&` and `||` also have their value in one store of bools
+//! ([`holds`]), and in all stores at once ([`truth_table`]).
 #![tactic(auto)]
 
+mod asking;
+mod change;
 mod config;
+mod configs;
+mod expressions;
+mod faults;
+mod firing;
+mod found;
 pub mod laws;
+mod leaving;
+mod meant;
+mod moving;
+mod names;
+mod operators;
 mod scope;
+mod seeking;
+mod setting;
+mod sorts;
+mod starting;
 mod table;
 mod truth;
 
 pub use config::{Activation, Change, Config, Fired, Move, Plain, Running, State, Stepped, Store};
+pub use configs::{copy_config, depth, same, store, threads};
+pub use expressions::evaluate;
+pub use faults::failing;
+pub use firing::fire;
+pub use moving::step;
 pub use scope::Scope;
+pub use starting::start;
 pub use table::{each_store_is_numbered, truth_table};
 pub use truth::{holds, place};

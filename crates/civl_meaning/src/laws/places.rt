@@ -1,4 +1,5 @@
 //! What stands at the places of a body with branches and loops.
+ghost use Rattle.civl_meaning.specs.Rest.{SpotOfRest};
 ghost use Rattle.civl_meaning.specs.examples.Places.{ThirteenStatements, PlacesInOrder, PlacesBehind};
 
 /// How many statements there are, and what comes from each place on and behind it.
@@ -6,4 +7,9 @@ pub fn places()
     ensures count { ThirteenStatements }
     ensures first { PlacesInOrder }
     ensures second { PlacesBehind }
+{}
+
+/// What stands at a place is the first of the statements that are still to run from it.
+pub fn rests()
+    ensures { SpotOfRest }
 {}

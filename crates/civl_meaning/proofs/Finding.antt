@@ -1,0 +1,45 @@
+-- What stands among statements, one statement at a time.
+use Rattle.std.proofs.Common.{◌≡◌, ℕ, ◌+◌, ◌<◌, List, ◌∷◌, drop, length, get_or, refl, sym, ap, ◌∙◌, add-one, drop-cons, Option}
+use Rattle.std.proofs.lemmas.Bool.{lt-ltb, eq-eqb, ne_eqb}
+use Rattle.std.specs.Prelude.{nat_lt, nat_eq, if◌then◌else◌}
+use Rattle.civl_tree.specs.declared.stmt.Stmt.{Stmt, the_lemmas as of_stmt}
+use Rattle.civl_meaning.specs.Places.{Spot, size_of, inside_of, spot_among, first_in, start_of}
+use Rattle.civl_meaning.proofs.Placing.{statements_with, inside_is}
+
+-- among statements of which s is the first
+abbrev pub among_more : Stmt → List Stmt → ℕ → ℕ → Option Spot → ℕ → Option Spot
+among_more s ss at next after wanted =
+    if nat_lt wanted (at + size_of s)
+    then (if nat_eq wanted at
+    then first_in (s ∷ ss) at next after
+    else inside_of s s at (start_of ss (at + size_of s) next) (first_in ss (at + size_of s) next after) wanted)
+    else spot_among ss (at + size_of s) next after wanted
+
+pub among_is : (s : Stmt) (ss : List Stmt) (at next : ℕ) (after : Option Spot) (wanted : ℕ) → spot_among (s ∷ ss) at next after wanted ≡ among_more s ss at next after wanted
+among_is s ss at next after wanted =
+    ap (λ (r : List Stmt). if nat_lt wanted (at + size_of s)
+    then (if nat_eq wanted at
+    then first_in (s ∷ r) at next after
+    else inside_of s s at (start_of r (at + size_of s) next) (first_in r (at + size_of s) next after) wanted)
+    else spot_among ss (at + size_of s) next after wanted) (statements_with ss)
+
+-- at the number of the statement itself
+pub among_here : (s : Stmt) (ss : List Stmt) (at next : ℕ) (after : Option Spot) (wanted : ℕ) → wanted < at + size_of s → wanted ≡ at → spot_among (s ∷ ss) at next after wanted ≡ first_in (s ∷ ss) at next after
+among_here s ss at next after wanted h e = among_is s ss at next after wanted ∙ rw (lt-ltb wanted (at + size_of s) h, eq-eqb wanted at e) refl
+
+-- inside it
+pub among_inside : (s : Stmt) (ss : List Stmt) (at next : ℕ) (after : Option Spot) (wanted : ℕ) → wanted < at + size_of s → (wanted ≡ at → ⊥) → spot_among (s ∷ ss) at next after wanted ≡ inside_of s s at (start_of ss (at + size_of s) next) (first_in ss (at + size_of s) next after) wanted
+among_inside s ss at next after wanted h e = among_is s ss at next after wanted ∙ rw (lt-ltb wanted (at + size_of s) h, ne_eqb wanted at e) refl
+
+pub drop_is : (ss : List Stmt) (i : ℕ) (s : Stmt) → i < length ss → s ≡ get_or ss i s → drop i ss ≡ s ∷ drop (i + 1) ss
+drop_is ss i s h e = rw (add-one, drop-cons ss i s, ← e)
+
+pub here_drop : (ss : List Stmt) (i : ℕ) (s : Stmt) (at next : ℕ) (after : Option Spot) (wanted : ℕ) → i < length ss → s ≡ get_or ss i s → wanted < at + size_of s → wanted ≡ at → spot_among (drop i ss) at next after wanted ≡ first_in (drop i ss) at next after
+here_drop ss i s at next after wanted h e l q =
+    ap (λ (r : List Stmt). spot_among r at next after wanted) (drop_is ss i s h e) ∙ among_here s (drop (i + 1) ss) at next after wanted l q ∙ ap (λ (r : List Stmt). first_in r at next after) (sym (drop_is ss i s h e))
+
+pub inside_drop : (ss : List Stmt) (i : ℕ) (s : Stmt) (at next : ℕ) (after : Option Spot) (wanted : ℕ) → i < length ss → s ≡ get_or ss i s → wanted < at + size_of s → (wanted ≡ at → ⊥) → spot_among (drop i ss) at next after wanted ≡ inside_of s s at (start_of (drop (i + 1) ss) (at + size_of s) next) (first_in (drop (i + 1) ss) (at + size_of s) next after) wanted
+inside_drop ss i s at next after wanted h e l q =
+    ap (λ (r : List Stmt). spot_among r at next after wanted) (drop_is ss i s h e) ∙ among_inside s (drop (i + 1) ss) at next after wanted l q
+
+pub ruleset finding = (inside_is, of_stmt)

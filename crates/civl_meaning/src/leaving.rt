@@ -1,0 +1,226 @@
+// What a step does at the exit of a procedure, and what it does by the place of a thread.
+ghost use Rattle.std.specs.Prelude.{◌≡◌, length, take, drop, slice_get, IfOk};
+ghost use Rattle.civl_tree.specs.declared.stmt.Stmt.{out-Stmt};
+ghost use Rattle.civl_meaning.specs.Found.{spot, Fits};
+ghost use Rattle.civl_meaning.specs.Change.{returned_layer, returned_at, returned_in, returned, leaves, outs_in, spot_change, proc_change, caller_of, change_of};
+
+use crate::change::{Standing, first_call, frame_targets, statement, write_results};
+use crate::config::{Activation, Change, Plain, Running, State, Stepped, Store};
+use crate::found::{Found, look_body};
+use crate::meant::of_proc;
+use civl_bits::Value;
+use civl_tree::{List, Memory, Proc, Stmt};
+use std::alloc::Global as Alloc;
+
+/// A copy of some values.
+pub fn copied(alloc: Alloc, values: &[Value]) -> Result<List<Value>, Memory>
+    ensures { IfOk result (λ r. r ≡ values.now) }
+{
+    let values = Vec::from_slice(alloc, values)?;
+    Ok(List::from_vec(values))
+}
+
+/// A copy of a frame.
+pub fn copied_frame(alloc: Alloc, frame: &Activation) -> Result<Activation, Memory>
+    ensures { IfOk result (λ f. f ≡ frame.now) }
+{
+    let locals = copied(alloc, frame.locals.as_slice())?;
+    Ok(Activation {
+        procedure: frame.procedure,
+        place: frame.place,
+        locals,
+    })
+}
+
+/// The locals behind a call that stands here.
+fn received(
+    alloc: Alloc,
+    proc: &Proc,
+    locals: &[Value],
+    outs: &[Value],
+    stmt: &Stmt,
+) -> Result<List<Value>, Memory>
+    ensures { IfOk result (λ r. r ≡ returned_layer proc.now locals.now outs.now (out-Stmt stmt.now)) }
+{
+    let mut after = Vec::from_slice(alloc, locals)?;
+    match stmt {
+        Stmt::Call(_, _, results) => {
+            write_results(&frame_targets(proc), &mut after, results.as_slice(), outs);
+            Ok(List::from_vec(after))
+        }
+        _ => Ok(List::from_vec(after)),
+    }
+}
+
+/// A frame behind the call that was found at its place.
+fn returned_found(
+    alloc: Alloc,
+    proc: &Proc,
+    outs: &[Value],
+    frame: &Activation,
+    found: Option<Found<'_>>,
+) -> Result<Activation, Memory>
+    ensures { IfOk result (λ f. f ≡ returned_at frame.now outs.now proc.now (spot found.entry)) }
+{
+    match found {
+        None => copied_frame(alloc, frame),
+        Some(found) => {
+            let locals = received(alloc, proc, frame.locals.as_slice(), outs, found.stmt)?;
+            Ok(Activation {
+                procedure: frame.procedure,
+                place: found.next,
+                locals,
+            })
+        }
+    }
+}
+
+/// A frame that waits in a call, after the call gave these outputs.
+fn returned(
+    alloc: Alloc,
+    plain: &Plain,
+    outs: &[Value],
+    frame: &Activation,
+) -> Result<Activation, Memory>
+    ensures { IfOk result (λ f. f ≡ returned plain.now outs.now frame.now) }
+{
+    let procs = plain.program.procs.as_slice();
+    if frame.procedure >= procs.len() {
+        let frame = copied_frame(alloc, frame)?;
+        return Ok(frame);
+    }
+    let proc = &procs[frame.procedure];
+    let found = look_body(&proc.body, frame.place)?;
+    let after = returned_found(alloc, proc, outs, frame, found)?;
+    Ok(after)
+}
+
+/// The end of the topmost frame, above these.
+fn leave(
+    alloc: Alloc,
+    plain: &Plain,
+    outs: &[Value],
+    below: &[Activation],
+) -> Result<Change, Memory>
+    ensures { IfOk result (λ c. c ≡ leaves plain.now outs.now (caller_of below.now)) }
+{
+    if below.is_empty() {
+        return Ok(Change::Leaves(None));
+    }
+    let frame = returned(alloc, plain, outs, &below[below.len() - 1])?;
+    Ok(Change::Leaves(Some(frame)))
+}
+
+/// The values from a place on.
+fn behind(values: &[Value], from: usize) -> &[Value]
+    ensures { result.now ≡ drop from values.now }
+{
+    if from < values.len() {
+        &values[from..]
+    } else {
+        &[]
+    }
+}
+
+/// So many values, or all where there are fewer.
+fn first(values: &[Value], count: usize) -> &[Value]
+    ensures { result.now ≡ take count values.now }
+{
+    if count < values.len() {
+        &values[..count]
+    } else {
+        values
+    }
+}
+
+/// The outputs among a frame's locals.
+fn outputs<'a>(proc: &Proc, locals: &'a [Value]) -> &'a [Value]
+    ensures { result.now ≡ outs_in proc.now locals.now }
+{
+    first(behind(locals, proc.params.len()), proc.outs.len())
+}
+
+/// What is found at the place of the topmost frame, above these.
+fn found_change(
+    alloc: Alloc,
+    standing: &Standing<'_>,
+    store: &Store,
+    chosen: &[Value],
+    below: &[Activation],
+    frame: &Activation,
+    found: Option<Found<'_>>,
+) -> Result<Change, Memory>
+    requires frame { standing.now.locals.now ≡ frame.now.locals }
+    requires found { Fits found }
+    ensures { IfOk result (λ c. c ≡ spot_change standing.now.plain.now store.now chosen.now (caller_of below.now) frame.now standing.now.proc.now (spot found.entry)) }
+{
+    match found {
+        None => {
+            let outs = outputs(standing.proc, standing.locals);
+            let change = leave(alloc, standing.plain, outs, below)?;
+            Ok(change)
+        }
+        Some(found) => {
+            let change = statement(
+                alloc,
+                standing,
+                store,
+                chosen,
+                found.number,
+                found.next,
+                found.stmt,
+            )?;
+            Ok(change)
+        }
+    }
+}
+
+/// A step of the topmost frame, above these.
+fn top_change(
+    alloc: Alloc,
+    plain: &Plain,
+    store: &Store,
+    chosen: &[Value],
+    below: &[Activation],
+    frame: &Activation,
+) -> Result<Change, Memory>
+    ensures { IfOk result (λ c. c ≡ proc_change plain.now store.now chosen.now (caller_of below.now) frame.now (slice_get plain.now.program.procs frame.now.procedure)) }
+{
+    let procs = plain.program.procs.as_slice();
+    if frame.procedure >= procs.len() {
+        return Ok(Change::Stays(Stepped::Blocked));
+    }
+    let proc = &procs[frame.procedure];
+    let found = look_body(&proc.body, frame.place)?;
+    let standing = Standing {
+        plain,
+        proc,
+        locals: frame.locals.as_slice(),
+    };
+    let change = found_change(alloc, &standing, store, chosen, below, frame, found)?;
+    Ok(change)
+}
+
+/// What a step of this thread does, with these values for the choices.
+pub fn change_of(
+    alloc: Alloc,
+    plain: &Plain,
+    store: &Store,
+    chosen: &[Value],
+    thread: &Running,
+) -> Result<Change, Memory>
+    ensures { IfOk result (λ c. c ≡ change_of plain.now store.now chosen.now thread.now) }
+{
+    match &thread.state {
+        State::After => Ok(Change::Stays(Stepped::Ended)),
+        State::Before => {
+            let callee = of_proc(plain, thread.callee);
+            let change = first_call(alloc, plain, store, chosen, callee, thread.args.as_slice())?;
+            Ok(change)
+        }
+        State::Inside(below, frame) => {
+            let change = top_change(alloc, plain, store, chosen, below.as_slice(), frame)?;
+            Ok(change)
+        }
+    }
+}
