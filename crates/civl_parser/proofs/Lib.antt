@@ -1,0 +1,11 @@
+pub mod OfNames
+pub mod Lists
+pub mod OfExprs
+pub mod OfStmts
+pub mod OfActions
+pub mod OfProcs
+pub mod Nests
+pub mod OfPrograms
+pub mod Shallow
+pub mod Sizes
+pub mod OfScripts

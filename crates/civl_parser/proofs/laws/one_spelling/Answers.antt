@@ -1,0 +1,9 @@
+use Rattle.std.proofs.Common.{length}
+use Rattle.civl_tree.specs.SpellingProgram.{spell_program}
+use Rattle.civl_phrases.proofs.Exactly.{one_spelling}
+use Rattle.civl_parser.proofs.Shallow.{all_shallow}
+use Rattle.civl_parser.proofs.OfPrograms.{program_text_is}
+use Rattle.civl_parser.proofs.laws.one_spelling.Goals as goal
+
+pub returns : goal.returns
+returns c = λ p q f g e. one_spelling (program_text_is (length (spell_program p))) p q f g e (all_shallow (spell_program p))

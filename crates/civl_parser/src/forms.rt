@@ -1,0 +1,49 @@
+// How phrases begin: what the next token tells.
+
+/// How a sort begins.
+#[derive(Clone, Copy)]
+pub enum SortForm {
+    Bool,
+    Word,
+    Row,
+}
+
+/// How an expression begins.
+#[derive(Clone, Copy)]
+pub enum ExprForm {
+    Name,
+    Literal,
+    True,
+    False,
+    Done,
+    Old,
+    Paren,
+    Get,
+    Set,
+    Fill,
+    Slice,
+    Widen,
+    Join,
+}
+
+/// How a statement begins.
+#[derive(Clone, Copy)]
+pub enum StmtForm {
+    Assign,
+    Assert,
+    If,
+    While,
+    Call,
+    Yield,
+    Commit,
+    Intro,
+    Spawn,
+}
+
+/// How a literal of a script begins.
+#[derive(Clone, Copy)]
+pub enum LiteralForm {
+    True,
+    False,
+    Number,
+}
