@@ -1,0 +1,71 @@
+-- Parts of phrases that are printed by functions of their own. Each is a part of the spelling of civl_tree, and no more:
+-- that these parts make the whole spelling is proved. They stay folded in the clauses of private functions.
+use Rattle.std.specs.Prelude.{ℕ, Bool, if◌then◌else◌, ◌==◌, List, [], ◌∷◌, ◌++◌, map, codes}
+use Rattle.civl_tree.specs.declared.name.Name.{Name}
+use Rattle.civl_tree.specs.declared.expr.Expr.{Expr}
+use Rattle.civl_tree.specs.declared.stmt.Stmt.{Stmt}
+use Rattle.civl_tree.specs.declared.action.Param.{Param}
+use Rattle.civl_tree.specs.declared.action.Choice.{Choice}
+use Rattle.civl_tree.specs.declared.action.Update.{Update}
+use Rattle.civl_tree.specs.declared.program.Local.{Local}
+use Rattle.civl_tree.specs.declared.program.Program.{Program}
+use Rattle.civl_tree.specs.Token.{Token, Reserved, Number}
+use Rattle.civl_tree.specs.Spelling.{semicolon, arrow, name_token, joined, enclosed, block, open_brace, close_brace, spell_expr}
+use Rattle.civl_tree.specs.SpellingStmt.{spell_stmt}
+use Rattle.civl_tree.specs.SpellingProgram.{spell_global, spell_init, spell_invariant, spell_param, spell_out, spell_choice, spell_update, spell_action, spell_local, spell_proc, spell_thread}
+
+-- name ( list(param) ) -> ( list(out) )
+unfoldable pub signature : Name → List Param → List Param → List Token
+signature name params outs = name_token name ∷ enclosed spell_param params ++ (arrow ∷ enclosed spell_out outs)
+
+-- choose ( list(choice) )
+unfoldable pub choices_of : List Choice → List Token
+choices_of choices = Reserved (codes "choose") ∷ enclosed spell_choice choices
+
+-- layers number to number
+unfoldable pub layers_of : ℕ → ℕ → List Token
+layers_of first last = Reserved (codes "layers") ∷ Number first ∷ Reserved (codes "to") ∷ Number last ∷ []
+
+-- gate expr guard expr
+unfoldable pub conditions : Expr → Expr → List Token
+conditions gate guard = Reserved (codes "gate") ∷ spell_expr gate ++ (Reserved (codes "guard") ∷ spell_expr guard)
+
+-- { update* }
+unfoldable pub updates_of : List Update → List Token
+updates_of updates = block (map spell_update updates)
+
+-- linear or var
+abbrev pub kind_token : Bool → Token
+kind_token linear = if linear then Reserved (codes "linear") else Reserved (codes "var")
+
+-- { local* stmt* }
+unfoldable pub body_of : List Local → List Stmt → List Token
+body_of locals body = open_brace ∷ joined (map spell_local locals) ++ (joined (map spell_stmt body) ++ close_brace ∷ [])
+
+-- [linear]
+abbrev pub linear_of : Bool → List Token
+linear_of linear = if linear then Reserved (codes "linear") ∷ [] else []
+
+-- the version in which a program of this version is printed
+abbrev pub raised_version : ℕ → ℕ
+raised_version version = if version == 1 then 2 else version
+
+-- a word of the header, and then number ;
+unfoldable pub header_number : List ℕ → ℕ → List Token
+header_number word number = Reserved word ∷ Number number ∷ semicolon ∷ []
+
+-- civl number ; layers number ; permissions number ;
+unfoldable pub header_of : Program → List Token
+header_of program =
+    header_number (codes "civl") (raised_version program.version)
+    ++ (header_number (codes "layers") program.layers ++ header_number (codes "permissions") program.permissions)
+
+-- global* init invariant* action* proc* thread*
+unfoldable pub items_of : Program → List Token
+items_of program =
+    joined (map spell_global program.globals)
+    ++ (spell_init program.init
+    ++ (joined (map spell_invariant program.invariants)
+    ++ (joined (map spell_action program.actions)
+    ++ (joined (map spell_proc program.procs)
+    ++ joined (map spell_thread program.threads)))))
