@@ -1,0 +1,11 @@
+pub mod Scoping
+pub mod Lists
+pub mod Widths
+pub mod NameKeys
+pub mod Repeats
+pub mod Slots
+pub mod Powers
+pub mod Walking
+pub mod Procs
+pub mod Declaring
+pub mod Declares

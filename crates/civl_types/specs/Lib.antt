@@ -1,0 +1,7 @@
+pub mod Views
+pub mod Judging
+pub mod NameSets
+pub mod Rules
+pub mod Walks
+pub mod Numbered
+pub mod Checked

@@ -1,0 +1,168 @@
+// The first place at which a name stands twice, and the sets of the names that are declared.
+ghost use Rattle.std.specs.Prelude.{◌≡◌, ◌+◌, ◌<◌, ◌^◌, ◌++◌, ◌∷◌, [], take, length, IfOk};
+ghost use Rattle.civl_tree.specs.Numbering.{statements_of};
+ghost use Rattle.civl_tree.specs.rules.Names.{global_names, action_names, proc_names};
+ghost use Rattle.civl_tree.specs.rules.Places.{E10};
+ghost use Rattle.civl_tree.specs.rules.Refusals.{broken_at, each_from, global_refusals, action_refusals, proc_refusals, refusals_of, first_of};
+ghost use Rattle.civl_types.specs.NameSets.{names_in, Declares};
+ghost use Rattle.civl_types.specs.Numbered.{IsNumbered};
+
+use crate::name_set::NameSet;
+use crate::twice::{action_twice, proc_twice, walk_results};
+use crate::walk::Walk;
+use civl_tree::{Action, Memory, Proc, Program, Refusal};
+use std::alloc::Global;
+
+fn twice_at(item: u32, statement: u32) -> Refusal
+    ensures { result ≡ broken_at E10 item statement }
+{
+    Refusal {
+        code: 10,
+        item,
+        statement,
+    }
+}
+
+/// The refusal of the first global with the name of an earlier one. Where there is none, the set, which is empty at
+/// first, has the names of all.
+fn declare_globals<'a>(
+    globals: &mut NameSet<'a>,
+    program: &'a Program,
+) -> Result<Option<Refusal>, Memory>
+    requires numbered { IsNumbered program.now }
+    requires empty { names_in globals.old ≡ [] }
+    ensures { IfOk result (λ first. Declares first (first_of (each_from (global_refusals E10 program.now) 0 program.now.globals)) (global_names program.now.globals) (names_in globals.new)) }
+{
+    let items = program.globals.as_slice();
+    for (place, global) in items.iter().enumerate() {
+        if globals.add(&global.name)? {
+            return Ok(Some(twice_at(place as u32, 0)));
+        }
+    }
+    Ok(None)
+}
+
+/// The refusal of an action, where these are the names of the globals and of the actions before it.
+#[tactic(auto, unfolding(civl_tree::specs::rules::Refusals::action_refusals, civl_tree::specs::rules::Places::action_breaks))]
+fn action_refusal(
+    alloc: Global,
+    program: &Program,
+    globals: &NameSet,
+    actions: &NameSet,
+    place: usize,
+    action: &Action,
+) -> Result<Option<Refusal>, Memory>
+    requires numbered { IsNumbered program.now }
+    requires place { place < length program.now.actions }
+    requires globals { names_in globals.now ≡ global_names program.now.globals }
+    requires actions { names_in actions.now ≡ action_names (take place program.now.actions) }
+    ensures { IfOk result (λ first. first ≡ first_of (action_refusals E10 program.now place action.now)) }
+{
+    let item = (program.globals.len() + 1 + program.invariants.len() + place) as u32;
+    if action_twice(alloc, globals, actions, action)? {
+        Ok(Some(twice_at(item, 0)))
+    } else {
+        Ok(None)
+    }
+}
+
+/// The refusal of the first action that breaks E10, and the set of the names of all where none does.
+fn declare_actions<'a>(
+    alloc: Global,
+    globals: &NameSet,
+    actions: &mut NameSet<'a>,
+    program: &'a Program,
+) -> Result<Option<Refusal>, Memory>
+    requires numbered { IsNumbered program.now }
+    requires globals { names_in globals.now ≡ global_names program.now.globals }
+    requires empty { names_in actions.old ≡ [] }
+    ensures { IfOk result (λ first. Declares first (first_of (each_from (action_refusals E10 program.now) 0 program.now.actions)) (action_names program.now.actions) (names_in actions.new)) }
+{
+    let items = program.actions.as_slice();
+    for (place, action) in items.iter().enumerate() {
+        if let Some(refusal) = action_refusal(alloc, program, globals, actions, place, action)? {
+            return Ok(Some(refusal));
+        }
+        actions.add(&action.name)?;
+    }
+    Ok(None)
+}
+
+/// The refusal of a procedure: of itself, where these are the names of the globals, the actions and the procedures
+/// before it, or of the first call that names a result twice.
+#[tactic(auto, using(crate::proofs::Procs::of_calls), unfolding(civl_tree::specs::rules::Refusals::proc_refusals, civl_tree::specs::rules::Places::proc_breaks))]
+fn proc_refusal(
+    alloc: Global,
+    program: &Program,
+    globals: &NameSet,
+    actions: &NameSet,
+    procs: &NameSet,
+    place: usize,
+    proc: &Proc,
+) -> Result<Option<Refusal>, Memory>
+    requires numbered { IsNumbered program.now }
+    requires place { place < length program.now.procs }
+    requires body { length (statements_of proc.now.body) < 2 ^ 32 }
+    requires globals { names_in globals.now ≡ global_names program.now.globals }
+    requires actions { names_in actions.now ≡ action_names program.now.actions }
+    requires procs { names_in procs.now ≡ proc_names (take place program.now.procs) }
+    ensures { IfOk result (λ first. first ≡ first_of (proc_refusals E10 program.now place proc.now)) }
+{
+    let item = (program.globals.len()
+        + 1
+        + program.invariants.len()
+        + program.actions.len()
+        + place) as u32;
+    if proc_twice(alloc, globals, actions, procs, proc)? {
+        return Ok(Some(twice_at(item, 0)));
+    }
+    match walk_results(alloc, &proc.body, 0)? {
+        Walk::Broken(statement) => Ok(Some(twice_at(item, statement))),
+        Walk::Next(_) => Ok(None),
+    }
+}
+
+/// The refusal of the first procedure that breaks E10, and the set of the names of all where none does.
+fn declare_procs<'a>(
+    alloc: Global,
+    globals: &NameSet,
+    actions: &NameSet,
+    procs: &mut NameSet<'a>,
+    program: &'a Program,
+) -> Result<Option<Refusal>, Memory>
+    requires numbered { IsNumbered program.now }
+    requires globals { names_in globals.now ≡ global_names program.now.globals }
+    requires actions { names_in actions.now ≡ action_names program.now.actions }
+    requires empty { names_in procs.old ≡ [] }
+    ensures { IfOk result (λ first. Declares first (first_of (each_from (proc_refusals E10 program.now) 0 program.now.procs)) (proc_names program.now.procs) (names_in procs.new)) }
+{
+    let items = program.procs.as_slice();
+    for (place, proc) in items.iter().enumerate() {
+        if let Some(refusal) = proc_refusal(alloc, program, globals, actions, procs, place, proc)? {
+            return Ok(Some(refusal));
+        }
+        procs.add(&proc.name)?;
+    }
+    Ok(None)
+}
+
+/// The refusal of the first place at which E10 is broken.
+#[tactic(auto, using(crate::proofs::Procs::of_twice), unfolding(civl_tree::specs::rules::Refusals::refusals_of, civl_tree::specs::rules::Places::header_breaks, civl_tree::specs::rules::Places::init_breaks))]
+pub(crate) fn first_twice(alloc: Global, program: &Program) -> Result<Option<Refusal>, Memory>
+    requires { IsNumbered program.now }
+    ensures { IfOk result (λ first. first ≡ first_of (refusals_of E10 program.now)) }
+{
+    let mut globals = NameSet::new(alloc);
+    if let Some(refusal) = declare_globals(&mut globals, program)? {
+        return Ok(Some(refusal));
+    }
+    let mut actions = NameSet::new(alloc);
+    if let Some(refusal) = declare_actions(alloc, &globals, &mut actions, program)? {
+        return Ok(Some(refusal));
+    }
+    let mut procs = NameSet::new(alloc);
+    if let Some(refusal) = declare_procs(alloc, &globals, &actions, &mut procs, program)? {
+        return Ok(Some(refusal));
+    }
+    Ok(None)
+}

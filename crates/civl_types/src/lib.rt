@@ -1,0 +1,27 @@
+//! The static rules of programs, E10 to E24: names that stand twice, unknown names, counts, widths, sorts, indices,
+//! numbers of arguments and the size of a store.
+#![tactic(auto)]
+
+mod answer;
+mod arity;
+mod count;
+mod declare;
+mod declared;
+mod exprs;
+mod first;
+mod items;
+mod name_set;
+mod named;
+mod names;
+mod parts;
+mod rule;
+mod sorts;
+mod twice;
+mod typed;
+mod unknown;
+mod uses;
+mod view;
+mod walk;
+
+pub use answer::{check, into_program, refusal};
+pub use typed::Typed;

@@ -1,0 +1,176 @@
+// Names that stand twice (E10).
+ghost use Rattle.std.specs.Prelude.{◌≡◌, ◌+◌, ◌<◌, ◌^◌, ◌++◌, ◌||◌, ◌∷◌, [], map, length, IfOk, false};
+ghost use Rattle.std.specs.List.{list_any};
+ghost use Rattle.civl_tree.specs.Numbering.{statements_of, inner_of};
+ghost use Rattle.civl_tree.specs.rules.Names.{has_name, any_twice, global_names, action_names, names_in_action, names_in_proc, targets_of};
+ghost use Rattle.civl_tree.specs.rules.Twice.{stmt_twice};
+ghost use Rattle.civl_types.specs.NameSets.{names_in, declared_in};
+ghost use Rattle.civl_types.specs.Walks.{IsWalked};
+
+use crate::name_set::NameSet;
+use crate::named::{add_all, any_in, any_twice};
+use crate::walk::Walk;
+use civl_tree::{Action, List, Memory, Proc, Stmt};
+use std::alloc::Global;
+
+/// Whether an action declares a name twice.
+#[tactic(auto, using(crate::proofs::Declaring::declaring))]
+fn action_names_twice(alloc: Global, action: &Action) -> Result<bool, Memory>
+    ensures { IfOk result (λ twice. twice ≡ any_twice (names_in_action action.now)) }
+{
+    let mut names = NameSet::new(alloc);
+    if add_all(&mut names, action.params.as_slice())? {
+        return Ok(true);
+    }
+    if add_all(&mut names, action.outs.as_slice())? {
+        return Ok(true);
+    }
+    let twice = add_all(&mut names, action.choices.as_slice())?;
+    Ok(twice)
+}
+
+/// Whether a procedure declares a name twice.
+#[tactic(auto, using(crate::proofs::Declaring::declaring))]
+fn proc_names_twice(alloc: Global, proc: &Proc) -> Result<bool, Memory>
+    ensures { IfOk result (λ twice. twice ≡ any_twice (names_in_proc proc.now)) }
+{
+    let mut names = NameSet::new(alloc);
+    if add_all(&mut names, proc.params.as_slice())? {
+        return Ok(true);
+    }
+    if add_all(&mut names, proc.outs.as_slice())? {
+        return Ok(true);
+    }
+    let twice = add_all(&mut names, proc.locals.as_slice())?;
+    Ok(twice)
+}
+
+/// Whether an action declares a name of the set.
+#[tactic(auto, using(crate::proofs::Lists::any_append))]
+fn action_names_in(globals: &NameSet, action: &Action) -> bool
+    ensures { result ≡ list_any (has_name (names_in globals.now)) (names_in_action action.now) }
+{
+    any_in(globals, action.params.as_slice())
+        || any_in(globals, action.outs.as_slice())
+        || any_in(globals, action.choices.as_slice())
+}
+
+/// Whether a procedure declares a name of the set.
+#[tactic(auto, using(crate::proofs::Lists::any_append))]
+fn proc_names_in(globals: &NameSet, proc: &Proc) -> bool
+    ensures { result ≡ list_any (has_name (names_in globals.now)) (names_in_proc proc.now) }
+{
+    any_in(globals, proc.params.as_slice())
+        || any_in(globals, proc.outs.as_slice())
+        || any_in(globals, proc.locals.as_slice())
+}
+
+/// Whether an action breaks E10, where these are the names of the globals and of the actions before it.
+#[tactic(auto, using(crate::proofs::Lists::any_append))]
+pub(crate) fn action_twice(
+    alloc: Global,
+    globals: &NameSet,
+    actions: &NameSet,
+    action: &Action,
+) -> Result<bool, Memory>
+    ensures { IfOk result (λ twice. twice ≡ (has_name (names_in globals.now ++ names_in actions.now) action.now.name || (declared_in (names_in globals.now) (names_in_action action.now) || any_twice (targets_of action.now)))) }
+{
+    if globals.has(&action.name) || actions.has(&action.name) {
+        return Ok(true);
+    }
+    if action_names_twice(alloc, action)? {
+        return Ok(true);
+    }
+    if action_names_in(globals, action) {
+        return Ok(true);
+    }
+    let twice = any_twice(alloc, action.updates.as_slice())?;
+    Ok(twice)
+}
+
+/// Whether a procedure breaks E10, outside its statements, where these are the names of the globals, the actions and
+/// the procedures before it.
+#[tactic(auto, using(crate::proofs::Lists::any_append))]
+pub(crate) fn proc_twice(
+    alloc: Global,
+    globals: &NameSet,
+    actions: &NameSet,
+    procs: &NameSet,
+    proc: &Proc,
+) -> Result<bool, Memory>
+    ensures { IfOk result (λ twice. twice ≡ (has_name (names_in globals.now ++ (names_in actions.now ++ names_in procs.now)) proc.now.name || declared_in (names_in globals.now) (names_in_proc proc.now))) }
+{
+    if globals.has(&proc.name) || actions.has(&proc.name) || procs.has(&proc.name) {
+        return Ok(true);
+    }
+    if proc_names_twice(alloc, proc)? {
+        return Ok(true);
+    }
+    Ok(proc_names_in(globals, proc))
+}
+
+fn stmt_twice(alloc: Global, stmt: &Stmt) -> Result<bool, Memory>
+    ensures { IfOk result (λ twice. twice ≡ stmt_twice stmt.now) }
+{
+    match stmt {
+        Stmt::Call(_, _, results) => {
+            let twice = any_twice(alloc, results.as_slice())?;
+            Ok(twice)
+        }
+        Stmt::Assign(_, _) | Stmt::Assert(_) | Stmt::If(_, _, _) | Stmt::While(_, _) => Ok(false),
+        Stmt::YieldLoop(_, _, _)
+        | Stmt::RankLoop(_, _, _, _)
+        | Stmt::Yield(_)
+        | Stmt::Commit
+        | Stmt::Intro(_, _) => Ok(false),
+        Stmt::Spawn(_, _) => Ok(false),
+    }
+}
+
+/// Goes over these statements, and those in them, where the first has this number.
+#[cycle(results)]
+#[tactic(auto, using(crate::proofs::Walking::walking))]
+pub(crate) fn walk_results(alloc: Global, stmts: &List<Stmt>, number: u32) -> Result<Walk, Memory>
+    requires { number + length (statements_of stmts.now) < 2 ^ 32 }
+    ensures { IfOk result (λ walk. IsWalked stmt_twice number (statements_of stmts.now) walk) }
+{
+    let mut here = number;
+    for stmt in stmts.as_slice() {
+        if stmt_twice(alloc, stmt)? {
+            return Ok(Walk::Broken(here));
+        }
+        match walk_inner(alloc, stmt, here + 1)? {
+            Walk::Broken(found) => return Ok(Walk::Broken(found)),
+            Walk::Next(next) => here = next,
+        }
+    }
+    Ok(Walk::Next(here))
+}
+
+/// Goes over the statements in a statement, where the first of them has this number.
+#[cycle(results)]
+#[tactic(auto, using(crate::proofs::Walking::walking))]
+fn walk_inner(alloc: Global, stmt: &Stmt, number: u32) -> Result<Walk, Memory>
+    requires { number + length (inner_of stmt.now) < 2 ^ 32 }
+    ensures { IfOk result (λ walk. IsWalked stmt_twice number (inner_of stmt.now) walk) }
+{
+    match stmt {
+        Stmt::If(_, first, second) => match walk_results(alloc, first, number)? {
+            Walk::Broken(found) => Ok(Walk::Broken(found)),
+            Walk::Next(next) => {
+                let walk = walk_results(alloc, second, next)?;
+                Ok(walk)
+            }
+        },
+        Stmt::While(_, body) => walk_results(alloc, body, number),
+        Stmt::YieldLoop(_, _, body) => walk_results(alloc, body, number),
+        Stmt::RankLoop(_, _, _, body) => walk_results(alloc, body, number),
+        Stmt::Assign(_, _) => Ok(Walk::Next(number)),
+        Stmt::Assert(_) => Ok(Walk::Next(number)),
+        Stmt::Call(_, _, _) => Ok(Walk::Next(number)),
+        Stmt::Yield(_) => Ok(Walk::Next(number)),
+        Stmt::Commit => Ok(Walk::Next(number)),
+        Stmt::Intro(_, _) => Ok(Walk::Next(number)),
+        Stmt::Spawn(_, _) => Ok(Walk::Next(number)),
+    }
+}
