@@ -5,4 +5,11 @@ pub mod Report
 pub mod Conditions
 pub mod Tables
 pub mod Decide
+pub mod WellFormed
+pub mod Texts
+pub mod Reader
+pub mod Outcome
 pub mod Judge
+pub mod Promises
+pub mod Preservation
+pub mod examples

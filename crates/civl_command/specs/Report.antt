@@ -11,6 +11,8 @@ use Rattle.civl_command.specs.declared.condition.Part.{Part}
 use Rattle.civl_command.specs.declared.condition.Part.TheVariants.{Gate, Invariant, Once, Stutter, Perform}
 use Rattle.civl_command.specs.declared.condition.Verdict.{Verdict}
 use Rattle.civl_command.specs.declared.condition.Verdict.TheVariants.{Accepted, Rejected, NoInitial}
+use Rattle.civl_command.specs.declared.reader.Fault.{Fault}
+use Rattle.civl_command.specs.declared.reader.Fault.TheVariants.{NoToken, NotHere, Deep}
 use Rattle.civl_command.specs.declared.judge.Report.{Report}
 use Rattle.civl_command.specs.declared.judge.Report.TheVariants.{Fixed, Made}
 
@@ -60,9 +62,13 @@ value_lines (global ∷ globals) (value ∷ store) = value_line global.name valu
 abbrev pub accepted_text : ℕ → List ℕ
 accepted_text count = line (codes "accepted " ++ decimal count ++ codes " conditions")
 
+-- a condition that doesn't hold
+abbrev pub rejected_heading : Program → Condition → List ℕ
+rejected_heading program condition = line (codes "rejected " ++ condition_text program condition)
+
 -- a condition, and a store that violates it
 abbrev pub rejected_text : Program → Counter → List ℕ
-rejected_text program counter = line (codes "rejected " ++ condition_text program counter.condition) ++ value_lines program.globals counter.store
+rejected_text program counter = rejected_heading program counter.condition ++ value_lines program.globals counter.store
 
 -- that no store is initial, at the item of `init`
 abbrev pub no_initial_text : ℕ → List ℕ
@@ -73,3 +79,18 @@ abbrev pub verdict_text : Program → Verdict → List ℕ
 verdict_text program (Accepted count) = accepted_text count
 verdict_text program (Rejected counter) = rejected_text program counter
 verdict_text program NoInitial = no_initial_text (length program.globals)
+
+-- that an input is longer than it may be
+abbrev pub too_long_text : List ℕ
+too_long_text = line (codes "refused E01 over 1048576 bytes")
+
+-- the first fault of a text that is no program: a byte at which no token begins, a token that may not stand where it
+-- does, or one that opens a bracket too many
+abbrev pub fault_text : Fault → List ℕ
+fault_text (NoToken place) = line (codes "refused E02 at byte " ++ decimal place)
+fault_text (NotHere place) = line (codes "refused E03 at token " ++ decimal place)
+fault_text (Deep place) = line (codes "refused E04 at token " ++ decimal place)
+
+-- that the program isn't one that `check` takes
+abbrev pub untaken_text : List ℕ
+untaken_text = line (codes "refused E99 at item 0 statement 0")

@@ -1,73 +1,45 @@
-// A reader of programs of the flag form, by recursive descent over tokens.
+// The program that a text spells.
+ghost use Rattle.civl_command.specs.Reader.{TellsText};
 
-mod declarations;
-mod expressions;
-mod phrases;
-
-use civl_lex::{LexFault, Token, tokens};
-use civl_tree::{List, Program};
-use declarations::{actions, globals, procs, threads};
-use expressions::expr;
-use phrases::{Halt, Read, fixed, number};
+use civl_lex::{LexFault, tokens};
+use civl_parser::{ParseFault, parse};
+use civl_tree::Program;
 use std::alloc::Global;
 
-/// How many brackets may be open at a place.
-const DEPTH: usize = 64;
+/// Why a text is no program: the first fault in it.
+#[derive(Clone, Copy, Debug, Drop)]
+pub enum Fault {
+    /// No token begins at this byte.
+    NoToken(usize),
+    /// This token can't stand where it does.
+    NotHere(usize),
+    /// This token opens one bracket too many.
+    Deep(usize),
+}
 
 /// What reading a text gives.
 #[derive(Drop)]
 pub(crate) enum Text {
-    /// The program that the text spells.
+    /// The program that the text spells, and the only one.
     Program(Program),
-    /// The text spells no program of the flag form.
-    Other,
+    /// The text is no program, or has too many brackets open at some place.
+    Unread(Fault),
     /// Memory is wanting.
     Memory,
 }
 
-/// `civl n ; layers n ; permissions n ;`
-fn header<'t, 'a>(tokens: &'t [Token<'a>]) -> Read<'t, 'a, (u32, u32, u32)> {
-    let rest = fixed(tokens, "civl")?;
-    let (version, rest) = number(rest)?;
-    let rest = fixed(rest, "; layers")?;
-    let (layers, rest) = number(rest)?;
-    let rest = fixed(rest, "; permissions")?;
-    let (permissions, rest) = number(rest)?;
-    let rest = fixed(rest, ";")?;
-    Ok(((version, layers, permissions), rest))
-}
-
-fn program(alloc: Global, tokens: &[Token<'_>]) -> Result<Program, Halt> {
-    let ((version, layers, permissions), rest) = header(tokens)?;
-    let (globals, rest) = globals(alloc, rest)?;
-    let rest = fixed(rest, "init")?;
-    let (init, rest) = expr(alloc, rest, DEPTH)?;
-    let rest = fixed(rest, ";")?;
-    let (actions, rest) = actions(alloc, rest)?;
-    let (procs, rest) = procs(alloc, rest)?;
-    let threads = threads(alloc, rest)?;
-    Ok(Program {
-        version,
-        layers,
-        permissions,
-        globals,
-        init,
-        invariants: List::new(alloc),
-        actions,
-        procs,
-        threads,
-    })
-}
-
-/// The program that these bytes spell, if its shape is that of the flag form.
-pub(crate) fn read(alloc: Global, bytes: &[u8]) -> Text {
+/// The program that these bytes spell, or the first fault in them.
+pub(crate) fn read(alloc: Global, bytes: &[u8]) -> Text
+    ensures { TellsText bytes.now result }
+{
     match tokens(alloc, bytes) {
-        Ok(tokens) => match program(alloc, tokens.as_slice()) {
+        Ok(tokens) => match parse(alloc, tokens.as_slice()) {
             Ok(program) => Text::Program(program),
-            Err(Halt::NotHere) => Text::Other,
-            Err(Halt::Memory) => Text::Memory,
+            Err(ParseFault::NotHere(place)) => Text::Unread(Fault::NotHere(place)),
+            Err(ParseFault::Deep(place)) => Text::Unread(Fault::Deep(place)),
+            Err(ParseFault::Memory) => Text::Memory,
         },
-        Err(LexFault::NoToken(_)) => Text::Other,
+        Err(LexFault::NoToken(place)) => Text::Unread(Fault::NoToken(place)),
         Err(LexFault::Memory) => Text::Memory,
     }
 }

@@ -1,8 +1,9 @@
 // The text of a report.
 ghost use Rattle.std.specs.Prelude.{◌≡◌, ◌++◌, OnOk, IfOk, decimal};
-ghost use Rattle.civl_command.specs.Report.{part_text, action_text, proc_text, condition_text, bool_text, value_line, value_lines, accepted_text, rejected_text, no_initial_text, verdict_text};
+ghost use Rattle.civl_command.specs.Report.{part_text, action_text, proc_text, condition_text, bool_text, value_line, value_lines, accepted_text, rejected_heading, rejected_text, no_initial_text, verdict_text, line, fault_text};
 
 use crate::condition::{Condition, Counter, Part, Verdict};
+use crate::reader::Fault;
 use civl_tree::{Global as GlobalVar, List, Memory, Name, Program};
 use itoa::Buffer;
 use std::alloc::Global;
@@ -144,5 +145,35 @@ pub(crate) fn report(alloc: Global, program: &Program, verdict: &Verdict) -> Res
 {
     let mut out = Vec::new(alloc);
     put_verdict(&mut out, program, verdict)?;
+    Ok(out)
+}
+
+/// A line with the code, the place and the number of a fault.
+fn put_fault(out: &mut Vec<u8>, fault: Fault) -> Result<(), Memory>
+    ensures { OnOk result (out.new.items ≡ out.old.items ++ fault_text fault) }
+{
+    match fault {
+        Fault::NoToken(place) => put_place(out, b"refused E02 at byte ", place),
+        Fault::NotHere(place) => put_place(out, b"refused E03 at token ", place),
+        Fault::Deep(place) => put_place(out, b"refused E04 at token ", place),
+    }
+}
+
+/// A line that ends with a number.
+fn put_place(out: &mut Vec<u8>, text: &[u8], place: usize) -> Result<(), Memory>
+    ensures { OnOk result (out.new.items ≡ out.old.items ++ line (text.now ++ decimal place)) }
+{
+    put(out, text)?;
+    put_number(out, place)?;
+    put(out, b"\n")?;
+    Ok(())
+}
+
+/// What is reported of a text that is no program.
+pub(crate) fn report_fault(alloc: Global, fault: Fault) -> Result<Vec<u8>, Memory>
+    ensures { IfOk result (λ out. out.items ≡ fault_text fault) }
+{
+    let mut out = Vec::new(alloc);
+    put_fault(&mut out, fault)?;
     Ok(out)
 }

@@ -1,10 +1,15 @@
 // The static rules, as far as programs of the flag form can break them.
-
-ghost use Rattle.std.specs.Prelude.{◌≡◌, ◌↔◌, IsTrue};
-ghost use Rattle.std.specs.Option.{option_copied};
+ghost use Rattle.std.specs.Prelude.{◌≡◌, ◌↔◌, IsTrue, IfOk, option_copied};
+ghost use Rattle.std.specs.List.{list_all};
+ghost use Rattle.civl_tree.specs.declared.stmt.Stmt.{out-Stmt};
+ghost use Rattle.civl_tree.specs.rules.Names.{action_named};
 ghost use Rattle.civl_command.specs.Decide.{callee_of, IsWithinLimits};
+ghost use Rattle.civl_command.specs.FlagForm.{is_flag_form};
+ghost use Rattle.civl_command.specs.WellFormed.{exists_in, is_there, call_below, calls_below, refined_there, refines_there, IsWellFormed};
 
-use civl_tree::{Action, Expr, List, Name, Proc, Program, Stmt};
+use civl_tree::{Action, List, Memory, Name, Proc, Program, Refines, Stmt};
+use civl_types::refusal;
+use std::alloc::Global;
 
 /// The limits on what a program declares.
 const ACTIONS: usize = 128;
@@ -12,33 +17,6 @@ const ACTIONS: usize = 128;
 const PROCS: usize = 64;
 
 const THREADS: usize = 64;
-
-fn is_global(program: &Program, name: &Name) -> bool {
-    program
-        .globals
-        .as_slice()
-        .iter()
-        .any(|global| global.name.is_same(name))
-}
-
-/// Whether each name of an expression is a global's.
-fn is_known(program: &Program, expr: &Expr) -> bool {
-    match expr {
-        Expr::Name(name) => is_global(program, name),
-        Expr::One(_, a) => is_known(program, a.get()),
-        Expr::Two(_, a, b) => is_known(program, a.get()) && is_known(program, b.get()),
-        _ => true,
-    }
-}
-
-/// The action with this name.
-fn action_named<'a>(program: &'a Program, name: &Name) -> Option<&'a Action> {
-    program
-        .actions
-        .as_slice()
-        .iter()
-        .find(|action| action.name.is_same(name))
-}
 
 /// The name that the call in a body calls.
 pub(crate) fn callee(body: &List<Stmt>) -> Option<&Name>
@@ -50,27 +28,61 @@ pub(crate) fn callee(body: &List<Stmt>) -> Option<&Name>
     }
 }
 
-/// How many globals, actions and procedures have this name.
-fn count_named(program: &Program, name: &Name) -> usize {
-    let globals = program
-        .globals
-        .as_slice()
-        .iter()
-        .filter(|global| global.name.is_same(name));
-    let actions = program
+/// The action of this name.
+fn action_named<'a>(program: &'a Program, name: &Name) -> Option<&'a Action>
+    ensures { option_copied result ≡ action_named program.now name.now }
+{
+    program
         .actions
         .as_slice()
         .iter()
-        .filter(|action| action.name.is_same(name));
-    let procs = program
-        .procs
+        .find(|action| name.as_slice() == action.name.as_slice())
+}
+
+/// Whether an action exists in a layer.
+fn exists_in(layer: u32, action: &Action) -> bool
+    ensures { result ≡ exists_in layer action.now }
+{
+    action.first <= layer && layer <= action.last
+}
+
+/// Whether the name is that of an action that exists in a layer.
+fn is_there(program: &Program, layer: u32, name: &Name) -> bool
+    ensures { result ≡ is_there layer (action_named program.now name.now) }
+{
+    match action_named(program, name) {
+        Some(action) => exists_in(layer, action),
+        None => false,
+    }
+}
+
+/// Whether a call is of an action that exists in layer 0.
+fn call_below(program: &Program, statement: &Stmt) -> bool
+    ensures { result ≡ call_below program.now (out-Stmt statement.now) }
+{
+    match statement {
+        Stmt::Call(callee, _, _) => is_there(program, 0, callee),
+        _ => true,
+    }
+}
+
+fn calls_below(program: &Program, proc: &Proc) -> bool
+    ensures { result ≡ calls_below program.now proc.now }
+{
+    proc.body
         .as_slice()
         .iter()
-        .filter(|proc| proc.name.is_same(name));
-    globals
-        .count()
-        .saturating_add(actions.count())
-        .saturating_add(procs.count())
+        .all(|statement| call_below(program, statement))
+}
+
+/// Whether the action that a procedure refines exists in the procedure's layer.
+fn refines_there(program: &Program, proc: &Proc) -> bool
+    ensures { result ≡ refines_there program.now proc.now }
+{
+    match &proc.refines {
+        Some(refines) => is_there(program, refines.layer, &refines.action),
+        None => true,
+    }
 }
 
 fn is_within_limits(program: &Program) -> bool
@@ -81,88 +93,34 @@ fn is_within_limits(program: &Program) -> bool
         && program.threads.len() <= THREADS
 }
 
-/// Whether no two globals, actions and procedures have one name.
-fn is_once_each(program: &Program) -> bool {
+fn are_calls_below(program: &Program) -> bool
+    ensures { result ≡ list_all (calls_below program.now) program.now.procs }
+{
     program
-        .globals
+        .procs
         .as_slice()
         .iter()
-        .all(|global| count_named(program, &global.name) == 1)
-        && program
-            .actions
-            .as_slice()
-            .iter()
-            .all(|action| count_named(program, &action.name) == 1)
-        && program
-            .procs
-            .as_slice()
-            .iter()
-            .all(|proc| count_named(program, &proc.name) == 1)
+        .all(|proc| calls_below(program, proc))
 }
 
-/// Whether the updates change each target once, and globals alone.
-fn is_update_list(program: &Program, action: &Action) -> bool {
-    let updates = action.updates.as_slice();
-    updates.len() <= program.globals.len()
-        && updates.iter().all(|update| {
-            let same = updates
-                .iter()
-                .filter(|other| other.target.is_same(&update.target));
-            is_global(program, &update.target)
-                && is_known(program, &update.expr)
-                && same.count() == 1
-        })
-}
-
-fn is_good_action(program: &Program, action: &Action) -> bool {
-    is_known(program, &action.gate)
-        && is_known(program, &action.guard)
-        && is_update_list(program, action)
-}
-
-/// Whether the name is that of an action that exists in this layer.
-fn is_action_of(program: &Program, name: &Name, layer: u32) -> bool {
-    match action_named(program, name) {
-        Some(action) => action.first <= layer && layer <= action.last,
-        None => false,
-    }
-}
-
-/// Whether a procedure refines an action of layer 1 and calls one of layer 0.
-fn is_good_proc(program: &Program, proc: &Proc) -> bool {
-    let refines = match &proc.refines {
-        Some(refines) => is_action_of(program, &refines.action, 1),
-        None => false,
-    };
-    let calls = match callee(&proc.body) {
-        Some(callee) => is_action_of(program, callee, 0),
-        None => false,
-    };
-    refines && calls
+fn are_refines_there(program: &Program) -> bool
+    ensures { result ≡ list_all (refines_there program.now) program.now.procs }
+{
+    program
+        .procs
+        .as_slice()
+        .iter()
+        .all(|proc| refines_there(program, proc))
 }
 
 /// Whether a program of the flag form breaks no static rule.
-pub(crate) fn is_well_formed(program: &Program) -> bool
-    ensures limits { IsTrue result → IsWithinLimits program.now }
+pub(crate) fn is_well_formed(alloc: Global, program: &Program) -> Result<bool, Memory>
+    requires { IsTrue (is_flag_form program.now) }
+    ensures { IfOk result (λ keeps. IsTrue keeps ↔ IsWellFormed program.now) }
 {
-    is_within_limits(program)
-        && is_once_each(program)
-        && is_known(program, &program.init)
-        && program
-            .actions
-            .as_slice()
-            .iter()
-            .all(|action| is_good_action(program, action))
-        && program
-            .procs
-            .as_slice()
-            .iter()
-            .all(|proc| is_good_proc(program, proc))
-        && program.threads.as_slice().iter().all(|thread| {
-            program
-                .procs
-                .as_slice()
-                .iter()
-                .any(|proc| proc.name.is_same(&thread.callee))
-        })
+    if !is_within_limits(program) {
+        return Ok(false);
+    }
+    let broken = refusal(alloc, program)?;
+    Ok(broken.is_none() && are_calls_below(program) && are_refines_there(program))
 }

@@ -1,30 +1,27 @@
 // The top call.
-ghost use Rattle.std.specs.Prelude.{map, string_bytes};
-ghost use Rattle.civl_command.specs.Judge.{Explains};
+ghost use Rattle.std.specs.Prelude.{◌≡◌, map, string_bytes};
+ghost use Rattle.civl_command.specs.Words.{words_of};
+ghost use Rattle.civl_command.specs.Judge.{reading, writing, Explains};
+ghost use Rattle.civl_command.specs.Promises.{AcceptsRightly, PrintsRightly, RejectsRightly, RefusesRightly, IsComplete};
 
 use crate::judge::judge;
 use crate::status::Status;
+use crate::words::Command;
 use civl_outside::{Sent, Sink, Source, write_all};
 use std::alloc::Global;
 
-/// Does what the words after the program's name say: reads the input from the source, and writes one report to the
-/// sink.
-///
-/// The words are `check`; every other list of words is [`Status::Usage`], and nothing is read. The whole input is
-/// read before anything is written, up to 1,048,576 bytes and one more. The report is made whole before its first
-/// byte is written, so on [`Status::ReadFault`] and [`Status::Memory`] nothing is written, and on
-/// [`Status::WriteFault`] a first part of the report.
-pub fn command<S: Source, K: Sink>(
+/// Judges the words and the input, and writes the report.
+fn respond<S: Source, K: Sink>(
     alloc: Global,
     words: &Vec<String>,
     source: &mut S,
     sink: &mut K,
 ) -> Status
     ensures { Explains (map string_bytes words.now.items)
-        (record { left = S.left source.old; faults = S.faults source.old })
-        (record { left = S.left source.new; faults = S.faults source.new })
-        (record { bytes = K.written sink.old; faults = K.faults sink.old; stalls = K.stalls sink.old })
-        (record { bytes = K.written sink.new; faults = K.faults sink.new; stalls = K.stalls sink.new })
+        (reading (S.left source.old) (S.faults source.old))
+        (reading (S.left source.new) (S.faults source.new))
+        (writing (K.written sink.old) (K.faults sink.old) (K.stalls sink.old))
+        (writing (K.written sink.new) (K.faults sink.new) (K.stalls sink.new))
         result }
 {
     let judged = judge(alloc, words, source);
@@ -33,4 +30,59 @@ pub fn command<S: Source, K: Sink>(
         Sent::Failed => Status::WriteFault,
         Sent::Stuck => Status::WriteFault,
     }
+}
+
+/// Does what the words after the program's name say: reads the input from the source, and writes one report to the
+/// sink.
+///
+/// The words are `check` or `fmt`; every other list of words is [`Status::Usage`], and nothing is read. Under `check`
+/// the program that the input spells is judged, under `fmt` its canonical text is written. The whole input is read
+/// before anything is written, up to 1,048,576 bytes and one more. The report is made whole before its first
+/// byte is written, so on [`Status::ReadFault`] and [`Status::Memory`] nothing is written, and on
+/// [`Status::WriteFault`] a first part of the report.
+pub fn command<S: Source, K: Sink>(
+    alloc: Global,
+    words: &Vec<String>,
+    source: &mut S,
+    sink: &mut K,
+) -> Status
+    // What each status says of the words, of what was read and of what was written.
+    ensures explains { Explains (map string_bytes words.now.items)
+        (reading (S.left source.old) (S.faults source.old))
+        (reading (S.left source.new) (S.faults source.new))
+        (writing (K.written sink.old) (K.faults sink.old) (K.stalls sink.old))
+        (writing (K.written sink.new) (K.faults sink.new) (K.stalls sink.new))
+        result }
+
+    // Where the source tells its bytes: what the statuses on a text say of the whole input.
+    ensures accepted { result ≡ Status.Done → map string_bytes words.now.items ≡ words_of Command.Check → AcceptsRightly
+        (reading (S.left source.old) (S.faults source.old))
+        (reading (S.left source.new) (S.faults source.new))
+        (writing (K.written sink.old) (K.faults sink.old) (K.stalls sink.old))
+        (writing (K.written sink.new) (K.faults sink.new) (K.stalls sink.new)) }
+    ensures printed { result ≡ Status.Done → map string_bytes words.now.items ≡ words_of Command.Fmt → PrintsRightly
+        (reading (S.left source.old) (S.faults source.old))
+        (reading (S.left source.new) (S.faults source.new))
+        (writing (K.written sink.old) (K.faults sink.old) (K.stalls sink.old))
+        (writing (K.written sink.new) (K.faults sink.new) (K.stalls sink.new)) }
+    ensures rejected { result ≡ Status.Rejected → RejectsRightly
+        (reading (S.left source.old) (S.faults source.old))
+        (reading (S.left source.new) (S.faults source.new))
+        (writing (K.written sink.old) (K.faults sink.old) (K.stalls sink.old))
+        (writing (K.written sink.new) (K.faults sink.new) (K.stalls sink.new)) }
+    ensures refused { result ≡ Status.Refused → RefusesRightly (map string_bytes words.now.items)
+        (reading (S.left source.old) (S.faults source.old))
+        (reading (S.left source.new) (S.faults source.new))
+        (writing (K.written sink.old) (K.faults sink.old) (K.stalls sink.old))
+        (writing (K.written sink.new) (K.faults sink.new) (K.stalls sink.new)) }
+
+    // Each input gets the status that it calls for, unless memory runs out.
+    ensures complete { IsComplete (map string_bytes words.now.items)
+        (reading (S.left source.old) (S.faults source.old))
+        (reading (S.left source.new) (S.faults source.new))
+        (writing (K.written sink.old) (K.faults sink.old) (K.stalls sink.old))
+        (writing (K.written sink.new) (K.faults sink.new) (K.stalls sink.new))
+        result }
+{
+    respond(alloc, words, source, sink)
 }

@@ -1,0 +1,17 @@
+use Rattle.civl_command.proofs.Promising.{accepts_by, prints_by, rejects_by, refuses_by, complete_by}
+use Rattle.civl_command.proofs.top.command.Goals as goal
+
+pub returns-clause-accepted : goal.returns-clause-accepted
+returns-clause-accepted g c = λ is check. accepts_by _ _ _ _ _ (rw is at c.respond.ensures) check
+
+pub returns-clause-printed : goal.returns-clause-printed
+returns-clause-printed g c = λ is fmt. prints_by _ _ _ _ _ (rw is at c.respond.ensures) fmt
+
+pub returns-clause-rejected : goal.returns-clause-rejected
+returns-clause-rejected g c = λ is. rejects_by _ _ _ _ _ (rw is at c.respond.ensures)
+
+pub returns-clause-refused : goal.returns-clause-refused
+returns-clause-refused g c = λ is. refuses_by _ _ _ _ _ (rw is at c.respond.ensures)
+
+pub returns-clause-complete : goal.returns-clause-complete
+returns-clause-complete g c = complete_by _ _ _ _ _ c.respond.result c.respond.ensures
