@@ -6,4 +6,6 @@ mod devices;
 #[cfg(test)]
 mod rows;
 #[cfg(test)]
+mod schedules;
+#[cfg(test)]
 mod texts;

@@ -18,6 +18,18 @@ proc DoSet() -> () refines AtomSet with () layer 1
 thread DoSet();
 ";
 
+/// A text that stands in a program, and what stands there instead.
+pub(crate) type Edit = (&'static str, &'static str);
+
+/// The flag program with each edit made in turn, at the first place where its text stands.
+pub(crate) fn edited(alloc: Global, edits: &[Edit]) -> Result<String, AllocError> {
+    let mut text = String::from_str(alloc, FLAG)?;
+    for (old, new) in edits {
+        text = text.replacen(alloc, *old, new, 1)?;
+    }
+    Ok(text)
+}
+
 /// The words of a command line.
 pub(crate) fn words(alloc: Global, all: &[&str]) -> Result<Vec<String>, AllocError> {
     let mut words = Vec::new(alloc);
@@ -34,4 +46,17 @@ pub(crate) fn run(alloc: Global, all: &[&str], input: Vec<u8>) -> Result<(Status
     let mut sink = PlainSink::new(alloc, 10_000)?;
     let status = command(alloc, &words, &mut source, &mut sink);
     Ok((status, sink.bytes().to_vec(alloc)?))
+}
+
+/// The status that a report of `check` belongs to.
+pub(crate) fn status_of(report: &str) -> Status {
+    if report.starts_with("accepted") {
+        Status::Done
+    } else if report.starts_with("rejected") {
+        Status::Rejected
+    } else if report.starts_with("refused") {
+        Status::Refused
+    } else {
+        Status::Usage
+    }
 }

@@ -1,0 +1,83 @@
+// A program that is accepted though its lowest program may fail: its topmost one may too. Both schedules are replayed by
+// steps.
+
+use crate::texts::run;
+use civl_bits::Value;
+use civl_command::Status;
+use civl_lex::tokens;
+use civl_meaning::{Move, Plain, Stepped, Store, failing, start, step};
+use civl_parser::parse;
+use civl_tree::List;
+use std::alloc::Global;
+use std::test::Fail;
+
+/// Setting the flag needs it to be set, and clearing it is always allowed.
+const GATED: &str = "civl 1; layers 1; permissions 1;
+global f : bool layers 0 to 1;
+init f;
+action Set() -> () choose () layers 0 to 0 atomic gate f guard true { f := true; }
+action Clear() -> () choose () layers 0 to 0 atomic gate true guard true { f := false; }
+action AtomSet() -> () choose () layers 1 to 1 atomic gate f guard true { f := true; }
+action AtomClear() -> () choose () layers 1 to 1 atomic gate true guard true { f := false; }
+proc DoSet() -> () refines AtomSet with () layer 1 { call Set() -> (); commit; }
+proc DoClear() -> () refines AtomClear with () layer 1 { call Clear() -> (); commit; }
+thread DoSet();
+thread DoClear();
+";
+
+/// The program of the layer in which procedures mean their bodies, or the actions that they refine.
+fn plain(alloc: Global, bodies: bool) -> Result<Plain, Fail> {
+    let tokens = tokens(alloc, GATED.as_bytes())?;
+    let program = parse(alloc, tokens.as_slice())?;
+    let bodies = List::from_vec(Vec::from_elem(alloc, bodies, 2)?);
+    Ok(Plain { program, bodies })
+}
+
+/// Whether the moves of these threads run from the store in which the flag is set to a configuration in which this
+/// thread is the first that fails, and to none that fails before.
+fn fails_after(alloc: Global, plain: &Plain, moves: &[u32], wanted: u32) -> Result<bool, Fail> {
+    let store = Store {
+        values: List::from_vec([Value::Bool(true)].to_vec(alloc)?),
+    };
+    let mut config = start(alloc, plain, &store)?;
+    for thread in moves {
+        if config.threads.len() != 2 || failing(&config, plain).is_some() {
+            return Ok(false);
+        }
+        let chosen = Move {
+            thread: *thread,
+            choices: List::new(alloc),
+        };
+        let stepped = step(alloc, &mut config, plain, &chosen)?;
+        if stepped != Stepped::Moved {
+            return Ok(false);
+        }
+    }
+    Ok(config.threads.len() == 2 && failing(&config, plain) == Some(wanted))
+}
+
+/// Whether `check` accepts the program.
+fn is_accepted(alloc: Global) -> Result<bool, Fail> {
+    let (status, report) = run(alloc, &["check"], GATED.as_bytes().to_vec(alloc)?)?;
+    Ok(report.as_slice() == b"accepted 12 conditions\n".as_slice() && status == Status::Done)
+}
+
+/// Whether the moves lead to a failure in the program with these bodies.
+fn fails_with(alloc: Global, bodies: bool, moves: &[u32]) -> Result<bool, Fail> {
+    let plain = plain(alloc, bodies)?;
+    let fails = fails_after(alloc, &plain, moves, 0)?;
+    Ok(fails)
+}
+
+#[test]
+fn both_programs_fail(rt: HostRuntime) -> Result<(), Fail> {
+    let accepted = is_accepted(rt.alloc())?;
+    assert!(rt; accepted);
+    // DoSet begins; DoClear begins and clears the flag: DoSet stands before Set, whose gate is false.
+    let lowest_fails = fails_with(rt.alloc(), true, &[0, 1, 1])?;
+    assert!(rt; lowest_fails);
+    // AtomClear clears the flag: the other thread stands before AtomSet, whose gate is false.
+    let topmost_fails = fails_with(rt.alloc(), false, &[1])?;
+    assert!(rt; topmost_fails);
+    Ok(())
+}
