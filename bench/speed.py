@@ -1,0 +1,68 @@
+#!/usr/bin/env python3
+"""Times the built program on texts of a megabyte.
+
+Usage: speed.py BINARY        (crates/civl/out/civl after `rt run` in crates/civl)
+
+Each line: what the text is, its bytes, the seconds of `fmt` and of `check`, and the first line of what `check` prints.
+"""
+import subprocess
+import sys
+import time
+
+LIMIT = 1_048_576
+HEADER = "civl 1; layers 1; permissions 1;\n"
+FLAG = """global f : bool layers 0 to 1;
+init true;
+action Set() -> () choose () layers 0 to 0 atomic
+  gate true guard true { f := true; }
+action AtomSet() -> () choose () layers 1 to 1 atomic
+  gate true guard true { f := true; }
+proc DoSet() -> () refines AtomSet with () layer 1
+  { call Set() -> (); commit; }
+"""
+
+
+def filled(before, piece, after):
+    """The piece as often as it fits within the limit, between the two others; %d is its number."""
+    parts, size, number = [], len(before) + len(after), 0
+    while True:
+        text = piece % number if "%d" in piece else piece
+        if size + len(text) > LIMIT:
+            return before + "".join(parts) + after
+        parts.append(text)
+        size += len(text)
+        number += 1
+
+
+def wide(depth):
+    """An expression in which the depth of brackets is at most this, as long as it may be."""
+    return "f" if depth == 0 else "(%s && %s)" % (wide(depth - 1), wide(depth - 1))
+
+
+TEXTS = {
+    "flag program, threads": filled(HEADER + FLAG, "thread DoSet();\n", ""),
+    "globals of many names": filled(HEADER, "global g%d : bool layers 0 to 1;\n", "init true;\n"),
+    "one expression": HEADER + FLAG.replace("init true", "init " + wide(17)),
+    "statements": filled(HEADER + FLAG + "proc Main() -> () root {\n", "call DoSet() -> ();\n", "}\n"),
+    "comments": filled(HEADER, "// a comment\n", FLAG),
+    "blanks": " " * LIMIT,
+}
+
+
+def timed(binary, word, text):
+    start = time.perf_counter()
+    done = subprocess.run([binary, word], input=text.encode(), capture_output=True)
+    return time.perf_counter() - start, done.stdout.decode().split("\n")[0]
+
+
+def main():
+    if len(sys.argv) != 2:
+        sys.exit(__doc__)
+    for name, text in TEXTS.items():
+        printing, _ = timed(sys.argv[1], "fmt", text)
+        checking, line = timed(sys.argv[1], "check", text)
+        print(f"{name}: {len(text)} bytes, fmt {printing:.2f} s, check {checking:.2f} s, {line}")
+
+
+if __name__ == "__main__":
+    main()
