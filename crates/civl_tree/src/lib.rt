@@ -6,6 +6,7 @@
 
 mod action;
 mod boxed;
+mod copy;
 mod expr;
 pub mod laws;
 mod list;
@@ -18,6 +19,7 @@ mod stmt;
 
 pub use action::{Action, Choice, Mode, Mover, Param, Update};
 pub use boxed::Boxed;
+pub use copy::{TryClone, copy_expr, copy_list, copy_program, copy_stmt, copy_stmts};
 pub use expr::{Expr, One, Sort, Two};
 pub use list::List;
 pub use memory::Memory;
