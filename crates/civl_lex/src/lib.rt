@@ -20,3 +20,4 @@ mod word;
 pub use fault::LexFault;
 pub use lex::tokens;
 pub use token::{Kind, Token};
+pub use word::is_name;

@@ -11,7 +11,8 @@ pub fn begins_name(byte: u8) -> bool
     byte.is_ascii_alphabetic() || byte == b'_'
 }
 
-fn is_name_byte(byte: u8) -> bool
+/// Whether the byte is a letter, a digit or `_`.
+pub fn is_name_byte(byte: u8) -> bool
     ensures { result ≡ is_name_byte byte }
 {
     begins_name(byte) || byte.is_ascii_digit()

@@ -1,11 +1,11 @@
 // Names and reserved words.
 ghost use Rattle.std.specs.Prelude.{◌≡◌};
-ghost use Rattle.std.specs.List.{take_while};
-ghost use Rattle.civl_tree.specs.Token.{is_name_byte, is_reserved};
+ghost use Rattle.std.specs.List.{list_all, take_while};
+ghost use Rattle.civl_tree.specs.Token.{is_name, is_name_byte, is_reserved, is_word};
 ghost use Rattle.civl_lex.specs.Front.{word_of};
 ghost use Rattle.civl_lex.specs.Spelled.{spelled_token, IsCut};
 
-use crate::run::name_len;
+use crate::run::{begins_name, is_name_byte, name_len};
 use crate::table::is_among;
 use crate::token::{Kind, Token};
 
@@ -75,6 +75,28 @@ fn is_reserved(text: &[u8]) -> bool
     ensures { result ≡ is_reserved text.now }
 {
     is_among(text, &RESERVED)
+}
+
+fn are_name_bytes(text: &[u8]) -> bool
+    ensures { result ≡ list_all is_name_byte text.now }
+{
+    text.iter().all(|byte| is_name_byte(*byte))
+}
+
+fn is_word(text: &[u8]) -> bool
+    ensures { result ≡ is_word text.now }
+{
+    match text {
+        [first, rest @ ..] => begins_name(*first) && are_name_bytes(rest),
+        [] => false,
+    }
+}
+
+/// Whether the text is a letter or `_`, followed by letters, digits and `_`, and no reserved word.
+pub fn is_name(text: &[u8]) -> bool
+    ensures { result ≡ is_name text.now }
+{
+    is_word(text) && !is_reserved(text)
 }
 
 /// The name or reserved word at the front of `rest`, which stands at place `start` of the source.
