@@ -16,7 +16,8 @@ pub use laws::{
     rup_clause_is_entailed, spent_clause_is_no_superset,
 };
 pub use memory::Memory;
-pub use replaying::replay;
+pub use occurrences::Occurrences;
+pub use replaying::{occurrences_of, replay};
 
 #[cfg(test)]
 mod tests;

@@ -23,8 +23,8 @@ fn has_empty(clauses: &[Clause]) -> bool
     false
 }
 
-/// Where the literals stand in the clause set.
-fn occurrences_of(alloc: Global, cnf: &Cnf) -> Result<Occurrences, Memory>
+/// Where the literals stand in the clause set, its clauses numbered from 0.
+pub fn occurrences_of(alloc: Global, cnf: &Cnf) -> Result<Occurrences, Memory>
     ensures size { IfOk result (λ lists. length lists.variables ≡ cnf.now.variables) }
     ensures lists { IfOk result (AreOccurrences cnf.now.clauses) }
 {

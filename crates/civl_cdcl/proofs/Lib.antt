@@ -1,0 +1,9 @@
+mod Trails
+mod Cutting
+mod Analysing
+mod Teaching
+mod Visiting
+mod Turning
+mod Outcomes
+mod Examples
+mod Counting

@@ -1,0 +1,5 @@
+use Rattle.civl_cdcl.proofs.Analysing.{SeesSome}
+use Rattle.civl_cdcl.proofs.analysis.see.Given as goal
+
+abbrev pub invariant-loop-lit : goal.invariant-loop-lit
+invariant-loop-lit l = SeesSome l.fn.seen l.seen l.clause l.lit-index

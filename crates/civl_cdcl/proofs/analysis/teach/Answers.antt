@@ -1,0 +1,26 @@
+use Rattle.std.proofs.Common.{◌∙◌, sym, subst, length, ◌<◌, List, Bool, ℕ}
+use Rattle.std.specs.Prelude.{All, Option}
+use Rattle.civl_cnf.specs.Literal.{Literal}
+use Rattle.civl_cdcl.specs.Analysis.{Negates, ReachSays, LearnSays}
+use Rattle.civl_cdcl.proofs.Teaching.{learned_by, clause_placed}
+use Rattle.civl_cdcl.proofs.analysis.teach.Goals as goal
+
+pub reach-limit-requires : goal.reach-limit-requires
+reach-limit-requires c =
+    let t = c.args.trail.now in
+    let lits = c.in_ok-lits.lits.items in
+    let negates = subst (λ (m : List (Option Bool)). Negates m c.analyse.new.seen (length m) lits) c.marks.ensures c.in_ok-lits.ensures in
+    subst (λ (p : List ℕ). All (λ (l : Literal). l.variable < length p) c.as_slice.result.now) (sym c.places.ensures)
+    (subst (All (λ (l : Literal). l.variable < length t.places)) (sym c.as_slice.ensures.value) (clause_placed t c.args.clauses.now c.analyse.new.seen lits c.requires.trail negates))
+
+pub returns : goal.returns
+returns c =
+    let t = c.args.trail.now in
+    let clauses = c.args.clauses.now in
+    let lits = c.in_ok-lits.lits.items in
+    let negates = subst (λ (m : List (Option Bool)). Negates m c.analyse.new.seen (length m) lits) c.marks.ensures c.in_ok-lits.ensures in
+    let r : ReachSays t.places lits c.args.start c.reach-limit.result
+    = subst (λ (p : List ℕ). ReachSays p lits c.args.start c.reach-limit.result) c.places.ensures
+    (subst (λ (x : List Literal). ReachSays c.places.result.now x c.args.start c.reach-limit.result) c.as_slice.ensures.value c.reach-limit.ensures) in
+    subst (λ (x : List Literal). LearnSays t clauses x c.reach-limit.result) (sym (c.in_ok-clause.ensures ∙ c.as_slice-2.ensures.value))
+    (learned_by t clauses c.args.start c.analyse.new.seen lits c.reach-limit.result c.requires.trail c.requires.start c.analyse.ensures negates r)

@@ -1,0 +1,117 @@
+use Rattle.std.proofs.Common.{arith, ◌-◌, sym, ◌∙◌, subst, length, ◌≡◌, ◌<◌, ◌≤◌, true, false, ℕ, List}
+use Rattle.std.specs.Prelude.{All, IsTrue}
+use Rattle.civl_cdcl.specs.Trail.{ReasonSays, before}
+use Rattle.civl_cdcl.specs.declared.trail.Step.{Step}
+use Rattle.civl_cdcl.specs.Analysis.{IsUnseen, Resolves, sees}
+use Rattle.civl_cdcl.proofs.Analysing.{at_walk, step_at, reason_at, steps_within, clause_within, analyses_skip, analyses_resolve, one_left, decided_last}
+use Rattle.civl_cdcl.proofs.analysis.walk.Goals as goal
+
+pub overflow_sub-at : goal.overflow_sub-at
+overflow_sub-at c =
+    let w = at_walk c.args.trail.now c.args.clauses.now c.args.start c.loop-seen.at c.loop-seen.seen c.requires.trail c.requires.start c.loop-seen.invariant.seen in
+    omega (arith, w.0)
+
+pub step-step-requires : goal.step-step-requires
+step-step-requires c =
+    let w = at_walk c.args.trail.now c.args.clauses.now c.args.start c.loop-seen.at c.loop-seen.seen c.requires.trail c.requires.start c.loop-seen.invariant.seen in
+    omega (arith, w.0)
+
+pub bounds-seen-variable : goal.bounds-seen-variable
+bounds-seen-variable c =
+    let w = at_walk c.args.trail.now c.args.clauses.now c.args.start c.loop-seen.at c.loop-seen.seen c.requires.trail c.requires.start c.loop-seen.invariant.seen in
+    let step = step_at c.args.trail.now c.args.clauses.now (c.loop-seen.at - 1) c.step-step.result c.requires.trail (omega (arith, w.0)) c.step-step.ensures in
+    omega (arith, step.within, c.loop-seen.invariant.seen.size, c.variable-variable.ensures.is)
+
+pub any_seen-requires-clause-within : goal.any_seen-requires-clause-within
+any_seen-requires-clause-within c =
+    let all = steps_within c.args.trail.now c.args.clauses.now (length c.loop-seen.seen) c.requires.trail c.loop-seen.invariant.seen.size in
+    subst (All (λ (x : Step). x.lit.variable < length c.loop-seen.seen)) (sym c.steps.ensures) all
+
+pub any_seen-requires-clause-from : goal.any_seen-requires-clause-from
+any_seen-requires-clause-from c =
+    let w = at_walk c.args.trail.now c.args.clauses.now c.args.start c.loop-seen.at c.loop-seen.seen c.requires.trail c.requires.start c.loop-seen.invariant.seen in
+    omega (arith, w.0)
+
+pub returns-then-not-any_seen : goal.returns-then-not-any_seen
+returns-then-not-any_seen c =
+    let t = c.args.trail.now in
+    let clauses = c.args.clauses.now in
+    let at = c.loop-seen.at - 1 in
+    let w = at_walk t clauses c.args.start c.loop-seen.at c.loop-seen.seen c.requires.trail c.requires.start c.loop-seen.invariant.seen in
+    let low : at < length t.steps = omega (arith, w.0) in
+    let level : c.args.start ≤ at = omega (arith, w.0) in
+    let step = step_at t clauses at c.step-step.result c.requires.trail low c.step-step.ensures in
+    let seen = subst (λ (v : ℕ). IsTrue (sees c.loop-seen.seen v)) c.variable-variable.ensures.is c.if-seen-variable.true in
+    let unseen : IsUnseen t.steps c.loop-seen.seen c.args.start at
+    = subst (λ (x : List Step). IsUnseen x c.loop-seen.seen c.args.start at) c.steps.ensures (c.any_seen.ensures c.if-not-any_seen.true) in
+    one_left t.marks t.places t.steps t.starts clauses 0 c.args.start at c.step-step.result c.loop-seen.seen (c.requires.trail 0) c.step-step.ensures step seen level unseen w.1
+
+pub returns-in-None : goal.returns-in-None
+returns-in-None c =
+    let t = c.args.trail.now in
+    let clauses = c.args.clauses.now in
+    let at = c.loop-seen.at - 1 in
+    let w = at_walk t clauses c.args.start c.loop-seen.at c.loop-seen.seen c.requires.trail c.requires.start c.loop-seen.invariant.seen in
+    let low : at < length t.steps = omega (arith, w.0) in
+    let level : c.args.start ≤ at = omega (arith, w.0) in
+    let step = step_at t clauses at c.step-step.result c.requires.trail low c.step-step.ensures in
+    let seen = subst (λ (v : ℕ). IsTrue (sees c.loop-seen.seen v)) c.variable-variable.ensures.is c.if-seen-variable.true in
+    let says = reason_at t clauses at c.step-step.result c.requires.trail low c.step-step.ensures in
+    let reason = subst (ReasonSays (before t.marks t.places at) clauses t.starts at c.step-step.result.lit) c.in-None.is says in
+    let top : at ≤ c.args.start = decided_last 0 t.marks t.places t.steps t.starts clauses c.args.start at (c.requires.trail 0) c.requires.start reason in
+    let unseen : IsUnseen t.steps c.loop-seen.seen c.args.start at = λ k d a b. absurd (omega arith) in
+    one_left t.marks t.places t.steps t.starts clauses 0 c.args.start at c.step-step.result c.loop-seen.seen (c.requires.trail 0) c.step-step.ensures step seen level unseen w.1
+
+pub lits-requires : goal.lits-requires
+lits-requires c =
+    let t = c.args.trail.now in
+    let clauses = c.args.clauses.now in
+    let at = c.loop-seen.at - 1 in
+    let w = at_walk t clauses c.args.start c.loop-seen.at c.loop-seen.seen c.requires.trail c.requires.start c.loop-seen.invariant.seen in
+    let says = reason_at t clauses at c.step-step.result c.requires.trail (omega (arith, w.0)) c.step-step.ensures in
+    let reason = subst (ReasonSays (before t.marks t.places at) clauses t.starts at c.step-step.result.lit) c.in-Some.is says in
+    reason.0
+
+pub resolve-requires-clause-clause : goal.resolve-requires-clause-clause
+resolve-requires-clause-clause c =
+    let t = c.args.trail.now in
+    let clauses = c.args.clauses.now in
+    let at = c.loop-seen.at - 1 in
+    let w = at_walk t clauses c.args.start c.loop-seen.at c.loop-seen.seen c.requires.trail c.requires.start c.loop-seen.invariant.seen in
+    let says = reason_at t clauses at c.step-step.result c.requires.trail (omega (arith, w.0)) c.step-step.ensures in
+    let reason = subst (ReasonSays (before t.marks t.places at) clauses t.starts at c.step-step.result.lit) c.in-Some.is says in
+    clause_within (length c.loop-seen.seen) (length t.marks) clauses c.in-Some.reason c.lits.result.now c.loop-seen.invariant.seen.size c.requires.below reason.0 c.lits.ensures
+
+pub loop-seen-preserved-in-Some : goal.loop-seen-preserved-in-Some
+loop-seen-preserved-in-Some c =
+    let t = c.args.trail.now in
+    let clauses = c.args.clauses.now in
+    let at = c.loop-seen.at - 1 in
+    let w = at_walk t clauses c.args.start c.loop-seen.at c.loop-seen.seen c.requires.trail c.requires.start c.loop-seen.invariant.seen in
+    let low : at < length t.steps = omega (arith, w.0) in
+    let step = step_at t clauses at c.step-step.result c.requires.trail low c.step-step.ensures in
+    let says = reason_at t clauses at c.step-step.result c.requires.trail low c.step-step.ensures in
+    let reason = subst (ReasonSays (before t.marks t.places at) clauses t.starts at c.step-step.result.lit) c.in-Some.is says in
+    let resolved = subst (λ (v : ℕ). Resolves c.loop-seen.seen c.resolve.new.seen c.lits.result.now v) c.variable-variable.ensures.is c.resolve.ensures in
+    record {
+      top = omega arith;
+      seen = analyses_resolve t.marks t.places t.steps t.starts clauses 0 at c.step-step.result.lit c.lits.result.now c.loop-seen.seen _ c.in-Some.reason (c.requires.trail 0) step reason c.lits.ensures resolved w.1;
+    }
+
+pub loop-seen-smaller : goal.loop-seen-smaller
+loop-seen-smaller c =
+    let w = at_walk c.args.trail.now c.args.clauses.now c.args.start c.loop-seen.at c.loop-seen.seen c.requires.trail c.requires.start c.loop-seen.invariant.seen in
+    omega (arith, w.0)
+
+pub loop-seen-preserved : goal.loop-seen-preserved
+loop-seen-preserved c =
+    let t = c.args.trail.now in
+    let clauses = c.args.clauses.now in
+    let at = c.loop-seen.at - 1 in
+    let w = at_walk t clauses c.args.start c.loop-seen.at c.loop-seen.seen c.requires.trail c.requires.start c.loop-seen.invariant.seen in
+    record {
+      top = omega arith;
+      seen = analyses_skip t.marks t.places t.steps t.starts clauses 0 at c.step-step.result c.loop-seen.seen (c.requires.trail 0) c.step-step.ensures (λ h.
+          let here = subst (λ (v : ℕ). IsTrue (sees c.loop-seen.seen v)) (sym c.variable-variable.ensures.is) h in
+          let unseen : false ≡ true = sym c.if-seen-variable.false ∙ here in cc) w.1;
+    }

@@ -1,0 +1,12 @@
+use Rattle.std.proofs.Common.{◌≤◌, length}
+use Rattle.civl_cdcl.specs.Analysis.{Analyses}
+use Rattle.civl_cdcl.proofs.analysis.walk.Given as goal
+
+abbrev pub invariant-loop-seen : goal.invariant-loop-seen
+invariant-loop-seen l = record {
+  top : l.at ≤ length l.trail.steps;
+  seen : Analyses l.trail.marks l.trail.places (l.clauses) l.at l.seen;
+}
+
+abbrev pub decreases-loop-seen : goal.decreases-loop-seen
+decreases-loop-seen l = l.at

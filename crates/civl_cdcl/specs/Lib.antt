@@ -1,0 +1,7 @@
+pub mod Rule
+pub mod Trail
+pub mod Propagation
+pub mod Analysis
+pub mod Outcome
+pub mod Turn
+pub mod Laws

@@ -1,0 +1,24 @@
+//! A search for bits that make clauses true, by conflict-driven clause learning (Marques-Silva and Sakallah, "GRASP: a search algorithm for propositional satisfiability", 1999; Moskewicz and others, "Chaff: engineering an efficient SAT solver", 2001), with a certificate for each answer.
+#![tactic(auto)]
+
+mod analysis;
+mod choice;
+mod clauses;
+mod laws;
+mod memory;
+mod outcome;
+mod propagation;
+mod rule;
+mod solving;
+mod trail;
+mod turn;
+
+pub use laws::{
+    half_has_models, model_excludes_refutation, spent_budget_is_small, square_is_refuted,
+};
+pub use memory::Memory;
+pub use outcome::Outcome;
+pub use solving::solve;
+
+#[cfg(test)]
+mod tests;
