@@ -16,3 +16,11 @@ pub mod Putting
 pub mod Shifting
 pub mod Firsts
 pub mod Rests
+pub mod Resting
+pub mod Sorting
+pub mod Soundness
+pub mod Frames
+pub mod Having
+pub mod Begun
+pub mod Spots
+pub mod Stacking

@@ -14,7 +14,7 @@ unfolding with_rest
 firsts_with [] = refl
 firsts_with (s ∷ ss) = ap (λ (r : List Stmt). s ∷ r) (firsts_with ss)
 
-abbrev rest_layer : Stmt-F Stmt → Stmt → ℕ → Rest → ℕ → Rest
+abbrev pub rest_layer : Stmt-F Stmt → Stmt → ℕ → Rest → ℕ → Rest
 rest_layer (If e a b) s at k wanted =
     if nat_lt wanted (at + 1 + sizes_of a) then rest_among a (at + 1) k wanted else rest_among b (at + 1 + sizes_of a) k wanted
 rest_layer (While e a) s at k wanted = rest_among a (at + 1) ((at, s) ∷ k) wanted
@@ -28,13 +28,13 @@ rest_step_is (If e a b) s at k wanted =
     ap (λ (r : List Stmt). if nat_lt wanted (at + 1 + sizes_of r) then rest_among a (at + 1) k wanted else rest_among b (at + 1 + sizes_of r) k wanted) (firsts_with a)
 rest_step_is _ s at k wanted = refl
 
-rest_is : (s t : Stmt) (at : ℕ) (k : Rest) (wanted : ℕ) → rest_inside s t at k wanted ≡ rest_layer (out-Stmt s) t at k wanted
+pub rest_is : (s t : Stmt) (at : ℕ) (k : Rest) (wanted : ℕ) → rest_inside s t at k wanted ≡ rest_layer (out-Stmt s) t at k wanted
 unfolding rest_inside with_rest
 rest_is s t at k wanted =
     let e : rest_inside s ≡ rest_step (map-Stmt Stmt (Stmt × Inner) with_rest (out-Stmt s)) = ap rest_inside (sym (roll-out-Stmt s)) ∙ para-roll-Stmt Inner rest_step (out-Stmt s) in
     ap (λ (f : Inner). f t at k wanted) e ∙ rest_step_is (out-Stmt s) t at k wanted
 
-among_rest : (s : Stmt) (ss : List Stmt) (at : ℕ) (k : Rest) (wanted : ℕ) → rest_among (s ∷ ss) at k wanted ≡ (if nat_lt wanted (at + size_of s) then (if nat_eq wanted at then numbered at (s ∷ ss) ++ k else rest_inside s s at (numbered (at + size_of s) ss ++ k) wanted) else rest_among ss (at + size_of s) k wanted)
+pub among_rest : (s : Stmt) (ss : List Stmt) (at : ℕ) (k : Rest) (wanted : ℕ) → rest_among (s ∷ ss) at k wanted ≡ (if nat_lt wanted (at + size_of s) then (if nat_eq wanted at then numbered at (s ∷ ss) ++ k else rest_inside s s at (numbered (at + size_of s) ss ++ k) wanted) else rest_among ss (at + size_of s) k wanted)
 unfolding rest_among with_rest rest_inside
 among_rest s ss at k wanted =
     ap (λ (r : List Stmt). if nat_lt wanted (at + size_of s) then (if nat_eq wanted at then numbered at (s ∷ r) ++ k else rest_inside s s at (numbered (at + size_of s) r ++ k) wanted) else rest_among ss (at + size_of s) k wanted) (firsts_with ss)
@@ -47,7 +47,7 @@ first_is : (end : ℕ) (ss : List Stmt) (at : ℕ) (k : Rest) → first_in ss at
 first_is end [] at k = refl
 first_is end (s ∷ ss) at k = rw (first_is end ss (at + size_of s) k, start_is end ss (at + size_of s) k) refl
 
-rest_none : (at : ℕ) (k : Rest) (wanted : ℕ) → rest_among [] at k wanted ≡ k
+pub rest_none : (at : ℕ) (k : Rest) (wanted : ℕ) → rest_among [] at k wanted ≡ k
 unfolding rest_among
 rest_none at k wanted = refl
 

@@ -23,7 +23,7 @@ made_if answer.Failing rest k from to n e = absurd (stops k n answer.Failing fro
 made_if answer.BadChoices rest k from to n e = absurd (stops k n answer.BadChoices from to e)
 
 -- a step that was made, in a run
-run_more : (plain : Plain) (m : Move) (ms : List Move) (k : ℕ) (from next : Config) → step_of plain from m ≡ (answer.Moved, next) → run_of plain (m ∷ ms) k from ≡ run_of plain ms (k + 1) next
+pub run_more : (plain : Plain) (m : Move) (ms : List Move) (k : ℕ) (from next : Config) → step_of plain from m ≡ (answer.Moved, next) → run_of plain (m ∷ ms) k from ≡ run_of plain ms (k + 1) next
 run_more plain m ms k from next e =
     ap (λ (s : Stepped × Config). if has_moved s.0 then run_of plain ms (k + 1) s.1 else (k, Some s.0, from)) e
 

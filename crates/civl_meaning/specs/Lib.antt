@@ -3,6 +3,7 @@ pub mod Table
 pub mod Operators
 pub mod Operands
 pub mod Values
+pub mod Sorts
 pub mod Eval
 pub mod Scope
 pub mod Names
@@ -13,10 +14,12 @@ pub mod Places
 pub mod Found
 pub mod Left
 pub mod Rest
+pub mod Frame
 pub mod Meaning
 pub mod Callees
 pub mod Change
 pub mod Step
+pub mod Config
 pub mod Depth
 pub mod Run
 pub mod Failing

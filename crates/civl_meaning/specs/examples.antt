@@ -3,6 +3,8 @@ pub mod Operators
 pub mod Scopes
 pub mod Places
 pub mod Steps
+pub mod Frames
+pub mod Configs
 pub mod Increments
 pub mod Flag
 pub mod Pool

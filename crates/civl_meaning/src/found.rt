@@ -48,7 +48,7 @@ pub fn counted_all(stmts: &List<Stmt>) -> Option<usize>
 
 /// How many statements a statement is, with those inside it.
 #[cycle(size)]
-fn size(stmt: &Stmt) -> usize
+pub fn size(stmt: &Stmt) -> usize
     requires { size_of stmt.now < 2 ^ 64 }
     ensures { result ≡ size_of stmt.now }
 {

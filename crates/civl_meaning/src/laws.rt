@@ -3,9 +3,12 @@
 ghost use Rattle.civl_meaning.specs.Agreement.{TruthIsValue};
 ghost use Rattle.civl_meaning.specs.Failing.{FailingIsAnswered};
 ghost use Rattle.civl_meaning.specs.Run.{RunsAreMade, RunsJoin};
+ghost use Rattle.civl_meaning.specs.Sorts.{ValuesHaveTheirSorts};
 ghost use Rattle.civl_meaning.specs.Step.{RefusedStays, OthersStay};
 ghost use Rattle.civl_meaning.specs.Values.{ZerosHaveTheirSorts};
 
+pub mod configs;
+pub mod frames;
 pub mod operators;
 pub mod places;
 pub mod schedules;
@@ -16,6 +19,11 @@ pub mod stores;
 /// The zero of a sort has that sort.
 pub fn zeros_have_their_sorts()
     ensures { ZerosHaveTheirSorts }
+{}
+
+/// An expression whose sorts fit has a value of its sort, where the names of its scope have values of theirs.
+pub fn values_have_their_sorts()
+    ensures { ValuesHaveTheirSorts }
 {}
 
 /// On expressions of names, `true`, `false`, `!`, `&&` and `||` the value is the truth.

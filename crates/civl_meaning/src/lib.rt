@@ -8,9 +8,9 @@
 //! about them, and worked examples.
 //!
 //! Code does what they say: it gives the value of an expression ([`evaluate`]), fires an action ([`fire`]), starts a plain
-//! program ([`start`]), takes a step of a configuration ([`step`]), and finds the first thread that fails ([`failing`]).
-//! Expressions of names of bools, `true`, `false`, `!`, `&&` and `||` also have their value in one store of bools
-//! ([`holds`]), and in all stores at once ([`truth_table`]).
+//! program ([`start`]), takes a step of a configuration ([`step`]), finds the first thread that fails ([`failing`]), and
+//! gives a thread's frames with the statements that are still to run ([`frame`]). Expressions of names of bools, `true`,
+//! `false`, `!`, `&&` and `||` also have their values in all stores of bools at once ([`truth_table`]).
 #![tactic(auto)]
 
 mod asking;
@@ -21,6 +21,8 @@ mod expressions;
 mod faults;
 mod firing;
 mod found;
+mod frame_copy;
+mod framing;
 pub mod laws;
 mod leaving;
 mod meant;
@@ -40,8 +42,11 @@ pub use configs::{copy_config, depth, same, store, threads};
 pub use expressions::evaluate;
 pub use faults::failing;
 pub use firing::fire;
+pub use frame_copy::Frame;
+pub use framing::frame;
 pub use moving::step;
 pub use scope::Scope;
+pub use sorts::is_of;
 pub use starting::start;
 pub use table::{each_store_is_numbered, truth_table};
-pub use truth::{holds, place};
+pub use truth::place;

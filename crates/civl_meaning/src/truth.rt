@@ -1,8 +1,8 @@
-// The value of an expression of bools in one store.
-ghost use Rattle.std.specs.Prelude.{◌≡◌, slice_index_or, false};
-ghost use Rattle.civl_meaning.specs.Truth.{place_of, one_truth, two_truth, truth_of};
+// Operators on bools, and the places of names.
+ghost use Rattle.std.specs.Prelude.{◌≡◌};
+ghost use Rattle.civl_meaning.specs.Truth.{place_of, one_truth, two_truth};
 
-use civl_tree::{Expr, List, Name, One, Two};
+use civl_tree::{List, Name, One, Two};
 
 /// The place of the first of these names that is this one, or the number of the names where none is.
 pub fn place(names: &List<Name>, name: &Name) -> usize
@@ -16,19 +16,7 @@ pub fn place(names: &List<Name>, name: &Name) -> usize
     names.len()
 }
 
-/// The value of a name: that of the place where it stands among the names.
-#[tactic(auto, using(std::proofs::lemmas::Option::get_or_from_slice_get, std::proofs::lemmas::List::get_or_past))]
-fn named(names: &List<Name>, store: &List<bool>, name: &Name) -> bool
-    ensures { result ≡ slice_index_or store.now (place_of names.now name.now) false }
-{
-    let at = place(names, name);
-    if at < store.len() {
-        *store.get(at)
-    } else {
-        false
-    }
-}
-
+/// What `!` gives; another operator gives false.
 pub(crate) fn one(op: One, a: bool) -> bool
     ensures { result ≡ one_truth op a }
 {
@@ -38,31 +26,13 @@ pub(crate) fn one(op: One, a: bool) -> bool
     }
 }
 
+/// What `&&` and `||` give; another operator gives false.
 pub(crate) fn two(op: Two, a: bool, b: bool) -> bool
     ensures { result ≡ two_truth op a b }
 {
     match op {
         Two::And => a && b,
         Two::Or => a || b,
-        _ => false,
-    }
-}
-
-/// The value of an expression that is built from names, `true`, `false`, `!`, `&&` and `||`, where the names have
-/// these values, in the same order. It takes no memory. A part of another form, or a name that isn't there, counts as
-/// false.
-pub fn holds(expr: &Expr, names: &List<Name>, store: &List<bool>) -> bool
-    ensures { result ≡ truth_of names.now store.now expr.now }
-{
-    match expr {
-        Expr::Name(name) => named(names, store, name),
-        Expr::True => true,
-        Expr::One(op, a) => one(*op, holds(a.get(), names, store)),
-        Expr::Two(op, a, b) => {
-            let a = holds(a.get(), names, store);
-            let b = holds(b.get(), names, store);
-            two(*op, a, b)
-        }
         _ => false,
     }
 }

@@ -1,0 +1,138 @@
+-- A program starts with one of its configurations.
+use Rattle.std.proofs.Common.{◌≡◌, ℕ, zero, suc, ◌+◌, Bool, true, false, ◌||◌, cond, List, [], ◌∷◌, map, length, find, refl, sym, ap, ◌∙◌, subst, Option, Some, None, slice_get, add-one}
+use Rattle.std.specs.Prelude.{All, is_none, nat_eq}
+use Rattle.std.specs.List.{list_any}
+use Rattle.std.specs.Str.{bytes_eq}
+use Rattle.std.proofs.lemmas.Bool.{false≢true, not-false, or_parts, eqb-true, eq-eqb}
+use Rattle.std.proofs.lemmas.List.{length-map}
+use Rattle.std.proofs.lemmas.List.Elements.{All-nil, All-cons, All-map}
+use Rattle.std.proofs.lemmas.Slice.Eq.{bytes_eq-Decides}
+use Rattle.civl_tree.specs.declared.name.Name.{Name}
+use Rattle.civl_tree.specs.declared.expr.Expr.{Expr}
+use Rattle.civl_tree.specs.declared.program.Global.{Global}
+use Rattle.civl_tree.specs.declared.program.Proc.{Proc}
+use Rattle.civl_tree.specs.declared.program.Thread.{Thread}
+use Rattle.civl_tree.specs.declared.program.Program.{Program}
+use Rattle.civl_tree.specs.Numbering.{no_statement, thread_item, statements_of}
+use Rattle.civl_tree.specs.rules.Names.{same_name, proc_named, proc_signature_of}
+use Rattle.civl_tree.specs.rules.Scopes.{global_scope as global_sorts}
+use Rattle.civl_tree.specs.rules.Uses.{param_sorts, taken_sorts, argument_uses, thread_uses}
+use Rattle.civl_tree.specs.rules.Width.{any_width}
+use Rattle.civl_tree.specs.rules.Index.{any_index}
+use Rattle.civl_tree.specs.rules.Sorted.{any_missorted}
+use Rattle.civl_tree.specs.rules.Unknown.{any_unknown}
+use Rattle.civl_tree.specs.rules.Arity.{thread_arity}
+use Rattle.civl_tree.specs.rules.Places.{Code, E11, E20, E21, E22, E23, thread_breaks}
+use Rattle.civl_tree.specs.rules.Refusals.{BreaksNone, first_of}
+use Rattle.civl_tree.specs.rules.Broken.{Broken, InThread, IsTried, IsAnswer}
+use Rattle.civl_tree.proofs.First.{first_is_answer}
+use Rattle.civl_meaning.specs.declared.config.Store.{Store}
+use Rattle.civl_meaning.specs.declared.config.Plain.{Plain}
+use Rattle.civl_meaning.specs.Truth.{place_of}
+use Rattle.civl_meaning.specs.Values.{HaveSorts, IsStore}
+use Rattle.civl_meaning.specs.Eval.{values_of}
+use Rattle.civl_meaning.specs.Scope.{global_scope}
+use Rattle.civl_meaning.specs.Sorts.{IsSorted}
+use Rattle.civl_meaning.specs.Meaning.{proc_number}
+use Rattle.civl_meaning.specs.Step.{begun}
+use Rattle.civl_meaning.specs.Config.{IsPlain, spawns, IsBegun, ThreadIsSorted, IsStacked, StartIsOf}
+use Rattle.civl_meaning.proofs.Having.{found_alone, args_have_sorts}
+
+-- ---- the rules, part by part
+
+pub no_rule_broken : (program : Program) → BreaksNone program → (code : Code) (item statement : ℕ) → IsTried code → Broken code program item statement → ⊥
+no_rule_broken program none = subst (IsAnswer program) (ap first_of none) (first_is_answer program)
+
+not_broken : (b : Bool) → (b ≡ true → ⊥) → b ≡ false
+not_broken true n = absurd (n refl)
+not_broken false n = refl
+
+thread_keeps : (program : Program) → BreaksNone program → (i : ℕ) (t : Thread) → slice_get program.threads i ≡ Some t → (code : Code) → IsTried code → thread_breaks code program i t ≡ false
+thread_keeps program none i t at code tried =
+    not_broken (thread_breaks code program i t) (λ b. no_rule_broken program none code (thread_item program i) no_statement tried (InThread i t at refl refl b))
+
+-- ---- the procedure of a name
+
+same_truth : (a b : Bool) → (a ≡ true → b ≡ true) → (b ≡ true → a ≡ true) → a ≡ b
+same_truth true true f g = refl
+same_truth true false f g = sym (f refl)
+same_truth false true f g = g refl
+same_truth false false f g = refl
+
+swapped : (a b : List ℕ) → bytes_eq a b ≡ bytes_eq b a
+swapped a b =
+    let there = bytes_eq-Decides a b in
+    let back = bytes_eq-Decides b a in
+    same_truth (bytes_eq a b) (bytes_eq b a) (λ e. back.1 (sym (there.0 e))) (λ e. there.1 (sym (back.0 e)))
+
+found_at : (procs : List Proc) (name : Name) → slice_get procs (place_of (map (λ p. p.name) procs) name) ≡ find (λ p. same_name name p.name) procs
+found_at [] name = refl
+found_at (p ∷ rest) name =
+    either (bytes_eq p.name.bytes name.bytes) (found_at rest name) ∙ ap (λ (same : Bool). cond same (Some p) (find (λ q. same_name name q.name) rest)) (swapped p.name.bytes name.bytes)
+  where
+    either : (same : Bool) → slice_get rest (place_of (map (λ q. q.name) rest) name) ≡ find (λ q. same_name name q.name) rest →
+        slice_get (p ∷ rest) (cond same 0 (place_of (map (λ q. q.name) rest) name + 1)) ≡ cond same (Some p) (find (λ q. same_name name q.name) rest)
+    either true behind = refl
+    either false behind = ap (λ k. slice_get (p ∷ rest) k) (add-one (place_of (map (λ q. q.name) rest) name)) ∙ behind
+
+pub proc_is : (program : Program) (name : Name) → slice_get program.procs (proc_number program name) ≡ proc_named program name
+proc_is program name = found_at program.procs name
+
+-- ---- threads
+
+pub globals_sorted : (program : Program) (store : Store) → IsStore program.globals store → IsSorted (global_scope program.globals store) (global_sorts program)
+globals_sorted program store h =
+    let f = found_alone (λ (g : Global). g.name) (λ (g : Global). g.sort) program.globals store.values h in
+    record { names = f; olds = f }
+
+some_of : {A : Type 0} (o : Option A) → is_none o ≡ false → (x : A) × (o ≡ Some x)
+some_of None e = absurd (false≢true (sym e))
+some_of (Some x) e = (x, refl)
+
+-- the arguments of a thread of this procedure
+thread_args : (program : Program) (store : Store) → IsStore program.globals store → (args : List Expr) (o : Option Proc) (p : Proc) → o ≡ Some p →
+    any_missorted (argument_uses (global_sorts program) args (taken_sorts (proc_signature_of o))) ≡ false →
+    any_width (argument_uses (global_sorts program) args (taken_sorts (proc_signature_of o))) ≡ false →
+    any_index (argument_uses (global_sorts program) args (taken_sorts (proc_signature_of o))) ≡ false →
+    thread_arity args o ≡ false → HaveSorts (values_of (global_scope program.globals store) args) (param_sorts p.params)
+thread_args program store h args None p e m w i n = absurd (cc)
+thread_args program store h args (Some q) p e m w i n =
+    let r : q ≡ p = cc in
+    let len = eqb-true (length args) (length q.params) (not-false _ (or_parts _ _ n).0) in
+    let same : length args ≡ length (param_sorts q.params) = len ∙ sym (length-map q.params (λ x. x.sort)) in
+    subst (λ (x : Proc). HaveSorts (values_of (global_scope program.globals store) args) (param_sorts x.params)) r
+    (args_have_sorts (global_scope program.globals store) (global_sorts program) (globals_sorted program store h) args (param_sorts q.params) m w i same)
+
+list_any_get : {A : Type 0} (p : A → Bool) (xs : List A) (i : ℕ) (x : A) → slice_get xs i ≡ Some x → p x ≡ true → list_any p xs ≡ true
+list_any_get p [] i x e h = absurd (cc)
+list_any_get p (y ∷ ys) zero x e h = let r : y ≡ x = cc in let k : p y ≡ true = ap p r ∙ h in rw k refl
+list_any_get p (y ∷ ys) (suc i) x e h = later (p y) (list_any_get p ys i x e h)
+  where
+    later : (b : Bool) → list_any p ys ≡ true → (b || list_any p ys) ≡ true
+    later true k = refl
+    later false k = k
+
+thread_begun : (plain : Plain) (store : Store) → IsPlain plain → IsStore plain.program.globals store → (i : ℕ) (t : Thread) → slice_get plain.program.threads i ≡ Some t → IsBegun plain (begun plain.program store t)
+unfolding thread_breaks
+thread_begun plain store ok h i t at =
+    let program = plain.program in
+    let keeps = thread_keeps program ok.rules i t at in
+    let known = or_parts (is_none (proc_named program t.callee)) (any_unknown (thread_uses program t)) (keeps E11 tt) in
+    let p = some_of (proc_named program t.callee) known.0 in
+    record {
+      proc = p.0;
+      there = proc_is program t.callee ∙ p.1;
+      args = thread_args program store h t.args (proc_named program t.callee) p.0 p.1 (keeps E21 tt) (keeps E20 tt) (keeps E22 tt) (keeps E23 tt);
+      begins = ap (λ (b : Bool). b || list_any (λ (p : Proc). list_any (spawns program (proc_number program t.callee)) (statements_of p.body)) program.procs) (list_any_get (λ (x : Thread). nat_eq (proc_number program x.callee) (proc_number program t.callee)) program.threads i t at (eq-eqb (proc_number program t.callee) (proc_number program t.callee) refl));
+    }
+
+all_by_get : {A : Type 0} (P : A → Type 0) (xs : List A) → ((i : ℕ) (x : A) → slice_get xs i ≡ Some x → P x) → All P xs
+all_by_get P [] f = All-nil P
+all_by_get P (x ∷ xs) f = All-cons P x xs (f zero x refl) (all_by_get P xs (λ i y e. f (suc i) y e))
+
+pub start_is_of : StartIsOf
+start_is_of plain store ok h =
+    let threads = plain.program.threads in
+    let each : All (λ (t : Thread). ThreadIsSorted plain (begun plain.program store t)) threads = all_by_get (λ (t : Thread). ThreadIsSorted plain (begun plain.program store t)) threads (λ i t at. thread_begun plain store ok h i t at) in
+    let before : All (λ (t : Thread). IsStacked plain (begun plain.program store t)) threads = all_by_get (λ (t : Thread). IsStacked plain (begun plain.program store t)) threads (λ i t at. tt) in
+    record { store = h; sorted = All-map (ThreadIsSorted plain) (begun plain.program store) threads each; stacked = All-map (IsStacked plain) (begun plain.program store) threads before }

@@ -1,0 +1,238 @@
+// The frames of a thread, with the statements that are still to run.
+ghost use Rattle.std.specs.Prelude.{◌≡◌, ◌+◌, ◌-◌, ◌^◌, ◌<◌, ◌++◌, [], ◌∷◌, length, map, slice_get, Some, IfOk, IfSome, OnOk};
+ghost use Rattle.civl_meaning.specs.Depth.{depth_of};
+ghost use Rattle.civl_meaning.specs.Frame.{unnumbered, left_in, frame_in, bare_call, first_frame, frames_of};
+ghost use Rattle.civl_meaning.specs.Places.{size_of, sizes_of};
+ghost use Rattle.civl_meaning.specs.Rest.{rest_among, rest_inside};
+
+use crate::config::{Activation, Config, Plain, Running, State};
+use crate::found::{counted_all, size, sizes};
+use crate::frame_copy::Frame;
+use crate::leaving::copied;
+use civl_tree::{List, Memory, Proc, Stmt, TryClone, copy_stmt};
+use std::alloc::Global;
+
+/// Puts copies of these statements behind others.
+fn push_copies(alloc: Global, rest: &mut Vec<Stmt>, stmts: &[Stmt]) -> Result<(), Memory>
+    ensures { OnOk result (rest.new.items ≡ rest.old.items ++ stmts.now) }
+{
+    for stmt in stmts {
+        let copy = copy_stmt(alloc, stmt)?;
+        rest.push(copy)?;
+    }
+    Ok(())
+}
+
+/// Puts a copy of this statement behind others.
+fn push_copy(alloc: Global, rest: &mut Vec<Stmt>, stmt: &Stmt) -> Result<(), Memory>
+    ensures { OnOk result (rest.new.items ≡ rest.old.items ++ stmt.now ∷ []) }
+{
+    let copy = copy_stmt(alloc, stmt)?;
+    rest.push(copy)?;
+    Ok(())
+}
+
+/// Puts copies of what is still to run from a place among these statements behind others.
+#[cycle(rest)]
+fn push_among(
+    alloc: Global,
+    rest: &mut Vec<Stmt>,
+    stmts: &List<Stmt>,
+    at: usize,
+    wanted: usize,
+) -> Result<(), Memory>
+    requires { at + sizes_of stmts.now < 2 ^ 64 }
+    ensures { OnOk result (rest.new.items ≡ rest.old.items ++ unnumbered (rest_among stmts.now at [] wanted)) }
+{
+    let items = stmts.as_slice();
+    let mut here = at;
+    for i in 0..items.len() {
+        let stmt = &items[i];
+        let behind = here + size(stmt);
+        if wanted < behind {
+            if wanted == here {
+                push_copies(alloc, rest, &items[i..])?;
+                return Ok(());
+            }
+            push_inside(alloc, rest, stmt, here, wanted)?;
+            push_copies(alloc, rest, &items[i + 1..])?;
+            return Ok(());
+        }
+        here = behind;
+    }
+    Ok(())
+}
+
+/// The same from a place inside a statement.
+#[cycle(rest)]
+#[tactic(auto, using(crate::proofs::Resting::resting))]
+fn push_inside(
+    alloc: Global,
+    rest: &mut Vec<Stmt>,
+    stmt: &Stmt,
+    at: usize,
+    wanted: usize,
+) -> Result<(), Memory>
+    requires { at + size_of stmt.now < 2 ^ 64 }
+    ensures { OnOk result (rest.new.items ≡ rest.old.items ++ unnumbered (rest_inside stmt.now stmt.now at [] wanted)) }
+{
+    match stmt {
+        Stmt::If(_, a, b) => {
+            let second = at + 1 + sizes(a);
+            if wanted < second {
+                push_among(alloc, rest, a, at + 1, wanted)
+            } else {
+                push_among(alloc, rest, b, second, wanted)
+            }
+        }
+        Stmt::While(_, a) => {
+            push_among(alloc, rest, a, at + 1, wanted)?;
+            push_copy(alloc, rest, stmt)?;
+            Ok(())
+        }
+        Stmt::YieldLoop(_, _, a) => {
+            push_among(alloc, rest, a, at + 1, wanted)?;
+            push_copy(alloc, rest, stmt)?;
+            Ok(())
+        }
+        Stmt::RankLoop(_, _, _, a) => {
+            push_among(alloc, rest, a, at + 1, wanted)?;
+            push_copy(alloc, rest, stmt)?;
+            Ok(())
+        }
+        Stmt::Assign(_, _) => Ok(()),
+        Stmt::Assert(_) => Ok(()),
+        Stmt::Call(_, _, _) => Ok(()),
+        Stmt::Yield(_) => Ok(()),
+        Stmt::Commit => Ok(()),
+        Stmt::Intro(_, _) => Ok(()),
+        Stmt::Spawn(_, _) => Ok(()),
+    }
+}
+
+/// What is still to run from a place of a procedure's body on.
+fn left_in_body(alloc: Global, proc: &Proc, place: usize) -> Result<List<Stmt>, Memory>
+    ensures { IfOk result (λ rest. rest ≡ left_in (Some proc.now) place) }
+{
+    match counted_all(&proc.body) {
+        None => Err(Memory),
+        Some(_) => {
+            let mut rest = Vec::new(alloc);
+            push_among(alloc, &mut rest, &proc.body, 0, place)?;
+            Ok(List::from_vec(rest))
+        }
+    }
+}
+
+/// The frame of a procedure.
+fn frame_in(alloc: Global, plain: &Plain, frame: &Activation) -> Result<Frame, Memory>
+    ensures { IfOk result (λ f. f ≡ frame_in plain.now frame.now) }
+{
+    let locals = copied(alloc, frame.locals.as_slice())?;
+    let procs = plain.program.procs.as_slice();
+    if frame.procedure >= procs.len() {
+        return Ok(Frame {
+            locals,
+            rest: List::new(alloc),
+        });
+    }
+    let rest = left_in_body(alloc, &procs[frame.procedure], frame.place)?;
+    Ok(Frame { locals, rest })
+}
+
+/// The call of a procedure, written with no arguments and no results.
+fn bare_call(alloc: Global, plain: &Plain, callee: usize) -> Result<List<Stmt>, Memory>
+    ensures { IfOk result (λ rest. rest ≡ bare_call (slice_get plain.now.program.procs callee)) }
+{
+    let mut rest = Vec::new(alloc);
+    let procs = plain.program.procs.as_slice();
+    if callee >= procs.len() {
+        return Ok(List::from_vec(rest));
+    }
+    let name = procs[callee].name.try_clone(alloc)?;
+    let call = Stmt::Call(name, List::new(alloc), List::new(alloc));
+    rest.push(call)?;
+    Ok(List::from_vec(rest))
+}
+
+/// A thread's first frame.
+fn first_frame(alloc: Global, plain: &Plain, thread: &Running) -> Result<Frame, Memory>
+    ensures { IfOk result (λ f. f ≡ first_frame plain.now thread.now) }
+{
+    let locals = copied(alloc, thread.args.as_slice())?;
+    match &thread.state {
+        State::After => Ok(Frame {
+            locals,
+            rest: List::new(alloc),
+        }),
+        State::Before | State::Inside(_, _) => {
+            let rest = bare_call(alloc, plain, thread.callee)?;
+            Ok(Frame { locals, rest })
+        }
+    }
+}
+
+/// A thread's frame above the first one.
+fn frame_above(
+    alloc: Global,
+    plain: &Plain,
+    below: &[Activation],
+    top: &Activation,
+    at: usize,
+) -> Result<Frame, Memory>
+    requires { at < length below.now + 1 }
+    ensures { IfOk result (λ f. slice_get (map (frame_in plain.now) below.now ++ frame_in plain.now top.now ∷ []) at ≡ Some f) }
+{
+    if at < below.len() {
+        let frame = frame_in(alloc, plain, &below[at])?;
+        return Ok(frame);
+    }
+    let frame = frame_in(alloc, plain, top)?;
+    Ok(frame)
+}
+
+/// A thread's frame at a place.
+fn frame_at(alloc: Global, plain: &Plain, thread: &Running, at: usize) -> Result<Frame, Memory>
+    requires { at < depth_of thread.now }
+    ensures { IfOk result (λ f. slice_get (frames_of plain.now thread.now) at ≡ Some f) }
+{
+    match &thread.state {
+        State::Before | State::After => first_frame(alloc, plain, thread),
+        State::Inside(below, top) => {
+            if at == 0 {
+                let frame = first_frame(alloc, plain, thread)?;
+                return Ok(frame);
+            }
+            let frame = frame_above(alloc, plain, below.as_slice(), top, at - 1)?;
+            Ok(frame)
+        }
+    }
+}
+
+/// A copy of a thread's frame at a place, 0 being the first.
+///
+/// `locals` are the procedure's parameters, outputs and locals, in this order, and `rest` are the statements that are
+/// still to run, as they stand in the source: `yield`, `commit` and `intro`, which a plain program hasn't, are among
+/// them, and a step passes over them. In a frame that waits in a call this call is the first of `rest`. In a thread's
+/// first frame `locals` are the values of its arguments, and `rest` is its call, written with no arguments and no
+/// results, until this has returned; then there is nothing.
+///
+/// The thread exists, and the place is below its depth.
+///
+/// # Errors
+///
+/// For want of memory; and where no `usize` says how many statements a body has, since no memory holds so many.
+pub fn frame(
+    alloc: Global,
+    config: &Config,
+    plain: &Plain,
+    thread: u32,
+    at: usize,
+) -> Result<Frame, Memory>
+    requires thread { thread < length config.now.threads }
+    requires at { IfSome (slice_get config.now.threads thread) (λ t. at < depth_of t) }
+    ensures { IfOk result (λ f. IfSome (slice_get config.now.threads thread) (λ t. slice_get (frames_of plain.now t) at ≡ Some f)) }
+{
+    let frame = frame_at(alloc, plain, config.threads.get(thread as usize), at)?;
+    Ok(frame)
+}
