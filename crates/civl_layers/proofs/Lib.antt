@@ -1,0 +1,4 @@
+pub mod Signatures
+pub mod Finding
+pub mod Cutting
+pub mod Kept

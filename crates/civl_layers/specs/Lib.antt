@@ -1,0 +1,16 @@
+pub mod Rules
+pub mod Ranges
+pub mod Names
+pub mod Range
+pub mod Hidden
+pub mod NotBelow
+pub mod NotThere
+pub mod Introduced
+pub mod Places
+pub mod Layered
+pub mod LayerRules
+pub mod Spans
+pub mod Walks
+pub mod Items
+pub mod Cuts
+pub mod examples
