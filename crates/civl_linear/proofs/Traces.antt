@@ -1,0 +1,5 @@
+-- What is held, statement by statement.
+use Rattle.std.proofs.Common.{append_assoc, append-nil}
+use Rattle.civl_tree.proofs.Trees.{of_trees}
+
+pub ruleset traces = (of_trees, append_assoc, append-nil)

@@ -1,0 +1,3 @@
+pub mod Dock
+pub mod Linear
+pub mod Spawning

@@ -1,0 +1,8 @@
+use Rattle.std.proofs.Common.{refl}
+use Rattle.civl_yields.proofs.Examples.{examples}
+use Rattle.civl_layers.specs.Rules.{each_place}
+use Rattle.civl_yields.proofs.laws.nested_in_rank_loops.Goals as goal
+
+pub returns : goal.returns
+unfolding each_place
+returns c = (simp examples, simp examples, simp examples, simp examples, simp examples, refl)
