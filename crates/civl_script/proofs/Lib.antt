@@ -1,0 +1,7 @@
+pub mod Matching
+pub mod Powers
+pub mod Rows
+pub mod One
+pub mod Only
+pub mod Counting
+pub mod Working

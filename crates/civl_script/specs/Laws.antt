@@ -1,0 +1,33 @@
+-- What follows from the definitions.
+use Rattle.std.specs.Prelude.{ℕ, ◌≡◌, ◌+◌, ◌≤◌, List, length}
+use Rattle.civl_bits.specs.declared.value.Value.{Value}
+use Rattle.civl_tree.specs.declared.program.Program.{Program}
+use Rattle.civl_tree.specs.declared.script.Entry.{Entry}
+use Rattle.civl_tree.specs.declared.script.Script.{Script}
+use Rattle.civl_tree.specs.Token.{Token}
+use Rattle.civl_tree.specs.Numbering.{item_count}
+use Rattle.civl_tree.specs.SpellingDomain.{IsSpelledBy, ScriptIsSpelledBy}
+use Rattle.civl_lex.specs.Text.{HasTokens}
+use Rattle.civl_types.specs.Numbered.{IsNumbered}
+use Rattle.civl_script.specs.Values.{IsValueOf}
+
+-- an entry writes at most one value
+abbrev pub OneValue : Type 0
+OneValue = (entry : Entry) (v w : Value) → IsValueOf entry v → IsValueOf entry w → v ≡ w
+
+-- the parts of a program that a text of at most a megabyte spells have numbers of 32 bits
+abbrev pub TextsAreNumbered : Type 0
+TextsAreNumbered =
+    (bytes : List ℕ) (tokens : List Token) (program : Program) → HasTokens bytes tokens → IsSpelledBy tokens program → length bytes ≤ 1048576 → IsNumbered program
+
+-- and so have those of the program of such a script
+abbrev pub ScriptsAreNumbered : Type 0
+ScriptsAreNumbered =
+    (bytes : List ℕ) (tokens : List Token) (script : Script) → HasTokens bytes tokens → ScriptIsSpelledBy tokens script → length bytes ≤ 1048576
+    → IsNumbered script.program
+
+-- the items and the moves of a script are together at most as many as the bytes of its text
+abbrev pub ScriptsAreCounted : Type 0
+ScriptsAreCounted =
+    (bytes : List ℕ) (tokens : List Token) (script : Script) → HasTokens bytes tokens → ScriptIsSpelledBy tokens script
+    → item_count script.program + length script.moves ≤ length bytes

@@ -1,0 +1,4 @@
+pub mod Values
+pub mod Schedules
+pub mod Examples
+pub mod Laws

@@ -1,0 +1,11 @@
+//! What a script says: its entries are a store, and its steps are moves.
+#![tactic(auto)]
+
+pub mod laws;
+mod schedule;
+#[cfg(test)]
+mod tests;
+mod written;
+
+pub use schedule::{Schedule, read_schedule};
+pub use written::value_of;
