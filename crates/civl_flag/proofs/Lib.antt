@@ -1,0 +1,17 @@
+pub mod Breaking
+pub mod Listing
+pub mod Lists
+pub mod Tabling
+pub mod Keeping
+pub mod Bridging
+pub mod Naming
+pub mod Truths
+pub mod Updating
+pub mod Firing
+pub mod Moving
+pub mod Simulating
+pub mod Preserving
+pub mod Resolving
+pub mod Accepting
+pub mod Accepted
+pub mod Nested
