@@ -1,10 +1,11 @@
--- What the tokens of a text and the parser's answer say of the programs that the text spells; and that a text is read in
--- one way.
+-- What the tokens of a text and the parser's answer say of what the text spells; and that a text is read in one way.
 use Rattle.std.proofs.Common.{◌≡◌, ◌⊎◌, inl, inr, ℕ, List, refl, sym, ap, ◌∙◌, subst, Result, Ok, Err}
 use Rattle.civl_tree.specs.Token.{Token}
-use Rattle.civl_tree.specs.SpellingDomain.{HasSpelling}
+use Rattle.civl_tree.specs.SpellingDomain.{HasSpelling, ScriptHasSpelling}
 use Rattle.civl_tree.specs.SpellingProgram.{spell_program}
+use Rattle.civl_tree.specs.SpellingScript.{spell_script}
 use Rattle.civl_tree.specs.declared.program.Program.{Program}
+use Rattle.civl_tree.specs.declared.script.Script.{Script}
 use Rattle.civl_lex.specs.Text.{HasTokens, NoTokenAt}
 use Rattle.civl_lex.proofs.Texts.{answer_once}
 use Rattle.civl_phrases.specs.Bracket.{IsShallow}
@@ -13,7 +14,8 @@ use Rattle.civl_phrases.specs.declared.halt.Stop.{Stop}
 use Rattle.civl_phrases.specs.declared.halt.Stop.TheVariants as stops
 use Rattle.civl_phrases.proofs.Exactly.{is_exact}
 use Rattle.civl_parser.proofs.OfPrograms.{program_text_is}
-use Rattle.civl_command.specs.Texts.{Spells, SpellsOnly, IsShallowText, IsReading, bracket_limit}
+use Rattle.civl_parser.proofs.OfScripts.{script_text_is}
+use Rattle.civl_command.specs.Texts.{Spells, SpellsOnly, IsShallowText, IsReadAs, IsReading, IsScriptReading, bracket_limit}
 use Rattle.civl_command.specs.declared.reader.Fault.{Fault}
 use Rattle.civl_command.specs.declared.reader.Fault.TheVariants as faults
 
@@ -21,10 +23,10 @@ use Rattle.civl_command.specs.declared.reader.Fault.TheVariants as faults
 abbrev pub HasOnly : List ℕ → List Token → Type 0
 HasOnly bytes tokens = (other : List Token) → HasTokens bytes other → tokens ≡ other
 
--- the tokens are read as each program that the bytes spell
-module _ (bytes : List ℕ) (tokens : List Token) (only : HasOnly bytes tokens) where
-  read_as : (program : Program) → Spells bytes program → IsShallow bracket_limit tokens → IsRead bracket_limit spell_program HasSpelling tokens program
-  read_as program h shallow = record {
+-- the tokens are read as each value that the bytes spell
+module _ {A : Type 0} (spell : A → List Token) (fits : A → Type 0) (bytes : List ℕ) (tokens : List Token) (only : HasOnly bytes tokens) where
+  read_as : (value : A) → Spells spell fits bytes value → IsShallow bracket_limit tokens → IsRead bracket_limit spell fits tokens value
+  read_as value h shallow = record {
     fits = h.spelled.0;
     parts = only h.tokens h.has ∙ h.spelled.1;
     shallow = shallow;
@@ -33,9 +35,9 @@ module _ (bytes : List ℕ) (tokens : List Token) (only : HasOnly bytes tokens) 
   shallow_text : IsShallow bracket_limit tokens → IsShallowText bytes
   shallow_text shallow other has = subst (λ (ts : List Token). IsShallow bracket_limit ts) (only other has) shallow
 
-  pub reading : (program : Program) → HasTokens bytes tokens → IsRead bracket_limit spell_program HasSpelling tokens program
-      → ((other : Program) → IsRead bracket_limit spell_program HasSpelling tokens other → other ≡ program) → IsReading bytes (Ok program)
-  reading program has read one = (
+  pub reading : (value : A) → HasTokens bytes tokens → IsRead bracket_limit spell fits tokens value
+      → ((other : A) → IsRead bracket_limit spell fits tokens other → other ≡ value) → IsReadAs spell fits bytes (Ok value)
+  reading value has read one = (
     record {
       spells = record { tokens = tokens; has = has; spelled = (read.fits, read.parts) };
       only = λ other h. one other (read_as other h read.shallow);
@@ -45,46 +47,27 @@ module _ (bytes : List ℕ) (tokens : List Token) (only : HasOnly bytes tokens) 
 
 -- ---- one reading
 
-one_parse : (tokens : List Token) (x y : Result Program Stop) → IsRight bracket_limit spell_program HasSpelling tokens x → IsRight bracket_limit spell_program HasSpelling tokens y → x ≡ y
+abbrev pub IsOneParse : {A : Type 0} → (A → List Token) → (A → Type 0) → Type 0
+IsOneParse {A} spell fits = (tokens : List Token) (x y : Result A Stop) → IsRight bracket_limit spell fits tokens x → IsRight bracket_limit spell fits tokens y → x ≡ y
+
+one_parse : IsOneParse spell_program HasSpelling
 one_parse tokens x y a b =
     let exact = is_exact (program_text_is bracket_limit) tokens in
     sym (exact.1 x a) ∙ exact.1 y b
 
+one_script_parse : IsOneParse spell_script ScriptHasSpelling
+one_script_parse tokens x y a b =
+    let exact = is_exact (script_text_is bracket_limit) tokens in
+    sym (exact.1 x a) ∙ exact.1 y b
+
 -- what the parser's answer is to a reader of texts
-of_stop : Result Program Stop → Result Program Fault
-of_stop (Ok program) = Ok program
+of_stop : {A : Type 0} → Result A Stop → Result A Fault
+of_stop (Ok value) = Ok value
 of_stop (Err (stops.NotHere place)) = Err (faults.NotHere place)
 of_stop (Err (stops.Deep place)) = Err (faults.Deep place)
 
-abbrev untold : ℕ → Result Program Fault
+abbrev untold : {A : Type 0} → ℕ → Result A Fault
 untold place = Err (faults.NoToken place)
-
-record Untold (bytes : List ℕ) (x : Result Program Fault) : Type 0 where
-  place : ℕ
-  none : NoTokenAt bytes place
-  is : untold place ≡ x
-
-record Parsed (bytes : List ℕ) (x : Result Program Fault) : Type 0 where
-  tokens : List Token
-  has : HasTokens bytes tokens
-  answer : Result Program Stop
-  right : IsRight bracket_limit spell_program HasSpelling tokens answer
-  is : of_stop answer ≡ x
-
-either : (bytes : List ℕ) (x : Result Program Fault) → IsReading bytes x → Untold bytes x ⊎ Parsed bytes x
-unfolding of_stop
-either bytes (Ok program) h =
-    let spells = h.0.spells in
-    inr (record {
-      tokens = spells.tokens;
-      has = spells.has;
-      answer = Ok program;
-      right = record { fits = spells.spelled.0; parts = spells.spelled.1; shallow = h.1 spells.tokens spells.has };
-      is = refl;
-    })
-either bytes (Err (faults.NoToken place)) h = inl (record { place = place; none = h; is = refl })
-either bytes (Err (faults.NotHere place)) h = inr (record { tokens = h.tokens; has = h.has; answer = Err (stops.NotHere place); right = h.stops; is = refl })
-either bytes (Err (faults.Deep place)) h = inr (record { tokens = h.tokens; has = h.has; answer = Err (stops.Deep place); right = h.sinks; is = refl })
 
 err_err : (p q : ℕ) → ◌≡◌ {A = Result (List Token) ℕ} (Err p) (Err q) → p ≡ q
 err_err p q e = cc
@@ -95,16 +78,51 @@ ok_err tokens p e = cc
 ok_ok : (tokens others : List Token) → ◌≡◌ {A = Result (List Token) ℕ} (Ok tokens) (Ok others) → others ≡ tokens
 ok_ok tokens others e = cc
 
-joined : (bytes : List ℕ) (x y : Result Program Fault) → Untold bytes x ⊎ Parsed bytes x → Untold bytes y ⊎ Parsed bytes y → x ≡ y
-joined bytes x y (inl a) (inl b) =
-    sym a.is ∙ ap untold (err_err a.place b.place (answer_once bytes (Err a.place) (Err b.place) a.none b.none)) ∙ b.is
-joined bytes x y (inl a) (inr b) = absurd (ok_err b.tokens a.place (answer_once bytes (Ok b.tokens) (Err a.place) b.has a.none))
-joined bytes x y (inr a) (inl b) = absurd (ok_err a.tokens b.place (answer_once bytes (Ok a.tokens) (Err b.place) a.has b.none))
-joined bytes x y (inr a) (inr b) =
-    let tokens = ok_ok a.tokens b.tokens (answer_once bytes (Ok a.tokens) (Ok b.tokens) a.has b.has) in
-    let right = subst (λ (ts : List Token). IsRight bracket_limit spell_program HasSpelling ts b.answer) tokens b.right in
-    sym a.is ∙ ap of_stop (one_parse a.tokens a.answer b.answer a.right right) ∙ b.is
+record Untold {A : Type 0} (bytes : List ℕ) (x : Result A Fault) : Type 0 where
+  place : ℕ
+  none : NoTokenAt bytes place
+  is : untold place ≡ x
 
--- a text is read in one way
+record Parsed {A : Type 0} (spell : A → List Token) (fits : A → Type 0) (bytes : List ℕ) (x : Result A Fault) : Type 0 where
+  tokens : List Token
+  has : HasTokens bytes tokens
+  answer : Result A Stop
+  right : IsRight bracket_limit spell fits tokens answer
+  is : of_stop answer ≡ x
+
+module _ {A : Type 0} (spell : A → List Token) (fits : A → Type 0) (one : IsOneParse spell fits) (bytes : List ℕ) where
+  either : (x : Result A Fault) → IsReadAs spell fits bytes x → Untold bytes x ⊎ Parsed spell fits bytes x
+  unfolding of_stop
+  either (Ok value) h =
+      let spells = h.0.spells in
+      inr (record {
+        tokens = spells.tokens;
+        has = spells.has;
+        answer = Ok value;
+        right = record { fits = spells.spelled.0; parts = spells.spelled.1; shallow = h.1 spells.tokens spells.has };
+        is = refl;
+      })
+  either (Err (faults.NoToken place)) h = inl (record { place = place; none = h; is = refl })
+  either (Err (faults.NotHere place)) h = inr (record { tokens = h.tokens; has = h.has; answer = Err (stops.NotHere place); right = h.stops; is = refl })
+  either (Err (faults.Deep place)) h = inr (record { tokens = h.tokens; has = h.has; answer = Err (stops.Deep place); right = h.sinks; is = refl })
+
+  joined : (x y : Result A Fault) → Untold bytes x ⊎ Parsed spell fits bytes x → Untold bytes y ⊎ Parsed spell fits bytes y → x ≡ y
+  joined x y (inl a) (inl b) =
+      sym a.is ∙ ap untold (err_err a.place b.place (answer_once bytes (Err a.place) (Err b.place) a.none b.none)) ∙ b.is
+  joined x y (inl a) (inr b) = absurd (ok_err b.tokens a.place (answer_once bytes (Ok b.tokens) (Err a.place) b.has a.none))
+  joined x y (inr a) (inl b) = absurd (ok_err a.tokens b.place (answer_once bytes (Ok a.tokens) (Err b.place) a.has b.none))
+  joined x y (inr a) (inr b) =
+      let tokens = ok_ok a.tokens b.tokens (answer_once bytes (Ok a.tokens) (Ok b.tokens) a.has b.has) in
+      let right = subst (λ (ts : List Token). IsRight bracket_limit spell fits ts b.answer) tokens b.right in
+      sym a.is ∙ ap of_stop (one a.tokens a.answer b.answer a.right right) ∙ b.is
+
+  one_read : (x y : Result A Fault) → IsReadAs spell fits bytes x → IsReadAs spell fits bytes y → x ≡ y
+  one_read x y a b = joined x y (either x a) (either y b)
+
+-- a text is read as a program in one way
 pub one_reading : (bytes : List ℕ) (x y : Result Program Fault) → IsReading bytes x → IsReading bytes y → x ≡ y
-one_reading bytes x y a b = joined bytes x y (either bytes x a) (either bytes y b)
+one_reading bytes x y a b = one_read spell_program HasSpelling one_parse bytes x y a b
+
+-- and as a script
+pub one_script_reading : (bytes : List ℕ) (x y : Result Script Fault) → IsScriptReading bytes x → IsScriptReading bytes y → x ≡ y
+one_script_reading bytes x y a b = one_read spell_script ScriptHasSpelling one_script_parse bytes x y a b

@@ -3,17 +3,13 @@ use Rattle.std.specs.Prelude.{◌≡◌, ℕ, ◌+◌, ◌⊎◌, List, [], leng
 use Rattle.std.specs.Io.KnownBytes.{Appends, Consumes, IsAtEnd}
 use Rattle.civl_outside.specs.Count.{Rose}
 use Rattle.civl_outside.specs.Sent.{AppendsPart}
-use Rattle.civl_tree.specs.declared.program.Program.{Program}
 use Rattle.civl_command.specs.Words.{words_of, AreTaken}
-use Rattle.civl_command.specs.Texts.{IsTaken}
-use Rattle.civl_command.specs.Outcome.{Outcome, TooLong, Unread, Untaken, Judged, Printed, printed_text, CallsFor, IsRight, verdict_status, status_of, report_of, limit}
-use Rattle.civl_command.specs.Report.{line, fault_text, untaken_text, verdict_text}
-use Rattle.civl_command.specs.declared.condition.Verdict.{Verdict}
-use Rattle.civl_command.specs.declared.reader.Fault.{Fault}
+use Rattle.civl_command.specs.Outcome.{Outcome, TooLong, FindsBy, status_of, report_of, limit}
+use Rattle.civl_command.specs.Report.{line, bytes_of}
+use Rattle.civl_command.specs.declared.judge.Judged.{Judged}
 use Rattle.civl_command.specs.declared.status.Status.{Status}
 use Rattle.civl_command.specs.declared.status.Status.TheVariants.{Done, Rejected, Undecided, Refused, ReadFault, WriteFault, Usage, Memory}
 use Rattle.civl_command.specs.declared.words.Command.{Command}
-use Rattle.civl_command.specs.declared.words.Command.TheVariants.{Check, Fmt}
 
 -- a source before or after a call: the bytes still to come, where it tells them, and how often it failed
 pub record ReadState : Type 0 where
@@ -44,60 +40,29 @@ pub record ReadsText (before after : ReadState) (bytes : List ℕ) : Type 0 wher
 abbrev pub ReadsPast : ReadState → ReadState → Type 0
 ReadsPast before after = (bytes : List ℕ) × Consumes before.left after.left bytes × (length bytes ≡ limit + 1)
 
+-- the whole input was read, and this is found of it
 abbrev pub ReadsAll : Command → ReadState → ReadState → Outcome → Type 0
-ReadsAll command before after outcome = (bytes : List ℕ) × ReadsText before after bytes × CallsFor command bytes outcome
+ReadsAll command before after outcome = (bytes : List ℕ) × ReadsText before after bytes × FindsBy command bytes outcome
 
 -- what was read calls for this outcome: more than the limit, or the whole input
 abbrev pub Reads : Command → ReadState → ReadState → Outcome → Type 0
-Reads command before after TooLong = ReadsPast before after
-Reads command before after (Unread fault) = ReadsAll command before after (Unread fault)
-Reads command before after (Untaken program) = ReadsAll command before after (Untaken program)
-Reads command before after (Judged program verdict) = ReadsAll command before after (Judged program verdict)
-Reads command before after (Printed program) = ReadsAll command before after (Printed program)
+Reads command before after outcome = ((outcome ≡ TooLong) × ReadsPast before after) ⊎ ReadsAll command before after outcome
 
 -- memory is wanting, and nothing is reported
 pub record WantsMemory (status : Status) (report : List ℕ) : Type 0 where
   pub status_is : status ≡ Memory
   pub report_is : report ≡ []
 
--- the status and the report are those of a right verdict on the program
-pub record JudgesProgram (program : Program) (status : Status) (report : List ℕ) : Type 0 where
-  pub verdict : Verdict
-  pub right : IsRight program verdict
-  pub status_is : status ≡ verdict_status verdict
-  pub report_is : report ≡ verdict_text program verdict
-
--- the program isn't taken, and this is reported
-pub record LeavesUntaken (program : Program) (status : Status) (report : List ℕ) : Type 0 where
-  pub not_taken : IsTaken program → ⊥
-  pub status_is : status ≡ Refused
-  pub report_is : report ≡ untaken_text
-
--- the program is taken and judged, or it isn't taken
-abbrev pub JudgesSpelled : Program → Status → List ℕ → Type 0
-JudgesSpelled program status report = (IsTaken program × JudgesProgram program status report) ⊎ LeavesUntaken program status report
-
--- the fault is reported
-pub record JudgesFault (fault : Fault) (status : Status) (report : List ℕ) : Type 0 where
-  pub status_is : status ≡ Refused
-  pub report_is : report ≡ fault_text fault
-
--- the program is printed
-pub record Prints (program : Program) (status : Status) (report : List ℕ) : Type 0 where
-  pub status_is : status ≡ Done
-  pub report_is : report ≡ printed_text program
-
--- what a command answers on the program that a text spells
-abbrev pub AnswersSpelled : Command → Program → Status → List ℕ → Type 0
-AnswersSpelled Check program status report = JudgesSpelled program status report
-AnswersSpelled Fmt program status report = Prints program status report
-
--- the status and the report are those of an outcome that the bytes call for
-pub record JudgesText (command : Command) (bytes : List ℕ) (status : Status) (report : List ℕ) : Type 0 where
+-- the status and the report are those of an outcome of which this is so
+pub record Answers (says : Outcome → Type 0) (status : Status) (report : List ℕ) : Type 0 where
   pub outcome : Outcome
-  pub calls : CallsFor command bytes outcome
+  pub says_so : says outcome
   pub status_is : status ≡ status_of outcome
   pub report_is : report ≡ report_of outcome
+
+-- the same, or memory is wanting
+abbrev pub IsJudged : (Outcome → Type 0) → Judged → Type 0
+IsJudged says judged = Answers says judged.status (bytes_of judged.report) ⊎ WantsMemory judged.status (bytes_of judged.report)
 
 -- the words are a command's, and the status and the report are those of an outcome for which the input calls under it
 pub record JudgesInput (words : List (List ℕ)) (before after : ReadState) (status : Status) (report : List ℕ) : Type 0 where
@@ -108,16 +73,16 @@ pub record JudgesInput (words : List (List ℕ)) (before after : ReadState) (sta
   pub status_is : status ≡ status_of outcome
   pub report_is : report ≡ report_of outcome
 
+-- there is no such outcome, since the source failed, the words are no command's, or memory is wanting
+abbrev pub Fails : List (List ℕ) → ReadState → ReadState → Status → List ℕ → Type 0
+Fails words before after ReadFault report = AreTaken words × Rose before.faults after.faults × (report ≡ [])
+Fails words before after Usage report = (AreTaken words → ⊥) × (after ≡ before) × (report ≡ usage_text)
+Fails words before after Memory report = AreTaken words × (report ≡ [])
+Fails words before after _ report = ⊥
+
 -- what the words and the input call for: a status, and the report that belongs to it
 abbrev pub Judges : List (List ℕ) → ReadState → ReadState → Status → List ℕ → Type 0
-Judges words before after Done report = JudgesInput words before after Done report
-Judges words before after Rejected report = JudgesInput words before after Rejected report
-Judges words before after Undecided report = ⊥
-Judges words before after Refused report = JudgesInput words before after Refused report
-Judges words before after ReadFault report = AreTaken words × Rose before.faults after.faults × (report ≡ [])
-Judges words before after WriteFault report = ⊥
-Judges words before after Usage report = (AreTaken words → ⊥) × (after ≡ before) × (report ≡ usage_text)
-Judges words before after Memory report = AreTaken words × (report ≡ [])
+Judges words before after status report = JudgesInput words before after status report ⊎ Fails words before after status report
 
 -- the sink took a first part of the report alone, since it failed or stalled
 pub record CutShort (before after : WriteState) (report : List ℕ) : Type 0 where

@@ -1,15 +1,10 @@
 pub mod Status
 pub mod Words
-pub mod FlagForm
 pub mod Report
-pub mod Conditions
-pub mod Tables
-pub mod Decide
-pub mod WellFormed
 pub mod Texts
 pub mod Reader
+pub mod Rules
+pub mod Replay
 pub mod Outcome
 pub mod Judge
 pub mod Promises
-pub mod Preservation
-pub mod examples

@@ -1,17 +1,23 @@
 -- What `command` promises where the source tells the bytes still to come and the sink those that it took.
-use Rattle.std.specs.Prelude.{◌≡◌, ℕ, ◌⊎◌, List, [], ◌++◌, Option, Some}
+use Rattle.std.specs.Prelude.{◌≡◌, ◌≢◌, ℕ, ◌⊎◌, List, [], ◌++◌, Option, Some}
 use Rattle.civl_outside.specs.Count.{Stayed}
 use Rattle.civl_tree.specs.declared.program.Program.{Program}
+use Rattle.civl_tree.specs.declared.script.Script.{Script}
+use Rattle.civl_meaning.specs.declared.config.Plain.{Plain}
+use Rattle.civl_meaning.specs.Layers.{lowest, topmost}
 use Rattle.civl_meaning.specs.Preserves.{Preserves}
+use Rattle.civl_run.specs.declared.trace.Trace.{Trace}
+use Rattle.civl_flag.specs.Verdicts.{IsRight}
+use Rattle.civl_flag.specs.declared.condition.Counter.{Counter}
+use Rattle.civl_flag.specs.declared.condition.Verdict.TheVariants.{Accepted, Rejected as RejectedBy}
 use Rattle.civl_command.specs.Words.{words_of}
-use Rattle.civl_command.specs.Texts.{SpellsOnly, IsTaken}
-use Rattle.civl_command.specs.Outcome.{Outcome, TooLong, Unread, Untaken, Judged, Printed, printed_text, CallsFor, IsRight, status_of, report_of, heading_of}
+use Rattle.civl_command.specs.Rules.{IsLawful, IsTaken}
+use Rattle.civl_command.specs.Texts.{SpellsProgram, SpellsScript}
+use Rattle.civl_command.specs.Outcome.{Outcome, TooLong, RunsBy, CallsFor, printed_text, status_of, report_of, heading_of}
 use Rattle.civl_command.specs.Judge.{ReadState, WriteState}
-use Rattle.civl_command.specs.Report.{accepted_text, rejected_text}
-use Rattle.civl_command.specs.declared.condition.Counter.{Counter}
-use Rattle.civl_command.specs.declared.condition.Verdict.TheVariants.{Accepted, Rejected as RejectedBy, NoInitial}
+use Rattle.civl_command.specs.Report.{accepted_text, rejected_text, run_text}
 use Rattle.civl_command.specs.declared.status.Status.{Status}
-use Rattle.civl_command.specs.declared.status.Status.TheVariants.{Done, Rejected, Refused, Memory}
+use Rattle.civl_command.specs.declared.status.Status.TheVariants.{Refused, Memory}
 use Rattle.civl_command.specs.declared.words.Command.{Command}
 
 -- what was written grew by the report
@@ -27,7 +33,7 @@ pub record ReadsAndWrites (after : ReadState) (sink sink_after : WriteState) (re
 -- each initial store from which some interleaving of the lowest program fails, some interleaving of the topmost program
 -- fails; all conditions hold, and there are so many.
 pub record Accepts (input : List ℕ) (program : Program) (count : ℕ) : Type 0 where
-  pub spells : SpellsOnly input program
+  pub spells : SpellsProgram input program
   pub taken : IsTaken program
   pub preserves : Preserves program
   pub right : IsRight program (Accepted count)
@@ -41,7 +47,7 @@ AcceptsRightly before after sink sink_after =
 -- The input spells exactly one program, which has the flag form and breaks no static rule; some store is initial; the
 -- condition is the first that doesn't hold, and the values violate it.
 pub record Rejects (input : List ℕ) (program : Program) (counter : Counter) : Type 0 where
-  pub spells : SpellsOnly input program
+  pub spells : SpellsProgram input program
   pub taken : IsTaken program
   pub right : IsRight program (RejectedBy counter)
 
@@ -55,15 +61,25 @@ RejectsRightly before after sink sink_after =
 abbrev pub PrintsRightly : ReadState → ReadState → WriteState → WriteState → Type 0
 PrintsRightly before after sink sink_after =
     (input : List ℕ) → before.left ≡ Some input →
-    (program : Program) × SpellsOnly input program × ReadsAndWrites after sink sink_after (printed_text program)
+    (program : Program) × SpellsProgram input program × ReadsAndWrites after sink sink_after (printed_text program)
+
+-- The input spells exactly one script, whose program breaks no static rule. Its entries are a store and its steps are moves,
+-- and these moves give this trace from that store on the plain program.
+pub record Replays (plain_of : Program → Plain) (input : List ℕ) (script : Script) (trace : Trace) : Type 0 where
+  pub spells : SpellsScript input script
+  pub rules : IsLawful script.program
+  pub runs : RunsBy (plain_of script.program) script trace
+
+-- Done under `run`: that is so of the input, and the report tells the trace.
+abbrev pub ReplaysRightly : (Program → Plain) → ReadState → ReadState → WriteState → WriteState → Type 0
+ReplaysRightly plain_of before after sink sink_after =
+    (input : List ℕ) → before.left ≡ Some input →
+    (script : Script) × (trace : Trace) × Replays plain_of input script trace × ReadsAndWrites after sink sink_after (run_text script.program trace)
 
 -- what was written grew by the report of the outcome, and, but for a longer input, the whole was read
-abbrev pub Carries : ReadState → WriteState → WriteState → Outcome → Type 0
-Carries after sink sink_after TooLong = Writes sink sink_after (report_of TooLong)
-Carries after sink sink_after (Unread fault) = ReadsAndWrites after sink sink_after (report_of (Unread fault))
-Carries after sink sink_after (Untaken program) = ReadsAndWrites after sink sink_after (report_of (Untaken program))
-Carries after sink sink_after (Judged program verdict) = ReadsAndWrites after sink sink_after (report_of (Judged program verdict))
-Carries after sink sink_after (Printed program) = ReadsAndWrites after sink sink_after (report_of (Printed program))
+pub record Carries (after : ReadState) (sink sink_after : WriteState) (outcome : Outcome) : Type 0 where
+  pub written : Writes sink sink_after (report_of outcome)
+  pub read : outcome ≢ TooLong → after.left ≡ Some []
 
 -- Refused: under the command of the words the input calls for a refusal, and the report says which.
 abbrev pub RefusesRightly : List (List ℕ) → ReadState → ReadState → WriteState → WriteState → Type 0

@@ -1,11 +1,23 @@
 -- What reading a text gives.
 use Rattle.std.specs.Prelude.{ℕ, List, ⊤, Ok, Err}
-use Rattle.civl_command.specs.Texts.{IsReading}
+use Rattle.civl_tree.specs.Token.{Token}
+use Rattle.civl_tree.specs.SpellingDomain.{HasSpelling, ScriptHasSpelling}
+use Rattle.civl_tree.specs.SpellingProgram.{spell_program}
+use Rattle.civl_tree.specs.SpellingScript.{spell_script}
+use Rattle.civl_tree.specs.declared.program.Program.{Program}
+use Rattle.civl_tree.specs.declared.script.Script.{Script}
+use Rattle.civl_command.specs.Texts.{IsReadAs}
 use Rattle.civl_command.specs.declared.reader.Text.{Text}
-use Rattle.civl_command.specs.declared.reader.Text.TheVariants.{Program, Unread, Memory}
+use Rattle.civl_command.specs.declared.reader.Text.TheVariants.{Spelled, Unread, Memory}
 
--- the program that the bytes spell, or the first fault in them
-abbrev pub TellsText : List ℕ → Text → Type 0
-TellsText bytes (Program program) = IsReading bytes (Ok program)
-TellsText bytes (Unread fault) = IsReading bytes (Err fault)
-TellsText bytes Memory = ⊤
+-- the value that the bytes spell, or the first fault in them
+abbrev pub Tells : {A : Type 0} → (A → List Token) → (A → Type 0) → List ℕ → Text A → Type 0
+Tells spell fits bytes (Spelled value) = IsReadAs spell fits bytes (Ok value)
+Tells spell fits bytes (Unread fault) = IsReadAs spell fits bytes (Err fault)
+Tells spell fits bytes Memory = ⊤
+
+abbrev pub TellsProgram : List ℕ → Text Program → Type 0
+TellsProgram bytes text = Tells spell_program HasSpelling bytes text
+
+abbrev pub TellsScript : List ℕ → Text Script → Type 0
+TellsScript bytes text = Tells spell_script ScriptHasSpelling bytes text

@@ -1,27 +1,29 @@
--- Which program a text spells, and whether `check` takes it.
-use Rattle.std.specs.Prelude.{◌≡◌, ℕ, List, IsTrue, Result, Ok, Err}
+-- What a text spells, and how it is read: as a program, or as a script.
+use Rattle.std.specs.Prelude.{◌≡◌, ℕ, List, Result, Ok, Err}
 use Rattle.civl_tree.specs.Token.{Token}
-use Rattle.civl_tree.specs.SpellingDomain.{HasSpelling, IsSpelledBy}
+use Rattle.civl_tree.specs.SpellingDomain.{HasSpelling, ScriptHasSpelling}
 use Rattle.civl_tree.specs.SpellingProgram.{spell_program}
+use Rattle.civl_tree.specs.SpellingScript.{spell_script}
 use Rattle.civl_tree.specs.declared.program.Program.{Program}
+use Rattle.civl_tree.specs.declared.script.Script.{Script}
 use Rattle.civl_lex.specs.Text.{HasTokens, NoTokenAt}
 use Rattle.civl_phrases.specs.Bracket.{IsShallow}
 use Rattle.civl_phrases.specs.Exact.{IsNotHere, IsDeep}
-use Rattle.civl_command.specs.FlagForm.{is_flag_form}
-use Rattle.civl_command.specs.WellFormed.{IsWellFormed}
 use Rattle.civl_command.specs.declared.reader.Fault.{Fault}
 use Rattle.civl_command.specs.declared.reader.Fault.TheVariants.{NoToken, NotHere, Deep}
 
--- The bytes spell the program: they have tokens, and these are its spelling.
-pub record Spells (bytes : List ℕ) (program : Program) : Type 0 where
+-- ---- texts, where `spell` gives the tokens of a value, and `fits` says which values have a spelling
+
+-- The bytes spell the value: they have tokens, and these are its spelling.
+pub record Spells {A : Type 0} (spell : A → List Token) (fits : A → Type 0) (bytes : List ℕ) (value : A) : Type 0 where
   pub tokens : List Token
   pub has : HasTokens bytes tokens
-  pub spelled : IsSpelledBy tokens program
+  pub spelled : fits value × (tokens ≡ spell value)
 
--- The bytes spell this program and no other.
-pub record SpellsOnly (bytes : List ℕ) (program : Program) : Type 0 where
-  pub spells : Spells bytes program
-  pub only : (other : Program) → Spells bytes other → other ≡ program
+-- The bytes spell this value and no other.
+pub record SpellsOnly {A : Type 0} (spell : A → List Token) (fits : A → Type 0) (bytes : List ℕ) (value : A) : Type 0 where
+  pub spells : Spells spell fits bytes value
+  pub only : (other : A) → Spells spell fits bytes other → other ≡ value
 
 -- how many brackets may be unclosed at once
 abbrev pub bracket_limit : ℕ
@@ -31,29 +33,38 @@ bracket_limit = 64
 abbrev pub IsShallowText : List ℕ → Type 0
 IsShallowText bytes = (tokens : List Token) → HasTokens bytes tokens → IsShallow bracket_limit tokens
 
--- The tokens of the bytes before this place begin the spelling of a program, and with the token at the place, or the end,
--- they begin none.
-pub record StopsAt (bytes : List ℕ) (place : ℕ) : Type 0 where
+-- The tokens of the bytes before this place begin a spelling, and with the token at the place, or the end, they begin none.
+pub record StopsAt {A : Type 0} (spell : A → List Token) (fits : A → Type 0) (bytes : List ℕ) (place : ℕ) : Type 0 where
   pub tokens : List Token
   pub has : HasTokens bytes tokens
-  pub stops : IsNotHere bracket_limit spell_program HasSpelling tokens place
+  pub stops : IsNotHere bracket_limit spell fits tokens place
 
--- The tokens of the bytes up to the one at this place begin the spelling of a program, and this one opens the first
--- bracket too many.
-pub record SinksAt (bytes : List ℕ) (place : ℕ) : Type 0 where
+-- The tokens of the bytes up to the one at this place begin a spelling, and this one opens the first bracket too many.
+pub record SinksAt {A : Type 0} (spell : A → List Token) (fits : A → Type 0) (bytes : List ℕ) (place : ℕ) : Type 0 where
   pub tokens : List Token
   pub has : HasTokens bytes tokens
-  pub sinks : IsDeep bracket_limit spell_program HasSpelling tokens place
+  pub sinks : IsDeep bracket_limit spell fits tokens place
 
--- What the bytes are read as: the one program that they spell, with no more brackets unclosed than may be; or the first
--- fault in them.
+-- What the bytes are read as: the one value that they spell, with no more brackets unclosed than may be; or the first fault
+-- in them.
+abbrev pub IsReadAs : {A : Type 0} → (A → List Token) → (A → Type 0) → List ℕ → Result A Fault → Type 0
+IsReadAs spell fits bytes (Ok value) = SpellsOnly spell fits bytes value × IsShallowText bytes
+IsReadAs spell fits bytes (Err (NoToken place)) = NoTokenAt bytes place
+IsReadAs spell fits bytes (Err (NotHere place)) = StopsAt spell fits bytes place
+IsReadAs spell fits bytes (Err (Deep place)) = SinksAt spell fits bytes place
+
+-- ---- programs and scripts
+
+-- The bytes spell this program and no other.
+abbrev pub SpellsProgram : List ℕ → Program → Type 0
+SpellsProgram bytes program = SpellsOnly spell_program HasSpelling bytes program
+
+-- The bytes spell this script and no other.
+abbrev pub SpellsScript : List ℕ → Script → Type 0
+SpellsScript bytes script = SpellsOnly spell_script ScriptHasSpelling bytes script
+
 abbrev pub IsReading : List ℕ → Result Program Fault → Type 0
-IsReading bytes (Ok program) = SpellsOnly bytes program × IsShallowText bytes
-IsReading bytes (Err (NoToken place)) = NoTokenAt bytes place
-IsReading bytes (Err (NotHere place)) = StopsAt bytes place
-IsReading bytes (Err (Deep place)) = SinksAt bytes place
+IsReading bytes reading = IsReadAs spell_program HasSpelling bytes reading
 
--- The program has the flag form and breaks no static rule.
-pub record IsTaken (program : Program) : Type 0 where
-  pub form : IsTrue (is_flag_form program)
-  pub rules : IsWellFormed program
+abbrev pub IsScriptReading : List ℕ → Result Script Fault → Type 0
+IsScriptReading bytes reading = IsReadAs spell_script ScriptHasSpelling bytes reading

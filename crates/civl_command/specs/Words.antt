@@ -1,12 +1,14 @@
 -- The words of a command line, after the program's name.
 use Rattle.std.specs.Prelude.{◌≡◌, ℕ, List, [], ◌∷◌, codes, Option, None, Some}
 use Rattle.civl_command.specs.declared.words.Command.{Command}
-use Rattle.civl_command.specs.declared.words.Command.TheVariants.{Check, Fmt}
+use Rattle.civl_command.specs.declared.words.Command.TheVariants.{Check, Fmt, RunLow, RunTop}
 
 -- the one list of words of a command
 abbrev pub words_of : Command → List (List ℕ)
 words_of Check = codes "check" ∷ []
 words_of Fmt = codes "fmt" ∷ []
+words_of RunLow = codes "run" ∷ codes "low" ∷ []
+words_of RunTop = codes "run" ∷ codes "top" ∷ []
 
 -- the words are those of a command that is built
 abbrev pub AreTaken : List (List ℕ) → Type 0

@@ -1,21 +1,26 @@
 // What the words and the input call for.
-ghost use Rattle.std.specs.Prelude.{◌≡◌, ◌≤◌, ◌⊎◌, length, map, string_bytes};
-ghost use Rattle.civl_command.specs.Texts.{IsTaken};
-ghost use Rattle.civl_command.specs.Outcome.{verdict_status, limit};
-ghost use Rattle.civl_command.specs.Judge.{reading, WantsMemory, JudgesProgram, JudgesSpelled, JudgesFault, Prints, AnswersSpelled, JudgesText, Judges};
-ghost use Rattle.civl_command.specs.Report.{bytes_of, untaken_text};
+ghost use Rattle.std.specs.Prelude.{◌≡◌, ◌≤◌, length, map, string_bytes, IsTrue};
+ghost use Rattle.civl_types.specs.Numbered.{IsNumbered};
+ghost use Rattle.civl_flag.specs.FlagForm.{is_flag_form};
+ghost use Rattle.civl_command.specs.Rules.{IsLawful};
+ghost use Rattle.civl_command.specs.Texts.{IsReading, IsScriptReading};
+ghost use Rattle.civl_command.specs.Replay.{plain_for};
+ghost use Rattle.civl_command.specs.Outcome.{Unread, Untaken, Broken, Printed, Checks, ChecksRead, PrintsRead, RunsRead, Finds, FindsBy, verdict_status, limit};
+ghost use Rattle.civl_command.specs.Judge.{reading, IsJudged, Judges};
+ghost use Rattle.civl_command.specs.Report.{bytes_of};
 
-use crate::condition::Verdict;
-use crate::decide::decide;
-use crate::form::is_flag_form;
-use crate::reader::{Fault, Text, read};
-use crate::report::{report, report_fault};
-use crate::rules::is_well_formed;
+use crate::admission::admitted;
+use crate::reader::{Fault, Text, read_program, read_script};
+use crate::replay::{End, judge_script};
+use crate::report::{report_fault, report_refusal, report_verdict};
 use crate::status::Status;
 use crate::words::{Command, command_of};
+use civl_flag::{Verdict, decide, is_flag_form};
+use civl_layers::{Layered, program};
 use civl_outside::{Source, Whole, read_whole};
 use civl_printer::print;
-use civl_tree::Program;
+use civl_tree::{Program, Refusal, Refused};
+use civl_verify::source;
 use std::alloc::Global;
 
 /// The most bytes that an input may have.
@@ -53,7 +58,7 @@ impl Judged {
     ghost use Rattle.civl_command.specs.Judge.{WantsMemory};
 
     /// Memory is wanting, so nothing is written.
-    fn wanting() -> Judged
+    pub(crate) fn wanting() -> Judged
         ensures { WantsMemory result.status (bytes_of result.report) }
     {
         Judged {
@@ -75,15 +80,15 @@ fn status_of(verdict: &Verdict) -> Status
 }
 
 /// The verdict on a program of the flag form that breaks no static rule.
-fn judge_program(alloc: Global, program: &Program) -> Judged
-    requires { IsTaken program.now }
-    ensures { JudgesProgram program.now result.status (bytes_of result.report)
-        ⊎ WantsMemory result.status (bytes_of result.report) }
+fn judge_program(alloc: Global, src: &Layered) -> Judged
+    requires form { IsTrue (is_flag_form src.now) }
+    requires rules { IsLawful src.now }
+    ensures { IsJudged (Checks src.now) result }
 {
-    let Ok(verdict) = decide(alloc, program) else {
+    let Ok(verdict) = decide(alloc, src) else {
         return Judged::wanting();
     };
-    let Ok(report) = report(alloc, program, &verdict) else {
+    let Ok(report) = report_verdict(alloc, program(src), &verdict) else {
         return Judged::wanting();
     };
     Judged {
@@ -92,10 +97,9 @@ fn judge_program(alloc: Global, program: &Program) -> Judged
     }
 }
 
-/// What is written of a text whose program isn't taken.
+/// What is written of a program that `check` doesn't take.
 fn untaken() -> Judged
-    ensures status { result.status ≡ Status.Refused }
-    ensures report { bytes_of result.report ≡ untaken_text }
+    ensures { IsJudged (λ outcome. outcome ≡ Untaken) result }
 {
     Judged {
         status: Status::Refused,
@@ -103,25 +107,37 @@ fn untaken() -> Judged
     }
 }
 
-/// The verdict on the program that a text spells.
-fn judge_spelled(alloc: Global, program: &Program) -> Judged
-    ensures { JudgesSpelled program.now result.status (bytes_of result.report)
-        ⊎ WantsMemory result.status (bytes_of result.report) }
+/// What is written of a program that breaks a static rule.
+pub(crate) fn refuse(alloc: Global, refusal: Refusal) -> Judged
+    ensures { IsJudged (λ outcome. outcome ≡ Broken refusal) result }
 {
-    if !is_flag_form(program) {
-        return untaken();
-    }
-    match is_well_formed(alloc, program) {
-        Ok(true) => judge_program(alloc, program),
-        Ok(false) => untaken(),
-        Err(_) => Judged::wanting(),
+    let Ok(report) = report_refusal(alloc, refusal) else {
+        return Judged::wanting();
+    };
+    Judged {
+        status: Status::Refused,
+        report: Report::Made(report),
     }
 }
 
-/// The first fault of a text that is no program.
+/// What `check` finds of a program.
+fn check_program(alloc: Global, program: Program) -> Judged
+    requires { IsNumbered program }
+    ensures { IsJudged (Checks program) result }
+{
+    if !is_flag_form(&program) {
+        return untaken();
+    }
+    match admitted(alloc, program) {
+        Ok(admitted) => judge_program(alloc, source(&admitted)),
+        Err(Refused::At(refusal)) => refuse(alloc, refusal),
+        Err(Refused::Memory) => Judged::wanting(),
+    }
+}
+
+/// What is written of the first fault of a text.
 fn judge_fault(alloc: Global, fault: Fault) -> Judged
-    ensures { JudgesFault fault result.status (bytes_of result.report)
-        ⊎ WantsMemory result.status (bytes_of result.report) }
+    ensures { IsJudged (λ outcome. outcome ≡ Unread fault) result }
 {
     let Ok(report) = report_fault(alloc, fault) else {
         return Judged::wanting();
@@ -134,8 +150,7 @@ fn judge_fault(alloc: Global, fault: Fault) -> Judged
 
 /// The canonical text of a program.
 fn print_program(alloc: Global, program: &Program) -> Judged
-    ensures { Prints program.now result.status (bytes_of result.report)
-        ⊎ WantsMemory result.status (bytes_of result.report) }
+    ensures { IsJudged (λ outcome. outcome ≡ Printed program.now) result }
 {
     let Ok(text) = print(alloc, program) else {
         return Judged::wanting();
@@ -146,27 +161,52 @@ fn print_program(alloc: Global, program: &Program) -> Judged
     }
 }
 
-/// What a command answers on the program that a text spells.
-fn answer_spelled(alloc: Global, command: Command, program: &Program) -> Judged
-    ensures { AnswersSpelled command program.now result.status (bytes_of result.report)
-        ⊎ WantsMemory result.status (bytes_of result.report) }
+/// What `check` finds of a text.
+fn check_text(alloc: Global, bytes: &[u8]) -> Judged
+    requires { length bytes.now ≤ limit }
+    ensures { IsJudged (Finds IsReading ChecksRead bytes.now) result }
 {
-    match command {
-        Command::Check => judge_spelled(alloc, program),
-        Command::Fmt => print_program(alloc, program),
+    match read_program(alloc, bytes) {
+        Text::Spelled(program) => check_program(alloc, program),
+        Text::Unread(fault) => judge_fault(alloc, fault),
+        Text::Memory => Judged::wanting(),
     }
 }
 
-/// What a command answers on a text, which is no longer than an input may be.
-fn judge_text(alloc: Global, command: Command, bytes: &[u8]) -> Judged
+/// What `fmt` finds of a text.
+fn print_text(alloc: Global, bytes: &[u8]) -> Judged
     requires { length bytes.now ≤ limit }
-    ensures { JudgesText command bytes.now result.status (bytes_of result.report)
-        ⊎ WantsMemory result.status (bytes_of result.report) }
+    ensures { IsJudged (Finds IsReading PrintsRead bytes.now) result }
 {
-    match read(alloc, bytes) {
-        Text::Program(program) => answer_spelled(alloc, command, &program),
+    match read_program(alloc, bytes) {
+        Text::Spelled(program) => print_program(alloc, &program),
         Text::Unread(fault) => judge_fault(alloc, fault),
         Text::Memory => Judged::wanting(),
+    }
+}
+
+/// What `run` finds of a text.
+fn run_text(alloc: Global, end: End, bytes: &[u8]) -> Judged
+    requires { length bytes.now ≤ limit }
+    ensures { IsJudged (Finds IsScriptReading (RunsRead (plain_for end)) bytes.now) result }
+{
+    match read_script(alloc, bytes) {
+        Text::Spelled(script) => judge_script(alloc, end, script),
+        Text::Unread(fault) => judge_fault(alloc, fault),
+        Text::Memory => Judged::wanting(),
+    }
+}
+
+/// What a command finds of a text, which is no longer than an input may be.
+fn judge_text(alloc: Global, command: Command, bytes: &[u8]) -> Judged
+    requires { length bytes.now ≤ limit }
+    ensures { IsJudged (FindsBy command bytes.now) result }
+{
+    match command {
+        Command::Check => check_text(alloc, bytes),
+        Command::Fmt => print_text(alloc, bytes),
+        Command::RunLow => run_text(alloc, End::Low, bytes),
+        Command::RunTop => run_text(alloc, End::Top, bytes),
     }
 }
 

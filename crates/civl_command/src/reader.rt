@@ -1,12 +1,12 @@
-// The program that a text spells.
-ghost use Rattle.civl_command.specs.Reader.{TellsText};
+// The program or the script that a text spells.
+ghost use Rattle.civl_command.specs.Reader.{TellsProgram, TellsScript};
 
 use civl_lex::{LexFault, tokens};
-use civl_parser::{ParseFault, parse};
-use civl_tree::Program;
+use civl_parser::{ParseFault, parse, parse_script};
+use civl_tree::{Program, Script};
 use std::alloc::Global;
 
-/// Why a text is no program: the first fault in it.
+/// Why a text is no program, or no script: the first fault in it.
 #[derive(Clone, Copy, Debug, Drop)]
 pub enum Fault {
     /// No token begins at this byte.
@@ -19,22 +19,38 @@ pub enum Fault {
 
 /// What reading a text gives.
 #[derive(Drop)]
-pub(crate) enum Text {
-    /// The program that the text spells, and the only one.
-    Program(Program),
-    /// The text is no program, or has too many brackets open at some place.
+pub(crate) enum Text<T> {
+    /// What the text spells, and nothing else.
+    Spelled(T),
+    /// The text spells nothing, or has too many brackets open at some place.
     Unread(Fault),
     /// Memory is wanting.
     Memory,
 }
 
 /// The program that these bytes spell, or the first fault in them.
-pub(crate) fn read(alloc: Global, bytes: &[u8]) -> Text
-    ensures { TellsText bytes.now result }
+pub(crate) fn read_program(alloc: Global, bytes: &[u8]) -> Text<Program>
+    ensures { TellsProgram bytes.now result }
 {
     match tokens(alloc, bytes) {
         Ok(tokens) => match parse(alloc, tokens.as_slice()) {
-            Ok(program) => Text::Program(program),
+            Ok(program) => Text::Spelled(program),
+            Err(ParseFault::NotHere(place)) => Text::Unread(Fault::NotHere(place)),
+            Err(ParseFault::Deep(place)) => Text::Unread(Fault::Deep(place)),
+            Err(ParseFault::Memory) => Text::Memory,
+        },
+        Err(LexFault::NoToken(place)) => Text::Unread(Fault::NoToken(place)),
+        Err(LexFault::Memory) => Text::Memory,
+    }
+}
+
+/// The script that these bytes spell, or the first fault in them.
+pub(crate) fn read_script(alloc: Global, bytes: &[u8]) -> Text<Script>
+    ensures { TellsScript bytes.now result }
+{
+    match tokens(alloc, bytes) {
+        Ok(tokens) => match parse_script(alloc, tokens.as_slice()) {
+            Ok(script) => Text::Spelled(script),
             Err(ParseFault::NotHere(place)) => Text::Unread(Fault::NotHere(place)),
             Err(ParseFault::Deep(place)) => Text::Unread(Fault::Deep(place)),
             Err(ParseFault::Memory) => Text::Memory,

@@ -1,10 +1,14 @@
 // The text of a report.
 ghost use Rattle.std.specs.Prelude.{◌≡◌, ◌++◌, OnOk, IfOk, decimal};
-ghost use Rattle.civl_command.specs.Report.{part_text, action_text, proc_text, condition_text, bool_text, value_line, value_lines, accepted_text, rejected_heading, rejected_text, no_initial_text, verdict_text, line, fault_text};
+ghost use Rattle.civl_command.specs.Report.{part_text, action_text, proc_text, condition_text, value_line, value_lines, bool_lines, accepted_text, rejected_heading, rejected_text, no_initial_text, verdict_text, line, fault_text, refusal_text, misfit_text, answer_text, stopped_text, failing_text, run_text};
 
-use crate::condition::{Condition, Counter, Part, Verdict};
 use crate::reader::Fault;
-use civl_tree::{Global as GlobalVar, List, Memory, Name, Program};
+use civl_bits::Value;
+use civl_flag::{Condition, Counter, Part, Verdict};
+use civl_meaning::Stepped;
+use civl_models::put_value_text;
+use civl_run::Trace;
+use civl_tree::{Global as GlobalVar, List, Memory, Name, Program, Refusal};
 use itoa::Buffer;
 use std::alloc::Global;
 
@@ -76,12 +80,12 @@ fn put_condition(out: &mut Vec<u8>, program: &Program, condition: Condition) -> 
 }
 
 /// A line `name = value`.
-fn put_value(out: &mut Vec<u8>, name: &Name, value: bool) -> Result<(), Memory>
-    ensures { OnOk result (out.new.items ≡ out.old.items ++ value_line name.now value) }
+fn put_value(out: &mut Vec<u8>, name: &Name, value: &Value) -> Result<(), Memory>
+    ensures { OnOk result (out.new.items ≡ out.old.items ++ value_line name.now value.now) }
 {
     put(out, name.as_slice())?;
     put(out, b" = ")?;
-    put(out, if value { b"true" } else { b"false" })?;
+    put_value_text(out, value)?;
     put(out, b"\n")?;
     Ok(())
 }
@@ -90,12 +94,22 @@ fn put_value(out: &mut Vec<u8>, name: &Name, value: bool) -> Result<(), Memory>
 fn put_values(
     out: &mut Vec<u8>,
     globals: &List<GlobalVar>,
-    store: &List<bool>,
+    values: &List<Value>,
 ) -> Result<(), Memory>
-    ensures { OnOk result (out.new.items ≡ out.old.items ++ value_lines globals.now store.now) }
+    ensures { OnOk result (out.new.items ≡ out.old.items ++ value_lines globals.now values.now) }
+{
+    for at in 0..globals.len().min(values.len()) {
+        put_value(out, &globals.get(at).name, values.get(at))?;
+    }
+    Ok(())
+}
+
+/// A line for each global, with its value in a store of bools.
+fn put_bools(out: &mut Vec<u8>, globals: &List<GlobalVar>, store: &List<bool>) -> Result<(), Memory>
+    ensures { OnOk result (out.new.items ≡ out.old.items ++ bool_lines globals.now store.now) }
 {
     for at in 0..globals.len().min(store.len()) {
-        put_value(out, &globals.get(at).name, *store.get(at))?;
+        put_value(out, &globals.get(at).name, &Value::Bool(*store.get(at)))?;
     }
     Ok(())
 }
@@ -116,7 +130,7 @@ fn put_rejected(out: &mut Vec<u8>, program: &Program, counter: &Counter) -> Resu
     put(out, b"rejected ")?;
     put_condition(out, program, counter.condition)?;
     put(out, b"\n")?;
-    put_values(out, &program.globals, &counter.store)?;
+    put_bools(out, &program.globals, &counter.store)?;
     Ok(())
 }
 
@@ -140,7 +154,11 @@ fn put_verdict(out: &mut Vec<u8>, program: &Program, verdict: &Verdict) -> Resul
 }
 
 /// What is reported of a program and what a check finds of it.
-pub(crate) fn report(alloc: Global, program: &Program, verdict: &Verdict) -> Result<Vec<u8>, Memory>
+pub(crate) fn report_verdict(
+    alloc: Global,
+    program: &Program,
+    verdict: &Verdict,
+) -> Result<Vec<u8>, Memory>
     ensures { IfOk result (λ out. out.items ≡ verdict_text program.now verdict.now) }
 {
     let mut out = Vec::new(alloc);
@@ -175,5 +193,91 @@ pub(crate) fn report_fault(alloc: Global, fault: Fault) -> Result<Vec<u8>, Memor
 {
     let mut out = Vec::new(alloc);
     put_fault(&mut out, fault)?;
+    Ok(out)
+}
+
+fn put_refusal(out: &mut Vec<u8>, refusal: Refusal) -> Result<(), Memory>
+    ensures { OnOk result (out.new.items ≡ out.old.items ++ refusal_text refusal) }
+{
+    put(out, b"refused E")?;
+    put_number(out, refusal.code as usize)?;
+    put(out, b" at item ")?;
+    put_number(out, refusal.item as usize)?;
+    put(out, b" statement ")?;
+    put_number(out, refusal.statement as usize)?;
+    put(out, b"\n")?;
+    Ok(())
+}
+
+/// What is reported of a program that breaks a static rule.
+pub(crate) fn report_refusal(alloc: Global, refusal: Refusal) -> Result<Vec<u8>, Memory>
+    ensures { IfOk result (λ out. out.items ≡ refusal_text refusal) }
+{
+    let mut out = Vec::new(alloc);
+    put_refusal(&mut out, refusal)?;
+    Ok(out)
+}
+
+/// What is reported of a script whose store or moves don't fit.
+pub(crate) fn report_misfit(alloc: Global, number: usize) -> Result<Vec<u8>, Memory>
+    ensures { IfOk result (λ out. out.items ≡ misfit_text number) }
+{
+    let mut out = Vec::new(alloc);
+    put_place(&mut out, b"refused E80 at entry ", number)?;
+    Ok(out)
+}
+
+/// The word of an answer.
+fn answer_name(answer: Stepped) -> &'static [u8]
+    ensures { result.now ≡ answer_text answer }
+{
+    match answer {
+        Stepped::Moved => b"moved",
+        Stepped::Blocked => b"blocked",
+        Stepped::NoThread => b"nothread",
+        Stepped::Ended => b"ended",
+        Stepped::Failing => b"failing",
+        Stepped::BadChoices => b"badchoices",
+    }
+}
+
+/// A line that says why a run stopped, if it did.
+fn put_stopped(out: &mut Vec<u8>, stopped: Option<Stepped>) -> Result<(), Memory>
+    ensures { OnOk result (out.new.items ≡ out.old.items ++ stopped_text stopped) }
+{
+    if let Some(answer) = stopped {
+        put(out, b"stopped ")?;
+        put(out, answer_name(answer))?;
+        put(out, b"\n")?;
+    }
+    Ok(())
+}
+
+/// A line that says which thread fails.
+fn put_failing(out: &mut Vec<u8>, failing: Option<u32>) -> Result<(), Memory>
+    ensures { OnOk result (out.new.items ≡ out.old.items ++ failing_text failing) }
+{
+    match failing {
+        Some(thread) => put_place(out, b"failing ", thread as usize),
+        None => put(out, b"not failing\n"),
+    }
+}
+
+fn put_run(out: &mut Vec<u8>, program: &Program, trace: &Trace) -> Result<(), Memory>
+    ensures { OnOk result (out.new.items ≡ out.old.items ++ run_text program.now trace.now) }
+{
+    put_place(out, b"moved ", trace.moved)?;
+    put_stopped(out, trace.stopped)?;
+    put_failing(out, trace.failing)?;
+    put_values(out, &program.globals, &trace.end.values)?;
+    Ok(())
+}
+
+/// What is reported of a schedule.
+pub(crate) fn report_run(alloc: Global, program: &Program, trace: &Trace) -> Result<Vec<u8>, Memory>
+    ensures { IfOk result (λ out. out.items ≡ run_text program.now trace.now) }
+{
+    let mut out = Vec::new(alloc);
+    put_run(&mut out, program, trace)?;
     Ok(out)
 }

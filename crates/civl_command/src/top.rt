@@ -1,8 +1,9 @@
 // The top call.
 ghost use Rattle.std.specs.Prelude.{◌≡◌, map, string_bytes};
+ghost use Rattle.civl_meaning.specs.Layers.{lowest, topmost};
 ghost use Rattle.civl_command.specs.Words.{words_of};
 ghost use Rattle.civl_command.specs.Judge.{reading, writing, Explains};
-ghost use Rattle.civl_command.specs.Promises.{AcceptsRightly, PrintsRightly, RejectsRightly, RefusesRightly, IsComplete};
+ghost use Rattle.civl_command.specs.Promises.{AcceptsRightly, PrintsRightly, ReplaysRightly, RejectsRightly, RefusesRightly, IsComplete};
 
 use crate::judge::judge;
 use crate::status::Status;
@@ -35,9 +36,10 @@ fn respond<S: Source, K: Sink>(
 /// Does what the words after the program's name say: reads the input from the source, and writes one report to the
 /// sink.
 ///
-/// The words are `check` or `fmt`; every other list of words is [`Status::Usage`], and nothing is read. Under `check`
-/// the program that the input spells is judged, under `fmt` its canonical text is written. The whole input is read
-/// before anything is written, up to 1,048,576 bytes and one more. The report is made whole before its first
+/// The words are `check`, `fmt`, `run low` or `run top`; every other list of words is [`Status::Usage`], and nothing is read.
+/// Under `check` the program that the input spells is judged, under `fmt` its canonical text is written, and under `run` the
+/// schedule of a script is replayed on its lowest or its topmost program. The whole input is read before anything is written,
+/// up to 1,048,576 bytes and one more. The report is made whole before its first
 /// byte is written, so on [`Status::ReadFault`] and [`Status::Memory`] nothing is written, and on
 /// [`Status::WriteFault`] a first part of the report.
 pub fn command<S: Source, K: Sink>(
@@ -61,6 +63,16 @@ pub fn command<S: Source, K: Sink>(
         (writing (K.written sink.old) (K.faults sink.old) (K.stalls sink.old))
         (writing (K.written sink.new) (K.faults sink.new) (K.stalls sink.new)) }
     ensures printed { result ≡ Status.Done → map string_bytes words.now.items ≡ words_of Command.Fmt → PrintsRightly
+        (reading (S.left source.old) (S.faults source.old))
+        (reading (S.left source.new) (S.faults source.new))
+        (writing (K.written sink.old) (K.faults sink.old) (K.stalls sink.old))
+        (writing (K.written sink.new) (K.faults sink.new) (K.stalls sink.new)) }
+    ensures low { result ≡ Status.Done → map string_bytes words.now.items ≡ words_of Command.RunLow → ReplaysRightly lowest
+        (reading (S.left source.old) (S.faults source.old))
+        (reading (S.left source.new) (S.faults source.new))
+        (writing (K.written sink.old) (K.faults sink.old) (K.stalls sink.old))
+        (writing (K.written sink.new) (K.faults sink.new) (K.stalls sink.new)) }
+    ensures top { result ≡ Status.Done → map string_bytes words.now.items ≡ words_of Command.RunTop → ReplaysRightly topmost
         (reading (S.left source.old) (S.faults source.old))
         (reading (S.left source.new) (S.faults source.new))
         (writing (K.written sink.old) (K.faults sink.old) (K.stalls sink.old))

@@ -1,14 +1,13 @@
-use Rattle.civl_command.proofs.Bridging.{limits_of, right_of}
-use Rattle.std.proofs.Common.{inl, inr}
+use Rattle.std.proofs.Common.{refl, inl, ap, ◌∙◌}
+use Rattle.civl_tree.specs.declared.program.Program.{Program}
+use Rattle.civl_command.specs.Report.{verdict_text}
+use Rattle.civl_command.specs.Outcome.{Judged}
 use Rattle.civl_command.proofs.judge.judge_program.Goals as goal
-
-pub decide-requires-clause-limits : goal.decide-requires-clause-limits
-decide-requires-clause-limits c = limits_of c.args.program.now c.requires.rules
 
 pub returns : goal.returns
 returns c = inl (record {
-  verdict = c.in-Ok.verdict;
-  right = right_of c.args.program.now c.in-Ok.verdict c.requires c.in-Ok.ensures;
+  outcome = Judged c.args.src.now c.in-Ok.verdict;
+  says_so = (refl, record { form = c.requires.form; rules = c.requires.rules }, c.in-Ok.ensures);
   status_is = c.status_of.ensures;
-  report_is = c.in-Ok-report.ensures;
+  report_is = c.in-Ok-report_verdict.ensures ∙ ap (λ (p : Program). verdict_text p c.in-Ok.verdict) c.program.ensures.same;
 })

@@ -1,4 +1,4 @@
-use Rattle.civl_command.proofs.Promising.{accepts_by, prints_by, rejects_by, refuses_by, complete_by}
+use Rattle.civl_command.proofs.Promising.{accepts_by, prints_by, low_by, top_by, rejects_by, refuses_by, complete_by}
 use Rattle.civl_command.proofs.top.command.Goals as goal
 
 pub returns-clause-accepted : goal.returns-clause-accepted
@@ -6,6 +6,12 @@ returns-clause-accepted g c = λ is check. accepts_by _ _ _ _ _ (rw is at c.resp
 
 pub returns-clause-printed : goal.returns-clause-printed
 returns-clause-printed g c = λ is fmt. prints_by _ _ _ _ _ (rw is at c.respond.ensures) fmt
+
+pub returns-clause-low : goal.returns-clause-low
+returns-clause-low g c = λ is low. low_by _ _ _ _ _ (rw is at c.respond.ensures) low
+
+pub returns-clause-top : goal.returns-clause-top
+returns-clause-top g c = λ is top. top_by _ _ _ _ _ (rw is at c.respond.ensures) top
 
 pub returns-clause-rejected : goal.returns-clause-rejected
 returns-clause-rejected g c = λ is. rejects_by _ _ _ _ _ (rw is at c.respond.ensures)
