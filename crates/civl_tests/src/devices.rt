@@ -70,7 +70,7 @@ fn usage_reads_nothing(rt: HostRuntime) -> Result<(), Fail> {
     let mut sink = PlainSink::new(alloc, 100)?;
     let status = command(
         alloc,
-        &words(alloc, &["run", "low"])?,
+        &words(alloc, &["run", "middle"])?,
         &mut source,
         &mut sink,
     );

@@ -67,7 +67,7 @@ fn first_text(alloc: Global, texts: &[(&str, &str)]) -> Result<Option<usize>, Fa
 }
 
 /// Lists of words that are no command.
-const WORDS: [&[&str]; 9] = [
+const WORDS: [&[&str]; 10] = [
     &[],
     &["check", "--budget"],
     &["check", "--budget", "1"],
@@ -75,7 +75,8 @@ const WORDS: [&[&str]; 9] = [
     &["Check"],
     &["conditions"],
     &["fmt", "fmt"],
-    &["run", "low"],
+    &["run"],
+    &["run", "middle"],
     &["--help"],
 ];
 
@@ -86,9 +87,9 @@ fn words_that_are_no_command(rt: HostRuntime) -> Result<(), Fail> {
     Ok(())
 }
 
-// Edits of the flag program that leave the flag form, or break a static rule, and still spell a program.
+// Edits of the flag program that leave the flag form, and still spell a program.
 
-const OTHER_GLOBALS: [Edit; 10] = [
+const OTHER_GLOBALS: [Edit; 7] = [
     // The header.
     ("civl 1;", "civl 2;"),
     ("layers 1;", "layers 2;"),
@@ -98,24 +99,19 @@ const OTHER_GLOBALS: [Edit; 10] = [
     ("bool layers 0 to 1", "bool layers 1 to 1"),
     ("bool layers 0 to 1", "word(1) layers 0 to 1"),
     ("global f", "global linear f"),
-    ("global f", "global g"),
-    ("init", "global f : bool layers 0 to 1; init"),
-    ("init", "global Set : bool layers 0 to 1; init"),
 ];
 
-const OTHER_EXPRESSIONS: [Edit; 8] = [
+const OTHER_EXPRESSIONS: [Edit; 6] = [
     // What an expression may hold.
     ("init true", "init (true == true)"),
     ("init true", "init (true => true)"),
     ("init true", "init (f ? f : f)"),
     ("init true", "init done"),
     ("init true", "init old(f)"),
-    ("init true", "init g"),
-    ("init true", "init Set"),
     ("init true;", "init true; invariant 1 true;"),
 ];
 
-const OTHER_ACTIONS: [Edit; 13] = [
+const OTHER_ACTIONS: [Edit; 6] = [
     // Actions.
     ("action Set()", "action Set(val x : bool)"),
     ("Set() -> ()", "Set() -> (val x : bool)"),
@@ -123,35 +119,110 @@ const OTHER_ACTIONS: [Edit; 13] = [
     ("layers 0 to 0", "layers 0 to 1"),
     ("0 atomic", "0 right"),
     ("0 atomic", "0 both"),
-    ("gate true", "gate g"),
-    ("guard true", "guard (! (! g))"),
-    ("f := true;", "f := true; f := false;"),
-    ("f := true;", "g := true;"),
-    ("f := true;", "f := g;"),
-    ("f := true;", "Set := true;"),
-    ("action AtomSet", "action Set"),
 ];
 
-const OTHER_PROCEDURES: [Edit; 16] = [
+const OTHER_PROCEDURES: [Edit; 8] = [
     // Procedures: what they refine and what they do.
-    ("refines AtomSet", "refines Set"),
-    ("refines AtomSet", "refines DoSet"),
     ("refines AtomSet with () layer 1", "root"),
     ("with () layer 1", "with (true) layer 1"),
     ("with () layer 1", "with () layer 2"),
     ("{ call", "{ var x : bool; call"),
-    ("call Set", "call AtomSet"),
-    ("call Set", "call DoSet"),
-    ("call Set", "call Reset"),
     ("commit;", ""),
     ("commit;", "commit; commit;"),
     ("call Set() -> (); commit;", "commit; call Set() -> ();"),
     ("call Set() -> ();", "assert true;"),
-    ("proc DoSet", "proc Set"),
-    // Threads.
-    ("thread DoSet", "thread Set"),
-    ("thread DoSet", "thread Reset"),
 ];
+
+/// Edits of the flag program that break a static rule, and the report.
+const BROKEN: [Row; 20] = [
+    (
+        &[("global f", "global g")],
+        "refused E11 at item 2 statement 0\n",
+    ),
+    (
+        &[("init", "global f : bool layers 0 to 1; init")],
+        "refused E10 at item 1 statement 0\n",
+    ),
+    (
+        &[("init", "global Set : bool layers 0 to 1; init")],
+        "refused E10 at item 3 statement 0\n",
+    ),
+    (
+        &[("init true", "init g")],
+        "refused E11 at item 1 statement 0\n",
+    ),
+    (
+        &[("init true", "init Set")],
+        "refused E11 at item 1 statement 0\n",
+    ),
+    (
+        &[("gate true", "gate g")],
+        "refused E11 at item 2 statement 0\n",
+    ),
+    (
+        &[("guard true", "guard (! (! g))")],
+        "refused E11 at item 2 statement 0\n",
+    ),
+    (
+        &[("f := true;", "f := true; f := false;")],
+        "refused E10 at item 2 statement 0\n",
+    ),
+    (
+        &[("f := true;", "g := true;")],
+        "refused E11 at item 2 statement 0\n",
+    ),
+    (
+        &[("f := true;", "f := g;")],
+        "refused E11 at item 2 statement 0\n",
+    ),
+    (
+        &[("f := true;", "Set := true;")],
+        "refused E11 at item 2 statement 0\n",
+    ),
+    (
+        &[("action AtomSet", "action Set")],
+        "refused E10 at item 3 statement 0\n",
+    ),
+    (
+        &[("refines AtomSet", "refines Set")],
+        "refused E33 at item 4 statement 0\n",
+    ),
+    (
+        &[("refines AtomSet", "refines DoSet")],
+        "refused E11 at item 4 statement 0\n",
+    ),
+    (
+        &[("call Set", "call AtomSet")],
+        "refused E33 at item 4 statement 0\n",
+    ),
+    (
+        &[("call Set", "call DoSet")],
+        "refused E32 at item 4 statement 0\n",
+    ),
+    (
+        &[("call Set", "call Reset")],
+        "refused E11 at item 4 statement 0\n",
+    ),
+    (
+        &[("proc DoSet", "proc Set")],
+        "refused E10 at item 4 statement 0\n",
+    ),
+    (
+        &[("thread DoSet", "thread Set")],
+        "refused E11 at item 5 statement 0\n",
+    ),
+    (
+        &[("thread DoSet", "thread Reset")],
+        "refused E11 at item 5 statement 0\n",
+    ),
+];
+
+#[test]
+fn broken_rules(rt: HostRuntime) -> Result<(), Fail> {
+    let wrong = first_row(rt.alloc(), &BROKEN)?;
+    assert_eq!(rt; wrong, None);
+    Ok(())
+}
 
 #[test]
 fn other_globals_are_untaken(rt: HostRuntime) -> Result<(), Fail> {
@@ -273,7 +344,7 @@ const STARTS: [Row; 5] = [
     ),
     (
         &[("init true", "init false"), ("call Set", "call Reset")],
-        UNTAKEN,
+        "refused E11 at item 4 statement 0\n",
     ),
 ];
 
@@ -304,7 +375,7 @@ const SHAPES: [Row; 7] = [
             "thread",
             "proc DoSet() -> () refines AtomSet with () layer 1 { call Set() -> (); commit; } thread",
         )],
-        UNTAKEN,
+        "refused E10 at item 5 statement 0\n",
     ),
     (&[("thread DoSet();", "// thread DoSet();")], ACCEPTED),
     (&[("thread", "thread DoSet(); thread")], ACCEPTED),
@@ -405,7 +476,10 @@ const TEXTS: [(&str, &str); 9] = [
         "civl 1;layers 1;permissions 1;init (! true);",
         "refused E70 at item 0\n",
     ),
-    ("civl 1;layers 1;permissions 1;init x;", UNTAKEN),
+    (
+        "civl 1;layers 1;permissions 1;init x;",
+        "refused E11 at item 0 statement 0\n",
+    ),
     (
         "civl 1;layers 1;permissions 1;init true;;",
         "refused E03 at token 12\n",
@@ -459,7 +533,13 @@ fn limits(rt: HostRuntime) -> Result<(), Fail> {
     let many = repeated(alloc, FLAG, "thread DoSet();", 63, "")?;
     assert!(rt; gives(alloc, many.as_slice(), ACCEPTED)?);
     let more = repeated(alloc, FLAG, "thread DoSet();", 64, "")?;
-    assert!(rt; gives(alloc, more.as_slice(), UNTAKEN)?);
+    assert!(rt;
+        gives(
+            alloc,
+            more.as_slice(),
+            "refused E12 at item 69 statement 0\n"
+        )?
+    );
     let blank = repeated(alloc, "", " ", 1_048_576, "")?;
     assert!(rt; gives(alloc, blank.as_slice(), "refused E03 at token 0\n")?);
     let long = repeated(alloc, "", " ", 1_048_577, "")?;
