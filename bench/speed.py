@@ -4,6 +4,7 @@
 Usage: speed.py BINARY        (crates/civl/out/civl after `rt run` in crates/civl)
 
 Each line: what the text is, its bytes, the seconds of `fmt` and of `check`, and the first line of what `check` prints.
+Then scripts: the seconds of `run low`, and the first line of what it prints.
 """
 import subprocess
 import sys
@@ -49,9 +50,44 @@ TEXTS = {
 }
 
 
-def timed(binary, word, text):
+def named(letter, count):
+    return ["%s%d" % (letter, number) for number in range(count)]
+
+
+def at_all_limits():
+    """A script whose program is at all limits at once: 64 globals, 128 actions, 64 procedures of 32 names, 256 cut points, and
+    a megabyte of calls."""
+    ins, outs = named("p", 15), named("o", 15)
+    params = ", ".join("val %s : word(32)" % name for name in ins)
+    gives = ", ".join("val %s : word(32)" % name for name in outs)
+    updates = " ".join("%s := %s;" % (out, into) for out, into in zip(outs, ins))
+    parts = ["civl 2; layers 8; permissions 5;\n"]
+    parts += ["global g%d : word(32) layers 0 to 8;\n" % number for number in range(64)]
+    parts.append("init true;\n")
+    parts += ["invariant %d (g%d == g%d);\n" % (number % 8 + 1, number, number) for number in range(64)]
+    for number in range(128):
+        parts.append("action A%d(%s) -> (%s) choose () layers 0 to 8 both gate true guard true { g%d := p0; %s }\n"
+                     % (number, params, gives, number % 64, updates))
+    call = "call A%%d(%s) -> (%s);\n" % (", ".join(ins), ", ".join(outs))
+    front = "proc P%%d(%s) -> (%s) refines A%%d with () layer 8 { var t : word(32); var u : word(32); yield true; yield true; yield true;\n" % (params, gives)
+    moves = "schedule\n" + "".join("g%d = 0:32;\n" % number for number in range(64))
+    room = (LIMIT - sum(map(len, parts)) - len(moves)) // 64 - len(front) - 40
+    for number in range(64):
+        body = [call % ((number + at) % 128) for at in range(room // (len(call) + 2))]
+        parts.append(front % (number, number) + "".join(body) + "commit; }\n")
+    return "".join(parts) + moves
+
+
+SCRIPTS = {
+    "a program at all limits": at_all_limits(),
+    "moves": filled(HEADER + FLAG + "thread DoSet();\nschedule f = false; ", "move 0 ();\n", ""),
+    "moves of a loop": filled(HEADER + FLAG + "proc Main() -> () root { while true { call DoSet() -> (); } }\nthread Main();\nschedule f = false; ", "move 0 ();\n", ""),
+}
+
+
+def timed(binary, words, text):
     start = time.perf_counter()
-    done = subprocess.run([binary, word], input=text.encode(), capture_output=True)
+    done = subprocess.run([binary, *words], input=text.encode(), capture_output=True)
     return time.perf_counter() - start, done.stdout.decode().split("\n")[0]
 
 
@@ -59,9 +95,12 @@ def main():
     if len(sys.argv) != 2:
         sys.exit(__doc__)
     for name, text in TEXTS.items():
-        printing, _ = timed(sys.argv[1], "fmt", text)
-        checking, line = timed(sys.argv[1], "check", text)
+        printing, _ = timed(sys.argv[1], ["fmt"], text)
+        checking, line = timed(sys.argv[1], ["check"], text)
         print(f"{name}: {len(text)} bytes, fmt {printing:.2f} s, check {checking:.2f} s, {line}")
+    for name, text in SCRIPTS.items():
+        running, line = timed(sys.argv[1], ["run", "low"], text)
+        print(f"{name}: {len(text)} bytes, run low {running:.2f} s, {line}")
 
 
 if __name__ == "__main__":
