@@ -19,7 +19,7 @@ use Rattle.civl_tree.proofs.First.{first_is_answer}
 use Rattle.civl_types.specs.Numbered.{IsNumbered}
 use Rattle.civl_bits.specs.declared.value.Value.{Value}
 use Rattle.civl_meaning.specs.declared.config.Store.{Store}
-use Rattle.civl_meaning.specs.Values.{is_true}
+use Rattle.civl_values.specs.Values.{is_true}
 use Rattle.civl_meaning.specs.Eval.{value_of}
 use Rattle.civl_meaning.specs.Scope.{global_names, global_scope}
 use Rattle.civl_meaning.specs.Initial.{IsInitial}

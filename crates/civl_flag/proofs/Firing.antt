@@ -18,7 +18,7 @@ use Rattle.civl_meaning.specs.declared.config.Fired.TheVariants as fire
 use Rattle.civl_meaning.specs.declared.config.Change.{Change}
 use Rattle.civl_meaning.specs.declared.config.Change.TheVariants.{Stays, Acts}
 use Rattle.civl_meaning.specs.declared.scope.Scope.{Scope}
-use Rattle.civl_meaning.specs.Values.{is_true, are_of}
+use Rattle.civl_values.specs.Values.{is_true, are_of}
 use Rattle.civl_meaning.specs.Eval.{value_of}
 use Rattle.civl_meaning.specs.Scope.{present, global_names, param_names, choice_names, zeros_of_params, guard_scope}
 use Rattle.civl_meaning.specs.Fired.{gate_holds, guard_holds, choices_fit, updated as made, store_after, outs_after, fires, fired_by, fired}

@@ -152,21 +152,6 @@ all_at test [] i x all is = absurd cc
 all_at test (y ∷ ys) zero x all is = let e : y ≡ x = cc in ap test (sym e) ∙ (both_true (test y) (list_all test ys) all).0
 all_at test (y ∷ ys) (suc i) x all is = all_at test ys i x (both_true (test y) (list_all test ys) all).1 is
 
--- what the form says of the globals and the procedures
-pub few_globals : (program : Program) → is_flag_form program ≡ true → length program.globals ≤ 10
-few_globals program form =
-    let items = (both_true (has_flag_header program && is_none program.invariants && is_flag_expr program.init) (has_flag_items program) form).1 in
-    let first = (both_true (are_few program.globals && list_all is_flag_global program.globals && list_all is_flag_action program.actions && list_all is_flag_proc program.procs) (list_all is_flag_thread program.threads) items).0 in
-    let second = (both_true (are_few program.globals && list_all is_flag_global program.globals && list_all is_flag_action program.actions) (list_all is_flag_proc program.procs) first).0 in
-    let third = (both_true (are_few program.globals && list_all is_flag_global program.globals) (list_all is_flag_action program.actions) second).0 in
-    leb-true _ _ (both_true (are_few program.globals) (list_all is_flag_global program.globals) third).0
-
-pub flag_procs : (program : Program) → is_flag_form program ≡ true → list_all is_flag_proc program.procs ≡ true
-flag_procs program form =
-    let items = (both_true (has_flag_header program && is_none program.invariants && is_flag_expr program.init) (has_flag_items program) form).1 in
-    let first = (both_true (are_few program.globals && list_all is_flag_global program.globals && list_all is_flag_action program.actions && list_all is_flag_proc program.procs) (list_all is_flag_thread program.threads) items).0 in
-    (both_true (are_few program.globals && list_all is_flag_global program.globals && list_all is_flag_action program.actions) (list_all is_flag_proc program.procs) first).1
-
 -- the number of the conditions
 pub length-conditions_of : (program : Program) → length (conditions_of program) ≡ length (keeps_from 0 program.actions) + 5 * length program.procs
 length-conditions_of program = length-append (keeps_from 0 program.actions) (paths_from 0 program.procs) ∙ ap (λ n. length (keeps_from 0 program.actions) + n) (length-paths_from 0 program.procs)

@@ -21,7 +21,7 @@ use Rattle.civl_meaning.specs.declared.config.State.TheVariants.{Before}
 use Rattle.civl_meaning.specs.declared.config.Running.{Running}
 use Rattle.civl_meaning.specs.declared.config.Config.{Config}
 use Rattle.civl_meaning.specs.declared.config.Stepped.TheVariants as answer
-use Rattle.civl_meaning.specs.Values.{is_true, is_of, are_of}
+use Rattle.civl_values.specs.Values.{is_true, is_of, are_of}
 use Rattle.civl_meaning.specs.Eval.{values_of}
 use Rattle.civl_meaning.specs.Scope.{global_names, global_scope}
 use Rattle.civl_meaning.specs.Meaning.{proc_number}

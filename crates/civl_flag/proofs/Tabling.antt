@@ -87,17 +87,6 @@ pub same_store-end : (high low : List (List Bool)) (i store : ℕ) → length hi
 same_store-end high low i store first second =
     ap₂ (λ (xs ys : List (List Bool)). same_store (column store xs) (column store ys)) (drop_all i high (omega arith)) (drop_all i low (omega arith))
 
-pub same_bool-same : (a b : Bool) → a ≡ b → same_bool a b ≡ true
-same_bool-same true b e = sym e
-same_bool-same false true e = e
-same_bool-same false false e = refl
-
-pub same_bool-other : (a b : Bool) → (a ≡ b → ⊥) → same_bool a b ≡ false
-same_bool-other true true other = absurd (other refl)
-same_bool-other true false other = refl
-same_bool-other false true other = refl
-same_bool-other false false other = absurd (other refl)
-
 -- no update is left, so the global keeps its value
 pub assigned-end : (updates : List Update) (i : ℕ) (name : Name) → length updates ≡ i → assigned (drop i updates) name ≡ expr.Name name
 assigned-end updates i name all = ap (λ (us : List Update). assigned us name) (drop_all i updates (omega arith))

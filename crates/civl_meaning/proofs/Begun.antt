@@ -29,7 +29,8 @@ use Rattle.civl_tree.proofs.First.{first_is_answer}
 use Rattle.civl_meaning.specs.declared.config.Store.{Store}
 use Rattle.civl_meaning.specs.declared.config.Plain.{Plain}
 use Rattle.civl_meaning.specs.Truth.{place_of}
-use Rattle.civl_meaning.specs.Values.{HaveSorts, IsStore}
+use Rattle.civl_values.specs.Values.{HaveSorts}
+use Rattle.civl_meaning.specs.Stores.{IsStore}
 use Rattle.civl_meaning.specs.Eval.{values_of}
 use Rattle.civl_meaning.specs.Scope.{global_scope}
 use Rattle.civl_meaning.specs.Sorts.{IsSorted}

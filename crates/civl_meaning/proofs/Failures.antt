@@ -16,7 +16,7 @@ use Rattle.civl_meaning.specs.declared.config.Running.{Running}
 use Rattle.civl_meaning.specs.declared.config.Stepped.TheVariants as answer
 use Rattle.civl_meaning.specs.declared.config.Fired.TheVariants as fire
 use Rattle.civl_meaning.specs.declared.config.Change.TheVariants.{Stays, Goes}
-use Rattle.civl_meaning.specs.Values.{is_true}
+use Rattle.civl_values.specs.Values.{is_true}
 use Rattle.civl_meaning.specs.Eval.{value_of, values_of}
 use Rattle.civl_meaning.specs.Scope.{frame_names, frame_scope}
 use Rattle.civl_meaning.specs.Fired.{gate_holds, choices_fit, fires, fired_by, fired}

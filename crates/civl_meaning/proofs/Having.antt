@@ -19,10 +19,10 @@ use Rattle.civl_tree.specs.rules.Sorted.{any_missorted}
 use Rattle.civl_tree.specs.rules.Exprs.{widths_fit, indices_fit}
 use Rattle.civl_meaning.specs.declared.scope.Scope.{Scope}
 use Rattle.civl_meaning.specs.Truth.{place_of}
-use Rattle.civl_meaning.specs.Values.{is_of, are_of, HasSort, HaveSorts}
+use Rattle.civl_values.specs.Values.{is_of, are_of, HasSort, HaveSorts}
 use Rattle.civl_meaning.specs.Eval.{look, value_of, values_of}
 use Rattle.civl_meaning.specs.Sorts.{IsSorted}
-use Rattle.civl_meaning.proofs.Sorting.{both, same_sort-true}
+use Rattle.civl_values.proofs.Sorting.{both, same_sort-true}
 use Rattle.civl_meaning.proofs.Soundness.{values_have_their_sorts}
 
 pub no_sorts : HaveSorts [] []

@@ -8,8 +8,7 @@ pub mod Schedules
 pub mod Stores
 pub mod Safe
 pub mod Agreeing
-pub mod Zeros
-pub mod Operating
+pub mod Fitting
 pub mod Joining
 pub mod Finding
 pub mod Putting
@@ -17,7 +16,6 @@ pub mod Shifting
 pub mod Firsts
 pub mod Rests
 pub mod Resting
-pub mod Sorting
 pub mod Soundness
 pub mod Frames
 pub mod Having

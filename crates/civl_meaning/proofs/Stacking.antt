@@ -24,7 +24,7 @@ use Rattle.civl_meaning.specs.declared.config.Fired.{Fired}
 use Rattle.civl_meaning.specs.declared.config.Fired.TheVariants as fire
 use Rattle.civl_meaning.specs.declared.config.Change.{Change}
 use Rattle.civl_meaning.specs.declared.config.Change.TheVariants.{Stays, Goes, Acts, Enters, Leaves, Spawns}
-use Rattle.civl_meaning.specs.Values.{is_true}
+use Rattle.civl_values.specs.Values.{is_true}
 use Rattle.civl_meaning.specs.Eval.{value_of, values_of}
 use Rattle.civl_meaning.specs.Scope.{frame_names, frame_scope}
 use Rattle.civl_meaning.specs.Fired.{gate_holds, choices_fit, fired}

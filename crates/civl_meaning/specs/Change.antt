@@ -18,7 +18,7 @@ use Rattle.civl_meaning.specs.declared.config.Fired.TheVariants as fire
 use Rattle.civl_meaning.specs.declared.config.Change.{Change}
 use Rattle.civl_meaning.specs.declared.config.Change.TheVariants.{Stays, Goes, Acts, Enters, Leaves, Spawns}
 use Rattle.civl_meaning.specs.Truth.{place_of}
-use Rattle.civl_meaning.specs.Values.{is_true}
+use Rattle.civl_values.specs.Values.{is_true}
 use Rattle.civl_meaning.specs.Eval.{value_of, values_of}
 use Rattle.civl_meaning.specs.Scope.{zeros_of_params, zeros_of_locals, frame_names, frame_scope}
 use Rattle.civl_meaning.specs.Fired.{gate_holds, choices_fit, fired}

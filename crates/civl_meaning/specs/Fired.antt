@@ -11,7 +11,7 @@ use Rattle.civl_meaning.specs.declared.config.Fired.{Fired}
 use Rattle.civl_meaning.specs.declared.config.Fired.TheVariants.{GateFalse, Blocked, Moved}
 use Rattle.civl_meaning.specs.declared.scope.Scope.{Scope}
 use Rattle.civl_meaning.specs.Truth.{place_of}
-use Rattle.civl_meaning.specs.Values.{is_true, are_of}
+use Rattle.civl_values.specs.Values.{is_true, are_of}
 use Rattle.civl_meaning.specs.Eval.{value_of}
 use Rattle.civl_meaning.specs.Scope.{global_names, param_names, zeros_of_params, gate_scope, guard_scope}
 

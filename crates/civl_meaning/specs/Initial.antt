@@ -6,7 +6,8 @@ use Rattle.civl_tree.specs.declared.program.Thread.{Thread}
 use Rattle.civl_tree.specs.declared.program.Program.{Program}
 use Rattle.std.specs.Prelude.{ℕ}
 use Rattle.civl_meaning.specs.declared.config.Store.{Store}
-use Rattle.civl_meaning.specs.Values.{is_true, IsStore}
+use Rattle.civl_values.specs.Values.{is_true}
+use Rattle.civl_meaning.specs.Stores.{IsStore}
 use Rattle.civl_meaning.specs.Eval.{value_of, values_of}
 use Rattle.civl_meaning.specs.Scope.{global_scope}
 use Rattle.civl_meaning.specs.Meaning.{proc_number}

@@ -1,8 +1,6 @@
 pub mod Truth
 pub mod Table
-pub mod Operators
-pub mod Operands
-pub mod Values
+pub mod Stores
 pub mod Sorts
 pub mod Eval
 pub mod Scope

@@ -10,7 +10,7 @@ use Rattle.civl_tree.specs.declared.program.Local.{Local}
 use Rattle.civl_tree.specs.declared.program.Proc.{Proc}
 use Rattle.civl_meaning.specs.declared.config.Store.{Store}
 use Rattle.civl_meaning.specs.declared.scope.Scope.{Scope}
-use Rattle.civl_meaning.specs.Values.{zero_of}
+use Rattle.civl_values.specs.Values.{zero_of}
 
 abbrev pub global_names : List Global → List Name
 global_names globals = map (λ g. g.name) globals

@@ -3,7 +3,7 @@ ghost use Rattle.std.specs.Prelude.{◌≡◌, ◌+◌, ◌^◌, ◌<◌, [], le
 ghost use Rattle.civl_tree.specs.declared.stmt.Stmt.{out-Stmt};
 ghost use Rattle.civl_meaning.specs.declared.config.State.TheVariants.{Before};
 ghost use Rattle.civl_meaning.specs.Truth.{place_of};
-ghost use Rattle.civl_meaning.specs.Values.{is_true};
+ghost use Rattle.civl_values.specs.Values.{is_true};
 ghost use Rattle.civl_meaning.specs.Eval.{value_of, values_of};
 ghost use Rattle.civl_meaning.specs.Scope.{frame_names, frame_scope};
 ghost use Rattle.civl_meaning.specs.Names.{names_of};

@@ -1,6 +1,6 @@
 // What comes of an action.
 ghost use Rattle.std.specs.Prelude.{◌≡◌, ◌<◌, length, map, slice_get, slice_set, IfOk, IfSome};
-ghost use Rattle.civl_meaning.specs.Values.{are_of};
+ghost use Rattle.civl_values.specs.Values.{are_of};
 ghost use Rattle.civl_meaning.specs.Scope.{global_names, param_names};
 ghost use Rattle.civl_meaning.specs.Names.{names_of};
 ghost use Rattle.civl_meaning.specs.Settings.{scope_in};
@@ -10,9 +10,10 @@ use crate::config::{Fired, Store};
 use crate::expressions::{holds, value};
 use crate::names::{Names, place};
 use crate::setting::{Setting, at_gate, at_guard};
-use crate::sorts::{is_of, push_params};
+use crate::sorts::push_params;
 use civl_bits::Value;
 use civl_tree::{Action, Choice, Global, List, Memory, Param, Program, Update};
+use civl_values::is_of;
 use std::alloc::Global as Alloc;
 
 /// The names of the globals alone, as targets.
@@ -55,7 +56,7 @@ pub fn write(values: &mut Vec<Value>, at: usize, value: Value)
 }
 
 /// Whether values have the number and the sorts of choices.
-#[tactic(auto, using(crate::proofs::Operating::fitting))]
+#[tactic(auto, using(crate::proofs::Fitting::fitting))]
 fn fit(choices: &[Choice], chosen: &[Value]) -> bool
     ensures { result ≡ are_of chosen.now (map (λ c. c.sort) choices.now) }
 {

@@ -5,7 +5,6 @@ ghost use Rattle.civl_meaning.specs.Failing.{FailingIsAnswered};
 ghost use Rattle.civl_meaning.specs.Run.{RunsAreMade, RunsJoin};
 ghost use Rattle.civl_meaning.specs.Sorts.{ValuesHaveTheirSorts};
 ghost use Rattle.civl_meaning.specs.Step.{RefusedStays, OthersStay};
-ghost use Rattle.civl_meaning.specs.Values.{ZerosHaveTheirSorts};
 
 pub mod configs;
 pub mod frames;
@@ -15,11 +14,6 @@ pub mod schedules;
 pub mod scopes;
 pub mod steps;
 pub mod stores;
-
-/// The zero of a sort has that sort.
-pub fn zeros_have_their_sorts()
-    ensures { ZerosHaveTheirSorts }
-{}
 
 /// An expression whose sorts fit has a value of its sort, where the names of its scope have values of theirs.
 pub fn values_have_their_sorts()

@@ -1,7 +1,7 @@
 // What the names of an expression stand for, at the places of a program.
 ghost use Rattle.std.specs.Prelude.{◌≡◌, ◌++◌, slice_index_or};
 ghost use Rattle.civl_meaning.specs.declared.scope.Scope.{Scope as Given};
-ghost use Rattle.civl_meaning.specs.Operators.{nothing};
+ghost use Rattle.civl_values.specs.Operators.{nothing};
 ghost use Rattle.civl_meaning.specs.Eval.{look};
 ghost use Rattle.civl_meaning.specs.Names.{names_of};
 ghost use Rattle.civl_meaning.specs.Settings.{values_in, scope_in};
@@ -9,11 +9,10 @@ ghost use Rattle.civl_meaning.specs.Scope.{zeros_of_params, zeros_of_globals, gl
 
 use crate::config::Store;
 use crate::names::{Names, place};
-use crate::operators::nothing;
 use crate::scope::Scope;
-use crate::sorts::zero;
 use civl_bits::Value;
 use civl_tree::{Action, Global, Name, Param, Proc};
+use civl_values::{nothing, zero};
 
 /// What the names of an expression stand for.
 pub trait Bindings {

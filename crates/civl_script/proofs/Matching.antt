@@ -50,12 +50,6 @@ values_more [] (b ∷ ys) x y h k = absurd h
 values_more (a ∷ xs) [] x y h k = absurd h
 values_more (a ∷ xs) (b ∷ ys) x y h k = (h.0, values_more xs ys x y h.1 k)
 
-pub values_last : (xs : List Entry) (ys : List Value) (x : Entry) → AreValuesOf (xs ++ x ∷ []) ys → (y : Value) × IsValueOf x y
-values_last [] [] x h = absurd h
-values_last [] (b ∷ ys) x h = (b, h.0)
-values_last (a ∷ xs) [] x h = absurd h
-values_last (a ∷ xs) (b ∷ ys) x h = values_last xs ys x h.1
-
 -- ---- moves
 
 pub moves_more : (xs : List Told) (ys : List Move) (x : Told) (y : Move) → AreMovesOf xs ys → IsMoveOf x y → AreMovesOf (xs ++ x ∷ []) (ys ++ y ∷ [])
@@ -103,12 +97,6 @@ entries_end gs es vs at is differ h =
       before = (vs, h);
       wrong = λ ws all. differ (let count = entries_count _ _ _ all in let one = length-take (at + 1) gs in let two = length-take (at + 1) es in grind (arith, count, one, two));
     }
-
--- all entries
-pub entries_all : (gs : List Global) (es : List Entry) (vs : List Value) (at : ℕ) → at ≡ min (length gs) (length es) → length gs ≡ length es
-    → AreEntriesOf (take at gs) (take at es) vs → AreEntriesOf gs es vs
-entries_all gs es vs at is same h =
-    subst (λ xs. AreEntriesOf xs es vs) (take_all at gs (grind (arith, is, same))) (subst (λ xs. AreEntriesOf (take at gs) xs vs) (take_all at es (grind (arith, is, same))) h)
 
 pub values_on : (xs : List Entry) (ys : List Value) (at : ℕ) (x : Entry) (y : Value) → at < length xs → x ≡ get_or xs at x → AreValuesOf (take at xs) ys → IsValueOf x y
     → AreValuesOf (take (at + 1) xs) (ys ++ y ∷ [])

@@ -5,7 +5,7 @@ use crate::name::Name;
 
 /// The sort of a value: a bool, a word of so many bits, or a row of 2 to the `index` words of `width` bits, as
 /// `Row(index, width)`. A tree may have any numbers here; the static rules bound them.
-#[derive(Clone, Copy, Debug, PartialEq, Eq)]
+#[derive(Clone, Copy, Debug, PartialEq, Eq, Hash)]
 pub enum Sort {
     Bool,
     Word(u32),
@@ -13,7 +13,7 @@ pub enum Sort {
 }
 
 /// The operations with one operand: `!`, `~` and `-`.
-#[derive(Clone, Copy, Debug, PartialEq, Eq)]
+#[derive(Clone, Copy, Debug, PartialEq, Eq, Hash)]
 pub enum One {
     Not,
     Flip,
@@ -21,7 +21,7 @@ pub enum One {
 }
 
 /// The operations with two operands, in the order of the grammar. The last five belong to version 2.
-#[derive(Clone, Copy, Debug, PartialEq, Eq)]
+#[derive(Clone, Copy, Debug, PartialEq, Eq, Hash)]
 pub enum Two {
     Add,
     Sub,

@@ -3,7 +3,7 @@ use Rattle.std.proofs.lemmas.List.{take_rest}
 use Rattle.civl_bits.specs.declared.value.Value.{Value}
 use Rattle.civl_tree.specs.declared.expr.Expr.{Expr}
 use Rattle.civl_meaning.specs.declared.scope.Scope.{Scope}
-use Rattle.civl_meaning.specs.Values.{is_true}
+use Rattle.civl_values.specs.Values.{is_true}
 use Rattle.civl_meaning.specs.Eval.{value_of, values_of}
 use Rattle.civl_meaning.specs.Scope.{frame_scope, gate_scope}
 use Rattle.civl_meaning.specs.Fired.{gate_holds}

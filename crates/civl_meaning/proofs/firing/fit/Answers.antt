@@ -1,8 +1,8 @@
 use Rattle.std.proofs.Common.{◌≡◌, ◌∙◌, List, [], drop, map, sym, ap, arith}
 use Rattle.std.proofs.lemmas.List.{drop_all}
 use Rattle.civl_tree.specs.declared.action.Choice.{Choice}
-use Rattle.civl_meaning.specs.Values.{are_of}
-use Rattle.civl_meaning.proofs.Operating.{fits_past}
+use Rattle.civl_values.specs.Values.{are_of}
+use Rattle.civl_meaning.proofs.Fitting.{fits_past}
 use Rattle.civl_meaning.proofs.firing.fit.Goals as goal
 
 pub returns-then-at-chosen-2 : goal.returns-then-at-chosen-2

@@ -20,8 +20,8 @@ use Rattle.civl_tree.specs.declared.expr.Two.{Two}
 use Rattle.civl_tree.specs.declared.expr.Two.TheVariants.{Add, Sub, Mul, BitAnd, BitOr, BitXor, Shl, Shr, Lt, Le, Eq, Ne, And, Or, Implies, Udiv, Urem, Slt, Sle, Sar}
 use Rattle.civl_tree.specs.rules.Sorts.{same_sort, is_truth, is_word, word_sort, common_sort, words_sort, truth_over, truths_sort, slice_fits, widen_fits, join_fits, one_sort, two_sort, pick_sort, get_sort, set_sort, fill_sort, slice_sort, widen_sort, join_sort}
 use Rattle.civl_tree.specs.rules.Exprs.{is_width, is_index, literal_fits}
-use Rattle.civl_meaning.specs.Operators.{literal_value, one_value, on_word, on_words, test_words, on_bools, is_less, is_less_or_same, is_signed_less, is_signed_less_or_same, implies, two_value, pick_value, get_value, set_value, fill_value, slice_value, widen_value, join_value}
-use Rattle.civl_meaning.specs.Values.{HasSort}
+use Rattle.civl_values.specs.Operators.{literal_value, one_value, on_word, on_words, test_words, on_bools, is_less, is_less_or_same, is_signed_less, is_signed_less_or_same, implies, two_value, pick_value, get_value, set_value, fill_value, slice_value, widen_value, join_value}
+use Rattle.civl_values.specs.Values.{HasSort}
 
 pub both : (a b : Bool) → (a && b) ≡ true → (a ≡ true) × (b ≡ true)
 both true true e = (refl, refl)
@@ -30,7 +30,7 @@ both false b e = absurd (false≢true e)
 
 -- ---- sorts that are there
 
-if_some : {A : Type 0} (c : Bool) (a s : A) → (if c then Some a else None) ≡ Some s → (c ≡ true) × (a ≡ s)
+pub if_some : {A : Type 0} (c : Bool) (a s : A) → (if c then Some a else None) ≡ Some s → (c ≡ true) × (a ≡ s)
 if_some true a s e = (refl, cc)
 if_some false a s e = absurd (cc)
 
@@ -48,7 +48,7 @@ same_sort-true (Row i v) (Row j w) e =
     ap (λ (n : ℕ). Row n v) (eqb-true i j h.0) ∙ ap (λ (n : ℕ). Row j n) (eqb-true v w h.1)
 
 -- a sort that two parts have in common
-common : (o p : Option Sort) (s : Sort) → common_sort o p ≡ Some s → (o ≡ Some s) × (p ≡ Some s)
+pub common : (o p : Option Sort) (s : Sort) → common_sort o p ≡ Some s → (o ≡ Some s) × (p ≡ Some s)
 common None p s e = absurd (cc)
 common (Some t) None s e = absurd (cc)
 common (Some t) (Some u) s e =
@@ -56,43 +56,43 @@ common (Some t) (Some u) s e =
     let q = same_sort-true t u h.0 in
     (ap (λ (r : Sort). Some r) h.1, ap (λ (r : Sort). Some r) (sym q ∙ h.1))
 
-a_word : (o : Option Sort) (s : Sort) → word_sort o ≡ Some s → (w : ℕ) × (o ≡ Some (Word w)) × (Word w ≡ s)
+pub a_word : (o : Option Sort) (s : Sort) → word_sort o ≡ Some s → (w : ℕ) × (o ≡ Some (Word w)) × (Word w ≡ s)
 a_word None s e = absurd (cc)
 a_word (Some Truth) s e = absurd (cc)
 a_word (Some (Word w)) s e = (w, refl, cc)
 a_word (Some (Row i w)) s e = absurd (cc)
 
-a_truth : (o : Option Sort) → is_truth o ≡ true → o ≡ Some Truth
+pub a_truth : (o : Option Sort) → is_truth o ≡ true → o ≡ Some Truth
 a_truth None e = absurd (false≢true e)
 a_truth (Some Truth) e = refl
 a_truth (Some (Word w)) e = absurd (false≢true e)
 a_truth (Some (Row i w)) e = absurd (false≢true e)
 
-of_width : (w : ℕ) (o : Option Sort) → is_word w o ≡ true → o ≡ Some (Word w)
+pub of_width : (w : ℕ) (o : Option Sort) → is_word w o ≡ true → o ≡ Some (Word w)
 of_width w None e = absurd (false≢true e)
 of_width w (Some Truth) e = absurd (false≢true e)
 of_width w (Some (Word v)) e = ap (λ (n : ℕ). Some (Word n)) (sym (eqb-true w v e))
 of_width w (Some (Row i v)) e = absurd (false≢true e)
 
-over : (o : Option Sort) (s : Sort) → truth_over o ≡ Some s → (t : Sort) × (o ≡ Some t) × (Truth ≡ s)
+pub over : (o : Option Sort) (s : Sort) → truth_over o ≡ Some s → (t : Sort) × (o ≡ Some t) × (Truth ≡ s)
 over None s e = absurd (cc)
 over (Some t) s e = (t, refl, cc)
 
 -- ---- values of a sort
 
-bool_of : (x : Value) → HasSort x Truth → (b : Bool) × (x ≡ value.Bool b)
+pub bool_of : (x : Value) → HasSort x Truth → (b : Bool) × (x ≡ value.Bool b)
 bool_of (value.Bool b) h = (b, refl)
 bool_of (value.Word a) h = absurd (false≢true h.1)
 bool_of (value.Row r) h = absurd (false≢true h.1)
 
-word_of : (x : Value) (w : ℕ) → HasSort x (Word w) → (n : ℕ) × (x ≡ value.Word (w, n)) × IsWord w n
+pub word_of : (x : Value) (w : ℕ) → HasSort x (Word w) → (n : ℕ) × (x ≡ value.Word (w, n)) × IsWord w n
 word_of (value.Bool b) w h = absurd (false≢true h.1)
 word_of (value.Word a) w h =
     let e : a.0 ≡ w = eqb-true a.0 w h.1 in
     (a.1, ap (λ (v : ℕ). value.Word (v, a.1)) e, subst (λ (v : ℕ). IsWord v a.1) e h.0)
 word_of (value.Row r) w h = absurd (false≢true h.1)
 
-row_of : (x : Value) (i w : ℕ) → HasSort x (Row i w) → (r : Cells) × (x ≡ value.Row r) × IsRow r × (r.index ≡ i) × (r.width ≡ w)
+pub row_of : (x : Value) (i w : ℕ) → HasSort x (Row i w) → (r : Cells) × (x ≡ value.Row r) × IsRow r × (r.index ≡ i) × (r.width ≡ w)
 row_of (value.Bool b) i w h = absurd (false≢true h.1)
 row_of (value.Word a) i w h = absurd (false≢true h.1)
 row_of (value.Row r) i w h =
@@ -102,10 +102,10 @@ row_of (value.Row r) i w h =
 pub is_bool : (b : Bool) → HasSort (value.Bool b) Truth
 is_bool b = (tt, refl)
 
-is_a_word : (w n : ℕ) → IsWord w n → HasSort (value.Word (w, n)) (Word w)
+pub is_a_word : (w n : ℕ) → IsWord w n → HasSort (value.Word (w, n)) (Word w)
 is_a_word w n h = (h, eq-eqb w w refl)
 
-is_a_row : (r : Cells) (i w : ℕ) → IsRow r → r.index ≡ i → r.width ≡ w → HasSort (value.Row r) (Row i w)
+pub is_a_row : (r : Cells) (i w : ℕ) → IsRow r → r.index ≡ i → r.width ≡ w → HasSort (value.Row r) (Row i w)
 is_a_row r i w h e f = (h, rw (eq-eqb r.index i e, eq-eqb r.width w f) refl)
 
 -- ---- an operation on one part, which has a value of its sort
@@ -113,7 +113,7 @@ is_a_row r i w h e f = (h, rw (eq-eqb r.index i e, eq-eqb r.width w f) refl)
 abbrev pub Given : Option Sort → Value → Type 0
 Given o x = (t : Sort) → o ≡ Some t → HasSort x t
 
-given_bool : (o : Option Sort) (x : Value) → Given o x → is_truth o ≡ true → (b : Bool) × (x ≡ value.Bool b)
+pub given_bool : (o : Option Sort) (x : Value) → Given o x → is_truth o ≡ true → (b : Bool) × (x ≡ value.Bool b)
 given_bool o x g e = bool_of x (g Truth (a_truth o e))
 
 not_fits : (x : Value) (b : Bool) → x ≡ value.Bool b → HasSort (one_value Not x) Truth
@@ -136,7 +136,7 @@ one_fits Minus o x g s e = word_fits negative_at (λ w n h. (results_fit w n n h
 
 -- ---- on two parts
 
-two_words : (o p : Option Sort) (x y : Value) → Given o x → Given p y → (s : Sort) → words_sort o p ≡ Some s → (w m n : ℕ) × (x ≡ value.Word (w, m)) × (y ≡ value.Word (w, n)) × IsWord w m × IsWord w n × (Word w ≡ s)
+pub two_words : (o p : Option Sort) (x y : Value) → Given o x → Given p y → (s : Sort) → words_sort o p ≡ Some s → (w m n : ℕ) × (x ≡ value.Word (w, m)) × (y ≡ value.Word (w, n)) × IsWord w m × IsWord w n × (Word w ≡ s)
 two_words o p x y g h s e =
     let a = a_word (common_sort o p) s e in
     let c = common o p (Word a.0) a.1 in
@@ -144,11 +144,11 @@ two_words o p x y g h s e =
     let v = word_of y a.0 (h (Word a.0) c.1) in
     (a.0, u.0, v.0, u.1, v.1, u.2, v.2, a.2)
 
-on_words_is : (f : ℕ → ℕ → ℕ → ℕ) (w m n : ℕ) → on_words f (value.Word (w, m)) (value.Word (w, n)) ≡ value.Word (w, f w m n)
-on_words_is f w m n = rw (eq-eqb w w refl) refl
+pub words_are : (f : ℕ → ℕ → ℕ → ℕ) (w m n : ℕ) → on_words f (value.Word (w, m)) (value.Word (w, n)) ≡ value.Word (w, f w m n)
+words_are f w m n = rw (eq-eqb w w refl) refl
 
-test_words_is : (f : ℕ → ℕ → ℕ → Bool) (w m n : ℕ) → test_words f (value.Word (w, m)) (value.Word (w, n)) ≡ value.Bool (f w m n)
-test_words_is f w m n = rw (eq-eqb w w refl) refl
+pub tests_are : (f : ℕ → ℕ → ℕ → Bool) (w m n : ℕ) → test_words f (value.Word (w, m)) (value.Word (w, n)) ≡ value.Bool (f w m n)
+tests_are f w m n = rw (eq-eqb w w refl) refl
 
 abbrev Fits : (ℕ → ℕ → ℕ → ℕ) → Type 0
 Fits f = (w a b : ℕ) → a < 2 ^ w → b < 2 ^ w → f w a b < 2 ^ w
@@ -157,7 +157,7 @@ words_fit : (f : ℕ → ℕ → ℕ → ℕ) → Fits f → (o p : Option Sort)
 words_fit f fits o p x y g h s e =
     let d = two_words o p x y g h s e in
     let w = d.0 in
-    let r = ap (λ (v : Value). on_words f v y) d.3 ∙ ap (λ (v : Value). on_words f (value.Word (w, d.1)) v) d.4 ∙ on_words_is f w d.1 d.2 in
+    let r = ap (λ (v : Value). on_words f v y) d.3 ∙ ap (λ (v : Value). on_words f (value.Word (w, d.1)) v) d.4 ∙ words_are f w d.1 d.2 in
     let k = is_a_word w (f w d.1 d.2) (record { narrow = d.5.narrow; wide = d.5.wide; fits = fits w d.1 d.2 d.5.fits d.6.fits }) in
     subst (HasSort (on_words f x y)) d.7 (subst (λ (v : Value). HasSort v (Word w)) (sym r) k)
 
@@ -166,7 +166,7 @@ tests_fit f o p x y g h s e =
     let t = over (words_sort o p) s e in
     let d = two_words o p x y g h t.0 t.1 in
     let w = d.0 in
-    let r = ap (λ (v : Value). test_words f v y) d.3 ∙ ap (λ (v : Value). test_words f (value.Word (w, d.1)) v) d.4 ∙ test_words_is f w d.1 d.2 in
+    let r = ap (λ (v : Value). test_words f v y) d.3 ∙ ap (λ (v : Value). test_words f (value.Word (w, d.1)) v) d.4 ∙ tests_are f w d.1 d.2 in
     subst (HasSort (test_words f x y)) t.2 (subst (λ (v : Value). HasSort v Truth) (sym r) (is_bool (f w d.1 d.2)))
 
 bools_fit : (f : Bool → Bool → Bool) (o p : Option Sort) (x y : Value) → Given o x → Given p y → (s : Sort) → truths_sort o p ≡ Some s → HasSort (on_bools f x y) s

@@ -9,13 +9,9 @@ use Rattle.civl_bits.specs.declared.value.Value.{Value}
 use Rattle.civl_bits.specs.declared.value.Value.TheVariants as value
 use Rattle.civl_tree.specs.declared.expr.Sort.{Sort}
 use Rattle.civl_tree.specs.declared.expr.Sort.TheVariants as sort
-use Rattle.civl_meaning.specs.Operators.{nothing, is_width, is_index}
-use Rattle.civl_meaning.specs.Values.{HasSort, ZerosHaveTheirSorts}
-
-both : (a b : Bool) → (a && b) ≡ true → (a ≡ true) × (b ≡ true)
-both true true e = (refl, refl)
-both true false e = absurd (false≢true e)
-both false b e = absurd (false≢true e)
+use Rattle.civl_values.specs.Operators.{nothing, is_width, is_index}
+use Rattle.civl_values.specs.Values.{HasSort, ZerosHaveTheirSorts}
+use Rattle.civl_values.proofs.Sorting.{both}
 
 within : (low high n : ℕ) → (nat_le low n && nat_le n high) ≡ true → (low ≤ n) × (n ≤ high)
 within low high n e = let b = both (nat_le low n) (nat_le n high) e in (leb-true low n b.0, leb-true n high b.1)

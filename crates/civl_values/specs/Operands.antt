@@ -2,7 +2,7 @@
 use Rattle.std.specs.Prelude.{ℕ, ◌≡◌, Bool}
 use Rattle.civl_bits.specs.declared.value.Value.{Value}
 use Rattle.civl_bits.specs.declared.value.Value.TheVariants as value
-use Rattle.civl_meaning.specs.Operators.{nothing, on_words, test_words, on_bools}
+use Rattle.civl_values.specs.Operators.{nothing, on_words, test_words, on_bools}
 
 -- these values are these words, which have one width
 abbrev pub AreWords : Value → Value → ℕ × ℕ → ℕ × ℕ → Type 0

@@ -1,16 +1,14 @@
--- Values by their sorts: which values a sort has, the zero of a sort, and stores. A bool is false or true, a word of
+-- Values by their sorts: which values a sort has, and the zero of a sort. A bool is false or true, a word of
 -- width w is a number below 2 ^ w, and a row is a list of words (SMT-LIB FixedSizeBitVectors, and ArraysEx over finite
 -- indices).
-use Rattle.std.specs.Prelude.{Bool, true, false, ◌&&◌, nat_eq, List, [], ◌∷◌, map, if◌then◌else◌, IsTrue, All}
+use Rattle.std.specs.Prelude.{Bool, true, false, ◌&&◌, nat_eq, List, [], ◌∷◌, if◌then◌else◌, IsTrue, All}
 use Rattle.civl_bits.specs.Row.{filled_row}
 use Rattle.civl_bits.specs.Value.{IsValue}
 use Rattle.civl_bits.specs.declared.value.Value.{Value}
 use Rattle.civl_bits.specs.declared.value.Value.TheVariants as value
 use Rattle.civl_tree.specs.declared.expr.Sort.{Sort}
 use Rattle.civl_tree.specs.declared.expr.Sort.TheVariants as sort
-use Rattle.civl_tree.specs.declared.program.Global.{Global}
-use Rattle.civl_meaning.specs.declared.config.Store.{Store}
-use Rattle.civl_meaning.specs.Operators.{nothing, is_width, is_index}
+use Rattle.civl_values.specs.Operators.{nothing, is_width, is_index}
 
 -- whether a value is the bool true
 abbrev pub is_true : Value → Bool
@@ -45,9 +43,11 @@ pub record HaveSorts (values : List Value) (sorts : List Sort) : Type 0 where
   pub fit : All IsValue values
   pub are : IsTrue (are_of values sorts)
 
--- a store has one value of the right sort for every global
-abbrev pub IsStore : List Global → Store → Type 0
-IsStore globals store = HaveSorts store.values (map (λ g. g.sort) globals)
+-- the sort of a value
+abbrev pub sort_of_value : Value → Sort
+sort_of_value (value.Bool a) = sort.Bool
+sort_of_value (value.Word a) = sort.Word a.0
+sort_of_value (value.Row r) = sort.Row r.index r.width
 
 -- a sort within the language's limits
 abbrev pub is_sort : Sort → Bool

@@ -1,7 +1,7 @@
 // The values of the operators of expressions.
 ghost use Rattle.std.specs.Prelude.{◌≡◌, MatchOption};
-ghost use Rattle.civl_meaning.specs.Operands.{AreWords, NoWords, AreBools, NoBools};
-ghost use Rattle.civl_meaning.specs.Operators.{nothing, literal_value, not_value, one_value, two_value, pick_value, get_value, set_value, fill_value, slice_value, widen_value, join_value};
+ghost use Rattle.civl_values.specs.Operands.{AreWords, NoWords, AreBools, NoBools};
+ghost use Rattle.civl_values.specs.Operators.{nothing, literal_value, not_value, one_value, two_value, pick_value, get_value, set_value, fill_value, slice_value, widen_value, join_value};
 
 use civl_bits::{Row, Value, Word};
 use civl_tree::{One, Two};

@@ -1,0 +1,4 @@
+pub mod Operators
+pub mod Operands
+pub mod Values
+pub mod Weights
