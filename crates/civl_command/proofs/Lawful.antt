@@ -5,8 +5,11 @@ use Rattle.civl_tree.specs.declared.program.Program.{Program}
 use Rattle.civl_tree.specs.declared.refusal.Refusal.{Refusal}
 use Rattle.civl_tree.specs.declared.script.Script.{Script}
 use Rattle.civl_tree.specs.rules.Refusals.{refusals, refusal_of, first_of}
+use Rattle.civl_types.proofs.Walking.{or_first, first_append}
 use Rattle.civl_types.specs.Numbered.{IsNumbered}
 use Rattle.civl_layers.specs.Rules.{refusals_by, Keeps}
+use Rattle.civl_layers.proofs.Finding.{none_first}
+use Rattle.civl_layers.proofs.Kept.{both_empty}
 use Rattle.civl_layers.specs.Layered.{layer_rules, layer_refusal}
 use Rattle.civl_verify.specs.Admitted.{admission_rules, admission_refusal}
 use Rattle.civl_flag.specs.Verdicts.{IsFlagProgram}
@@ -14,10 +17,6 @@ use Rattle.civl_command.specs.Rules.{static_refusals, static_refusal, IsLawful, 
 use Rattle.civl_script.proofs.Counting.{text_numbers, script_numbers, script_counts}
 use Rattle.civl_command.specs.Texts.{SpellsProgram, SpellsScript}
 use Rattle.civl_command.specs.Outcome.{limit}
-
-both_empty : {A : Type 0} (xs ys : List A) → xs ++ ys ≡ [] → (xs ≡ []) × (ys ≡ [])
-both_empty [] ys h = (refl, h)
-both_empty (x ∷ xs) ys h = absurd cc
 
 pub taken_is_flag : (program : Program) → IsTaken program → IsNumbered program → IsFlagProgram program
 taken_is_flag program taken numbered =
@@ -37,32 +36,15 @@ script_few bytes script h short = omega (arith, script_counts bytes h.spells.tok
 
 -- ---- the first rule that is broken, stage by stage
 
-first_later : {A : Type 0} (xs ys : List A) → first_of xs ≡ None → first_of (xs ++ ys) ≡ first_of ys
-first_later [] ys h = refl
-first_later (x ∷ xs) ys h = absurd cc
-
-first_here : {A : Type 0} (xs ys : List A) (x : A) → first_of xs ≡ Some x → first_of (xs ++ ys) ≡ Some x
-first_here [] ys x h = absurd cc
-first_here (y ∷ xs) ys x h = h
-
-none_of : {A : Type 0} (xs : List A) → first_of xs ≡ None → xs ≡ []
-none_of [] h = refl
-none_of (x ∷ xs) h = absurd cc
+later : {A : Type 0} (xs ys : List A) → first_of xs ≡ None → first_of (xs ++ ys) ≡ first_of ys
+later xs ys h = first_append xs ys ∙ ap (λ o. or_first o (first_of ys)) h
 
 module _ (program : Program) where
-  pub at_names : (refusal : Refusal) → refusal_of program ≡ Some refusal → static_refusal program ≡ Some refusal
-  at_names refusal h = first_here (refusals program) (refusals_by layer_rules program ++ refusals_by admission_rules program) refusal h
-
-  pub at_layers : (refusal : Refusal) → refusal_of program ≡ None → layer_refusal program ≡ Some refusal → static_refusal program ≡ Some refusal
-  at_layers refusal names h =
-      first_later (refusals program) (refusals_by layer_rules program ++ refusals_by admission_rules program) names
-      ∙ first_here (refusals_by layer_rules program) (refusals_by admission_rules program) refusal h
-
   pub at_admission : (refusal : Option Refusal) → refusal_of program ≡ None → layer_refusal program ≡ None → admission_refusal program ≡ refusal → static_refusal program ≡ refusal
   at_admission refusal names layers h =
-      first_later (refusals program) (refusals_by layer_rules program ++ refusals_by admission_rules program) names
-      ∙ first_later (refusals_by layer_rules program) (refusals_by admission_rules program) layers
+      later (refusals program) (refusals_by layer_rules program ++ refusals_by admission_rules program) names
+      ∙ later (refusals_by layer_rules program) (refusals_by admission_rules program) layers
       ∙ h
 
   pub lawful : refusal_of program ≡ None → layer_refusal program ≡ None → admission_refusal program ≡ None → IsLawful program
-  lawful names layers admission = none_of (static_refusals program) (at_admission None names layers admission)
+  lawful names layers admission = none_first (static_refusals program) (at_admission None names layers admission)

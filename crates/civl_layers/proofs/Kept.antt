@@ -13,7 +13,7 @@ use Rattle.civl_layers.specs.Layered.{layer_rules, rule_of, number_of, places_of
 
 -- ---- empty lists
 
-both_empty : {A : Type 0} (xs ys : List A) → xs ++ ys ≡ [] → (xs ≡ []) × (ys ≡ [])
+pub both_empty : {A : Type 0} (xs ys : List A) → xs ++ ys ≡ [] → (xs ≡ []) × (ys ≡ [])
 both_empty [] ys h = (refl, h)
 both_empty (x ∷ xs) ys h = absurd cc
 
