@@ -1,0 +1,14 @@
+pub mod Bindings
+pub mod Sorted
+pub mod Kept
+pub mod Scopes
+pub mod Firing
+pub mod Among
+pub mod Called
+pub mod Fitting
+pub mod Changing
+pub mod Soundness
+pub mod Plain
+pub mod Before
+pub mod Declared
+pub mod Progress

@@ -1,0 +1,5 @@
+pub mod Scope
+pub mod Fired
+pub mod Config
+pub mod Stepped
+pub mod examples

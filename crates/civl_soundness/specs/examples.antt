@@ -1,0 +1,2 @@
+pub mod Increments
+pub mod Putting
