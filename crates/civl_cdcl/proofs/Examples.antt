@@ -19,7 +19,7 @@ model_excludes set bits budget log model refutation = refuted set log refutation
 all_one : (P : Literal → Type 0) (a : Literal) → P a → All P (a ∷ [])
 all_one P a p = All-cons P a [] p (All-nil P)
 
-all_two : (P : Literal → Type 0) (a b : Literal) → P a → P b → All P (a ∷ b ∷ [])
+pub all_two : (P : Literal → Type 0) (a b : Literal) → P a → P b → All P (a ∷ b ∷ [])
 all_two P a b p q = All-cons P a (b ∷ []) p (all_one P b q)
 
 half_by : (bits : List Bool) → length bits ≡ 2 → SatisfiesClause (assignment bits) (variable 0 ∷ variable 1 ∷ []) → SatisfiesClause (assignment bits) (variable 0 ∷ negation 1 ∷ []) → IsModel half bits
@@ -53,7 +53,7 @@ half_models = record {
 }
 
 -- the set of no literals
-abbrev none : ℕ → Bool → Bool
+abbrev pub none : ℕ → Bool → Bool
 none v b = false
 
 false_true : false ≡ true → ⊥
@@ -86,7 +86,7 @@ square_quiet =
     (All-cons P third (fourth ∷ []) (quiet_of_two (negation 0) (variable 1) zero_one)
     (All-cons P fourth [] (quiet_of_two (negation 0) (negation 1) zero_one) (All-nil P))))
 
-square_closed : IsClosed none square.clauses
+pub square_closed : IsClosed none square.clauses
 square_closed k d low = (square_quiet k d low).0
 
 -- the clause a is learned

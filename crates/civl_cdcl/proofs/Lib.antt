@@ -1,9 +1,9 @@
 mod Trails
 mod Cutting
-mod Analysing
+pub mod Analysing
 mod Teaching
 mod Visiting
 mod Turning
-mod Outcomes
-mod Examples
+pub mod Outcomes
+pub mod Examples
 mod Counting

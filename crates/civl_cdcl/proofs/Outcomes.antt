@@ -113,7 +113,7 @@ false_by (Some false) false true known is e = refl
 false_by (Some false) false false known is e = cc
 
 -- where all variables have a value and no clause is falsified, the values as bits make the clauses true
-satisfied : (marks : List (Option Bool)) (bits : List Bool) (formula log : List (List Literal)) → AreBits marks bits → AreBelow (length marks) formula → All (IsQuiet (marked marks)) (formula ++ log) → ChoiceSays marks None → Satisfies (assignment bits) formula
+pub satisfied : (marks : List (Option Bool)) (bits : List Bool) (formula log : List (List Literal)) → AreBits marks bits → AreBelow (length marks) formula → All (IsQuiet (marked marks)) (formula ++ log) → ChoiceSays marks None → Satisfies (assignment bits) formula
 satisfied marks bits formula log are below quiet known k d low =
     let clause = get_or formula k d in
     let size = length-append formula log in
@@ -135,7 +135,7 @@ model_by set log old new bits size below says are =
     }
 
 -- a claim on each clause of a log and those before it, for one more clause
-log_push : (P : List (List Literal) → List Literal → Type 0) (formula log : List (List Literal)) (clause : List Literal) → ((i : ℕ) → i < length log → P (formula ++ take i log) (get_or log i [])) → P (formula ++ log) clause → (i : ℕ) → i < length (log ++ clause ∷ []) → P (formula ++ take i (log ++ clause ∷ [])) (get_or (log ++ clause ∷ []) i [])
+pub log_push : (P : List (List Literal) → List Literal → Type 0) (formula log : List (List Literal)) (clause : List Literal) → ((i : ℕ) → i < length log → P (formula ++ take i log) (get_or log i [])) → P (formula ++ log) clause → (i : ℕ) → i < length (log ++ clause ∷ []) → P (formula ++ take i (log ++ clause ∷ [])) (get_or (log ++ clause ∷ []) i [])
 log_push P formula log clause have last i low =
     let longer = length_push log clause in
     elim (lt_or_eq i (length log) (omega arith)) [

@@ -13,12 +13,13 @@ mod solving;
 mod trail;
 mod turn;
 
+pub use choice::choose;
 pub use laws::{
     half_has_models, model_excludes_refutation, spent_budget_is_small, square_is_refuted,
 };
 pub use memory::Memory;
 pub use outcome::Outcome;
-pub use solving::solve;
+pub use solving::{bits_of, solve};
 
 #[cfg(test)]
 mod tests;

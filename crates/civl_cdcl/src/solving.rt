@@ -13,7 +13,7 @@ use civl_rup::occurrences_of;
 use std::alloc::Global;
 
 /// The values as bits, false for a variable without one.
-fn bits_of(alloc: Global, marks: &[Option<bool>]) -> Result<Bits, Memory>
+pub fn bits_of(alloc: Global, marks: &[Option<bool>]) -> Result<Bits, Memory>
     requires { length marks.now ≤ 2 ^ 31 }
     ensures { IfOk result (AreBits marks.now) }
 {

@@ -15,8 +15,10 @@ pub use laws::{
     complete_run_decides, complete_run_shows_new, new_clause_is_no_superset,
     rup_clause_is_entailed, spent_clause_is_no_superset,
 };
+pub use marks::Marks;
 pub use memory::Memory;
 pub use occurrences::Occurrences;
+pub use propagation::{assume, propagate};
 pub use replaying::{occurrences_of, replay};
 
 #[cfg(test)]

@@ -44,6 +44,13 @@ impl Marks {
         self.values.len()
     }
 
+    /// For each variable the value that it was given, or none.
+    pub fn values(&self) -> &[Option<bool>]
+        ensures { result.now ≡ self.now.values }
+    {
+        self.values.as_slice()
+    }
+
     /// The value that a variable was given.
     pub fn get(&self, variable: u32) -> Option<bool>
         requires { variable < length self.now.values }

@@ -1,0 +1,5 @@
+pub mod Fates
+pub mod Rules
+pub mod Rounds
+pub mod Firsts
+pub mod Samples
