@@ -1,0 +1,5 @@
+pub mod Tries
+pub mod Branches
+pub mod Nodes
+pub mod Steps
+pub mod Squares

@@ -1,0 +1,5 @@
+pub mod Probe
+pub mod Branch
+pub mod Splitter
+pub mod Node
+pub mod Laws
