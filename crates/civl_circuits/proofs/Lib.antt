@@ -1,0 +1,11 @@
+pub mod Numbers
+pub mod Words
+pub mod Starting
+pub mod BitByBit
+pub mod Choices
+pub mod Sums
+pub mod Orders
+pub mod Wires
+pub mod Moves
+pub mod Products
+pub mod Divisions

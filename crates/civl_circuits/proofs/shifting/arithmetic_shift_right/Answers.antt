@@ -1,0 +1,10 @@
+use Rattle.civl_circuits.proofs.Words.{one_later}
+use Rattle.civl_circuits.proofs.Moves.{arithmetic_made}
+use Rattle.civl_circuits.proofs.shifting.arithmetic_shift_right.Goals as goal
+
+pub returns-clause-ok : goal.returns-clause-ok
+returns-clause-ok c =
+    arithmetic_made _ _ _ _ _ c.in_ok-turned.ensures.ok (rw c.as_slice.ensures.value at c.in_ok-moved.ensures.ok) (rw c.as_slice-2.ensures.value at c.in_ok-word.ensures.ok) c.requires.narrow c.index-a-a.is
+
+pub shift_right-requires-clause-one : goal.shift_right-requires-clause-one
+shift_right-requires-clause-one c = one_later c.in_ok-turned.ensures.extends c.requires.one

@@ -1,0 +1,48 @@
+// Operations on truth values, apart from those that are gates themselves.
+ghost use Rattle.std.specs.Prelude.{◌≡◌, ◌<◌, ◌≤◌, ◌^◌, ◌||◌, not, IfOk, OnErr};
+ghost use Rattle.civl_cnf.specs.Literal.{truth_of};
+ghost use Rattle.civl_cnf.specs.Gates.{Extends, IsGate, xor};
+
+use civl_cnf::{Gates, Lit, Memory};
+
+/// A literal that is true where one of the two is. It takes one variable.
+pub fn or(gates: &mut Gates, a: Lit, b: Lit) -> Result<Lit, Memory>
+    requires room { gates.old.variables ≤ 2 ^ 30 }
+    requires a { a.variable < gates.old.variables }
+    requires b { b.variable < gates.old.variables }
+    ensures ok { IfOk result (λ output. IsGate gates.old gates.new output (λ v. truth_of v a || truth_of v b)) }
+    ensures err { OnErr result (gates.new ≡ gates.old) }
+    ensures extends { Extends gates.old gates.new }
+{
+    let not_a = a.negate();
+    let not_b = b.negate();
+    let neither = gates.and(not_a, not_b)?;
+    Ok(neither.negate())
+}
+
+/// A literal that is true where `a` is false or `b` is true. It takes one variable.
+pub fn implies(gates: &mut Gates, a: Lit, b: Lit) -> Result<Lit, Memory>
+    requires room { gates.old.variables ≤ 2 ^ 30 }
+    requires a { a.variable < gates.old.variables }
+    requires b { b.variable < gates.old.variables }
+    ensures ok { IfOk result (λ output. IsGate gates.old gates.new output (λ v. not (truth_of v a) || truth_of v b)) }
+    ensures err { OnErr result (gates.new ≡ gates.old) }
+    ensures extends { Extends gates.old gates.new }
+{
+    let not_b = b.negate();
+    let broken = gates.and(a, not_b)?;
+    Ok(broken.negate())
+}
+
+/// A literal that is true where the two have one truth value. It takes one variable.
+pub fn iff(gates: &mut Gates, a: Lit, b: Lit) -> Result<Lit, Memory>
+    requires room { gates.old.variables ≤ 2 ^ 30 }
+    requires a { a.variable < gates.old.variables }
+    requires b { b.variable < gates.old.variables }
+    ensures ok { IfOk result (λ output. IsGate gates.old gates.new output (λ v. not (xor (truth_of v a) (truth_of v b)))) }
+    ensures err { OnErr result (gates.new ≡ gates.old) }
+    ensures extends { Extends gates.old gates.new }
+{
+    let differ = gates.xor(a, b)?;
+    Ok(differ.negate())
+}
