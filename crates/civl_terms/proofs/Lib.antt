@@ -1,0 +1,9 @@
+pub mod Along
+pub mod Nodes
+pub mod Soundness
+pub mod Places
+pub mod Weighing
+pub mod Growing
+pub mod Answering
+pub mod Operations
+pub mod Worked

@@ -1,0 +1,4 @@
+pub mod Graphs
+pub mod Weights
+pub mod Building
+pub mod Example
