@@ -1,0 +1,9 @@
+pub mod Typing
+pub mod Building
+pub mod Operations
+pub mod Arms
+pub mod Sizes
+pub mod Rules
+pub mod Scoping
+pub mod Listing
+pub mod Making
