@@ -1,0 +1,10 @@
+pub mod Nodes
+pub mod Weighing
+pub mod Flow
+pub mod Laying
+pub mod Reading
+pub mod Concluding
+pub mod Telling
+pub mod Renaming
+pub mod Gathering
+pub mod Giving

@@ -1,0 +1,99 @@
+-- Sets of nodes that hold what they reach.
+use Rattle.std.proofs.Common.{◌≡◌, ℕ, zero, suc, ◌+◌, ◌<◌, ◌≤◌, List, [], ◌∷◌, ◌++◌, length, get_or, refl, sym, ap, ◌∙◌, subst, inl, inr, arith, Some, IsTrue}
+use Rattle.std.specs.Prelude.{slice_get}
+use Rattle.std.proofs.lemmas.Option.{slice_get_within}
+use Rattle.civl_terms.specs.declared.node.Node.{Node}
+use Rattle.civl_terms.specs.Graphs.{sorts, sort_at}
+use Rattle.civl_terms.specs.Weights.{is_part, node_weight, weight_in, own_weight}
+use Rattle.civl_terms.specs.Building.{Grows}
+use Rattle.civl_rows.specs.Reaching.{is_plain}
+use Rattle.civl_rows.specs.Making.{Has, AllIn, Covers, IsSolid, set_weight, Adds}
+use Rattle.civl_rows.proofs.Growth.{node_stays, own_weight_stays, parts_from, same_node}
+
+pub all_covered : (s t xs : List ℕ) → Covers s t → AllIn s xs → AllIn t xs
+all_covered s t [] c a = tt
+all_covered s t (x ∷ xs) c a = (c x a.0, all_covered s t xs c a.1)
+
+pub all-append : (s xs ys : List ℕ) → AllIn s xs → AllIn s ys → AllIn s (xs ++ ys)
+all-append s [] ys a b = b
+all-append s (x ∷ xs) ys a b = (a.0, all-append s xs ys a.1 b)
+
+pub all_at : (s xs : List ℕ) (i d : ℕ) → AllIn s xs → i < length xs → Has s (get_or xs i d)
+all_at s [] i d a h = absurd (omega arith)
+all_at s (x ∷ xs) zero d a h = a.0
+all_at s (x ∷ xs) (suc i) d a h = all_at s xs i d a.1 (omega arith)
+
+pub solid_grown : {old new : List Node} {s : List ℕ} → Grows old new → IsSolid old s → IsSolid new s
+solid_grown {old} {new} {s} g h = record {
+  within = λ i y. omega (arith, h.within i y, g.longer);
+  closed = λ i k n y e p. h.closed i k n y (sym (node_stays old new i g (h.within i y)) ∙ e) p;
+  plain = λ i y. ap is_plain (g.sorts i (h.within i y)) ∙ h.plain i y;
+}
+
+weights_stay : (old new : List Node) (s xs : List ℕ) → Grows old new → IsSolid old s → Covers xs s → set_weight new xs ≡ set_weight old xs
+weights_stay old new s [] g h c = refl
+weights_stay old new s (x ∷ xs) g h c =
+    let y = c x (inl refl) in
+    let own = own_weight_stays old new x g (h.within x y) (λ n e. parts_from (length old) n (λ k p. h.within k (h.closed x k n y e p))) in
+    let rest = weights_stay old new s xs g h (λ i z. c i (inr z)) in
+    omega (arith, own, rest)
+
+pub set_weight_stays : {old new : List Node} {s : List ℕ} → Grows old new → IsSolid old s → set_weight new s ≡ set_weight old s
+set_weight_stays {old} {new} {s} g h = weights_stay old new s s g h (λ i y. y)
+
+-- nothing is added
+pub adds_none : {old new : List Node} (Uses : List ℕ → Type 0) (made : List ℕ) (cost : ℕ) → Grows old new → ((s : List ℕ) → Uses s → AllIn s made) → Adds old new Uses made cost
+adds_none {old} {new} Uses made cost g h = record {
+  set = λ s solid u. (s, record { solid = solid_grown g solid; covers = λ i y. y; all = h s u; weighs = omega (arith, set_weight_stays g solid) });
+}
+
+-- a node is added, whose parts are there
+pub adds_node : {old new : List Node} (Uses : List ℕ → Type 0) (id cost : ℕ) (n : Node) → Grows old new → slice_get new id ≡ Some n → IsTrue (is_plain (sort_at new id)) → ((s : List ℕ) → Uses s → (k : ℕ) → IsTrue (is_part n k) → Has s k) → node_weight (sorts new) n ≤ cost → Adds old new Uses (id ∷ []) cost
+adds_node {old} {new} Uses id cost n g e plain parts light = record {
+  set = λ s solid u.
+      let more = solid_grown g solid in
+      let own : own_weight new id ≡ node_weight (sorts new) n = ap (weight_in new) e in
+      let P : ℕ → Type 0 = λ i. IsTrue (is_plain (sort_at new i)) in (
+        id ∷ s,
+        record {
+          solid = record {
+            within = λ i y. elim y [ inl q ↦ omega (arith, slice_get_within new id n e) | inr z ↦ more.within i z ];
+            closed = λ i k m y f p. elim y [
+              | inl q ↦
+                  let same : m ≡ n = same_node m n (sym f ∙ ap (slice_get new) q ∙ e) in
+                  inr (parts s u k (sym (ap (λ (o : Node). is_part o k) same) ∙ p))
+              | inr z ↦ inr (more.closed i k m z f p)
+            ];
+            plain = λ i y. elim y [ inl q ↦ subst P (sym q) plain | inr z ↦ more.plain i z ];
+          };
+          covers = λ i y. inr y;
+          all = (inl refl, tt);
+          weighs = omega (arith, own, light, set_weight_stays g solid);
+        },
+      );
+}
+
+-- one after the other
+pub adds_then : {a b c : List Node} {Uses More : List ℕ → Type 0} {made next : List ℕ} {p q : ℕ} (out : List ℕ) (cost : ℕ) → Adds a b Uses made p → Adds b c More next q → ((s t : List ℕ) → Uses s → Covers s t → AllIn t made → More t) → ((s t : List ℕ) → Uses s → Covers s t → AllIn t made → AllIn t next → AllIn t out) → p + q ≤ cost → Adds a c Uses out cost
+adds_then {a} {b} {c} {Uses} {More} {made} {next} {p} {q} out cost first second uses gives light = record {
+  set = λ s solid u.
+      let x = first.set s solid u in
+      let y = second.set x.0 x.1.solid (uses s x.0 u x.1.covers x.1.all) in
+      let both : Covers s y.0 = λ i h. y.1.covers i (x.1.covers i h) in (
+        y.0,
+        record {
+          solid = y.1.solid;
+          covers = both;
+          all = gives s y.0 u both (all_covered x.0 y.0 made y.1.covers x.1.all) y.1.all;
+          weighs = omega (arith, x.1.weighs, y.1.weighs, light);
+        },
+      );
+}
+
+-- from more, less, at a higher cost
+pub adds_as : {a b : List Node} {Uses : List ℕ → Type 0} {made : List ℕ} {p : ℕ} (More : List ℕ → Type 0) (out : List ℕ) (cost : ℕ) → Adds a b Uses made p → ((s : List ℕ) → More s → Uses s) → ((s t : List ℕ) → More s → Covers s t → AllIn t made → AllIn t out) → p ≤ cost → Adds a b More out cost
+adds_as More out cost first uses gives light = record {
+  set = λ s solid u.
+      let x = first.set s solid (uses s u) in
+      (x.0, record { solid = x.1.solid; covers = x.1.covers; all = gives s x.0 u x.1.covers x.1.all; weighs = omega (arith, x.1.weighs, light) });
+}

@@ -1,0 +1,6 @@
+pub mod Reaching
+pub mod Cells
+pub mod Marks
+pub mod Making
+pub mod Expanding
+pub mod Example
