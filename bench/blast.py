@@ -3,7 +3,7 @@
 
 Usage: blast.py FOLDER        (a scratch folder, in which a program over the library is proved and built, once)
 
-The program reads a line KIND COUNT, builds a chain of COUNT operations of this kind, blasts it and prints the graph's weight and the numbers of the variables, the clauses and the places. Each line that is printed: the kind and the count, these four numbers, the seconds (the graph's building and weighing count too) and the greatest size of the process in megabytes.
+The program reads a line KIND COUNT, builds a chain of COUNT operations of this kind, blasts it and prints the graph's weight and the numbers of the variables, the clauses and the places. Each line that is printed: the kind and the count, these four numbers, the seconds by the clock and of the processor (the graph's building and weighing count too), and the greatest size of the process in megabytes.
 """
 import os
 import shutil
@@ -14,8 +14,8 @@ import time
 HERE = os.path.dirname(os.path.abspath(__file__))
 CRATES = ["civl_tree", "civl_bits", "civl_values", "civl_folding", "civl_cnf", "civl_circuits", "civl_symbolic", "civl_terms", "civl_reach", "civl_rows", "civl_blast"]
 
-# How many of each weigh about 400,000: 64 a sum of 32 bits, 2,048 a product, 4,096 a division, 192 a shift, 2,432 a write of a row of 64 cells and 1 a `!` or `&&`.
-COUNTS = {"sums": 6_245, "products": 195, "divisions": 97, "shifts": 2_080, "rows": 162, "deep": 399_900}
+# How many of each weigh about 400,000: 64 a sum of 32 bits, 2,048 a product, 4,096 a division, 192 a shift, 2,432 a write of a row of 64 words, 129 a row of 64 bits that is read once (so each of its cells is an input) and 1 a `!` or `&&`.
+COUNTS = {"sums": 6_245, "products": 195, "divisions": 97, "shifts": 2_080, "rows": 162, "bits": 3_000, "deep": 399_900}
 
 PROGRAM = r"""//! Reads a kind of term and a count a line. Builds the term, blasts it, and prints the graph's weight and the variables and the clauses.
 #![tactic(auto)]
@@ -44,6 +44,10 @@ const INDEX: Sort = Sort::Word(6);
 
 const ROW: Sort = Sort::Row(6, 32);
 
+const BIT: Sort = Sort::Word(1);
+
+const BITS: Sort = Sort::Row(6, 1);
+
 /// The bits of a sort that the program uses.
 fn bits(sort: Sort) -> Option<u32>
     ensures is { IfSome result (λ b. b ≡ bits_of sort) }
@@ -58,6 +62,9 @@ fn bits(sort: Sort) -> Option<u32>
             Some(width)
         }
         Sort::Row(index, width) => {
+            if index == 6 && width == 1 {
+                return Some(64);
+            }
             if index != 6 || width != 32 {
                 return None;
             }
@@ -250,8 +257,8 @@ fn set(terms: &mut Terms, row: Id, at: Id, cell: Id) -> Option<Id> {
     terms.set(row, at, cell).ok()
 }
 
-fn get(terms: &mut Terms, row: Id, at: Id) -> Option<Id> {
-    let is_row = has_sort(terms, row, ROW);
+fn get(terms: &mut Terms, width: u32, row: Id, at: Id) -> Option<Id> {
+    let is_row = has_sort(terms, row, Sort::Row(6, width));
     let is_index = has_sort(terms, at, INDEX);
     if !is_row || !is_index {
         return None;
@@ -279,8 +286,21 @@ fn rows(alloc: Global, terms: &mut Terms, count: usize) -> Option<Id> {
     for at in 0..count {
         row = set(terms, row, indices[at % 7], words[at % 6])?;
     }
-    let cell = get(terms, row, indices[0])?;
+    let cell = get(terms, 32, row, indices[0])?;
     two(terms, Two::Eq, WORD, cell, words[6])
+}
+
+/// Whether the odd one of the bits at an index of so many rows of bits is 1.
+fn bit_rows(alloc: Global, terms: &mut Terms, count: usize) -> Option<Id> {
+    let bits = variables(alloc, terms, 0, BIT)?;
+    let indices = variables(alloc, terms, 10, INDEX)?;
+    let mut last = bits[0];
+    for at in 0..count.min(10000) {
+        let row = variable(terms, 20 + at as u32, BITS)?;
+        let bit = get(terms, 1, row, indices[0])?;
+        last = two(terms, Two::BitXor, BIT, last, bit)?;
+    }
+    two(terms, Two::Eq, BIT, last, bits[1])
 }
 
 /// A deep chain of `!` and `&&`.
@@ -301,6 +321,7 @@ fn build(alloc: Global, terms: &mut Terms, kind: &str, count: usize) -> Option<I
         "divisions" => chain(alloc, terms, Two::Udiv, count),
         "shifts" => chain(alloc, terms, Two::Shl, count),
         "rows" => rows(alloc, terms, count),
+        "bits" => bit_rows(alloc, terms, count),
         "deep" => deep(alloc, terms, count),
         _ => None,
     }
@@ -429,7 +450,7 @@ def built(folder):
 
 
 def timed(binary, line):
-    """What the program prints for a line, its seconds, and its greatest size in megabytes."""
+    """What the program prints for a line, its seconds by the clock and of the processor, and its greatest size in megabytes."""
     start = time.perf_counter()
     child = subprocess.Popen([binary], stdin=subprocess.PIPE, stdout=subprocess.PIPE)
     child.stdin.write(line.encode())
@@ -437,7 +458,7 @@ def timed(binary, line):
     text = child.stdout.read().decode().strip()
     _, status, usage = os.wait4(child.pid, 0)
     seconds = time.perf_counter() - start
-    return text if status == 0 else f"status {status}", seconds, usage.ru_maxrss // 1024
+    return text if status == 0 else f"status {status}", seconds, usage.ru_utime + usage.ru_stime, usage.ru_maxrss // 1024
 
 
 def main():
@@ -445,8 +466,8 @@ def main():
         sys.exit(__doc__)
     binary = built(sys.argv[1])
     for kind, count in COUNTS.items():
-        text, seconds, size = timed(binary, f"{kind} {count}\n")
-        print(f"{kind} {count}: {text}, {seconds:.2f} s, {size} MB", flush=True)
+        text, seconds, busy, size = timed(binary, f"{kind} {count}\n")
+        print(f"{kind} {count}: {text}, {seconds:.2f} s, {busy:.2f} s of the processor, {size} MB", flush=True)
 
 
 if __name__ == "__main__":
