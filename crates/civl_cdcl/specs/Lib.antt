@@ -1,4 +1,3 @@
-pub mod Rule
 pub mod Trail
 pub mod Propagation
 pub mod Analysis

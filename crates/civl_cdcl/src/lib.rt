@@ -8,7 +8,6 @@ mod laws;
 mod memory;
 mod outcome;
 mod propagation;
-mod rule;
 mod solving;
 mod trail;
 mod turn;

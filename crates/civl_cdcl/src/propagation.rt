@@ -6,9 +6,8 @@ ghost use Rattle.civl_cdcl.specs.Propagation.{VisitSays, VisitsSay, EndsBy, IsSe
 
 use crate::Memory;
 use crate::clauses::Clauses;
-use crate::rule::{Rule, rule_of};
 use crate::trail::Trail;
-use civl_rup::Occurrences;
+use civl_rup::{Occurrences, Rule, rule_of};
 
 /// How propagation ends: the clause with this number is falsified, or nothing more is forced.
 #[derive(Clone, Copy, Debug, PartialEq, Eq)]

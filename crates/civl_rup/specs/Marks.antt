@@ -6,8 +6,8 @@ use Rattle.civl_rup.specs.Propagation.{Fails, IsFalsified, IsUnit, IsClosedAt, I
 use Rattle.civl_rup.specs.Trail.{Marking, IsOpen, with_mark, open_count}
 use Rattle.civl_rup.specs.Rup.{Refutes, IsFirstWithoutRup, HasRupAndNoEmpty}
 use Rattle.civl_rup.specs.Occurrences.{OccurrenceLists, AreOccurrences}
-use Rattle.civl_rup.specs.declared.marking.Rule.{Rule}
-use Rattle.civl_rup.specs.declared.marking.Rule.TheVariants.{Falsified, Forces, Quiet}
+use Rattle.civl_rup.specs.declared.rule.Rule.{Rule}
+use Rattle.civl_rup.specs.declared.rule.Rule.TheVariants.{Falsified, Forces, Quiet}
 use Rattle.civl_rup.specs.declared.answer.Replay.{Replay}
 use Rattle.civl_rup.specs.declared.answer.Replay.TheVariants.{Refutes as Refuting, NotRup, NoEmpty}
 

@@ -9,6 +9,7 @@ mod memory;
 mod occurrences;
 mod propagation;
 mod replaying;
+mod rule;
 
 pub use answer::Replay;
 pub use laws::{
@@ -20,6 +21,7 @@ pub use memory::Memory;
 pub use occurrences::Occurrences;
 pub use propagation::{assume, propagate};
 pub use replaying::{occurrences_of, replay};
+pub use rule::{Rule, rule_of};
 
 #[cfg(test)]
 mod tests;

@@ -1,7 +1,7 @@
 // What one clause says under marks.
 ghost use Rattle.std.specs.Prelude.{length};
 ghost use Rattle.civl_cnf.specs.ClauseSet.{IsBelow};
-ghost use Rattle.civl_cdcl.specs.Rule.{RuleSays};
+ghost use Rattle.civl_rup.specs.Marks.{RuleSays};
 
 use civl_cnf::Lit;
 
