@@ -27,6 +27,3 @@ pub use literals::{iff, implies, or};
 pub use multiplying::multiply;
 pub use shifting::{arithmetic_shift_right, mask, shift_left, shift_right};
 pub use wiring::{constant, join, slice, widen};
-
-#[cfg(test)]
-mod tests;
