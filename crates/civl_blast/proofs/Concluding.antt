@@ -12,12 +12,13 @@ use Rattle.civl_cnf.specs.Literal.{Literal}
 use Rattle.civl_cnf.specs.ClauseSet.{ClauseSet, SatisfiesClause}
 use Rattle.civl_terms.specs.declared.node.Node.{Node}
 use Rattle.civl_terms.specs.declared.node.Node.TheVariants.{Variable}
-use Rattle.civl_terms.specs.Graphs.{IsGraph}
+use Rattle.civl_terms.specs.Graphs.{IsGraph, IsDistinct}
 use Rattle.civl_terms.specs.Weights.{term_weight}
 use Rattle.civl_reach.specs.Reaching.{Reaches, is_plain, IsRowless}
 use Rattle.civl_reach.specs.Marks.{marked, IsMarking}
+use Rattle.civl_rows.specs.Cells.{cells_in}
 use Rattle.civl_blast.specs.declared.blasted.Place.{Place}
-use Rattle.civl_blast.specs.Standing.{cells_of, cell_bits, Reads, HasPlaces, StandsFor, GivesValues, IsSmall}
+use Rattle.civl_blast.specs.Standing.{cell_bits, Reads, HasPlaces, StandsFor, GivesValues, IsSmall}
 use Rattle.civl_blast.specs.Steps.{input_bits, inputs_before, places_before, IsCircuit}
 use Rattle.civl_blast.proofs.Reading.{marked_within, values_read, values_are_read, values_fit}
 use Rattle.civl_blast.proofs.Weighing.{inputs_next, inputs_less}
@@ -28,19 +29,19 @@ reached_marked : {ns : List Node} {id : ℕ} {marks : List Bool} → IsMarking n
 reached_marked m _ Reaches.itself = m.first
 reached_marked m _ (Reaches.part i k n r e p) = m.closed i k n (omega arith) (reached_marked m i r) e p
 
-one_cell : (s : Sort) (c : ℕ) → IsTrue (is_plain (Some s)) → c < cells_of s → c ≡ 0
+one_cell : (s : Sort) (c : ℕ) → IsTrue (is_plain (Some s)) → c < cells_in (Some s) → c ≡ 0
 one_cell sort.Bool c p h = omega arith
 one_cell (sort.Word w) c p h = omega arith
 one_cell (sort.Row i w) c p h = absurd (false≢true p)
 
-one_cell_bits : (s : Sort) → IsTrue (is_plain (Some s)) → (0 < cells_of s) × (cell_bits s ≡ bits_of s)
+one_cell_bits : (s : Sort) → IsTrue (is_plain (Some s)) → (0 < cells_in (Some s)) × (cell_bits s ≡ bits_of s)
 one_cell_bits sort.Bool p = (omega arith, refl)
 one_cell_bits (sort.Word w) p = (omega arith, refl)
 one_cell_bits (sort.Row i w) p = absurd (false≢true p)
 
 -- what a place tells
 abbrev IsPlaced : List Node → ℕ → ℕ → Place → Type 0
-IsPlaced ns id count e = (i : ℕ) × (s : Sort) × Reaches ns id i × (slice_get ns i ≡ Some (Variable e.variable s)) × (e.cell < cells_of s) × (e.first + cell_bits s ≤ count)
+IsPlaced ns id count e = (i : ℕ) × (s : Sort) × Reaches ns id i × (slice_get ns i ≡ Some (Variable e.variable s)) × (e.cell < cells_in (Some s)) × (e.first + cell_bits s ≤ count)
 
 pub placed : {ns : List Node} {id inputs : ℕ} {marks : List Bool} {gates : ClauseSet} {output : Literal} (count : ℕ) (places : List Place) → IsGraph ns → IsRowless ns id → IsMarking ns id 0 marks → IsCircuit ns id marks inputs gates output → inputs ≡ inputs_before ns marks (id + 1) → places ≡ places_before ns marks (id + 1) → count ≡ gates.variables → HasPlaces ns id count places
 placed {ns} {id} {inputs} {marks} count places graph rowless m circuit ei ep ec = record {
@@ -89,8 +90,8 @@ stands {ns} {id} {inputs} {marks} {gates} {output} set places graph rowless m ci
           circuit.is v env hv (inputs_from_places graph rowless m v env fits (subst P ep rv));
     }
 
-pub gives_values : {ns : List Node} {id : ℕ} {marks : List Bool} (places : List Place) → IsGraph ns → IsRowless ns id → IsMarking ns id 0 marks → places ≡ places_before ns marks (id + 1) → GivesValues ns places
-gives_values {ns} {id} {marks} places graph rowless m ep distinct v =
+pub gives_values : {ns : List Node} {id : ℕ} {marks : List Bool} (places : List Place) → IsGraph ns → IsDistinct ns → IsRowless ns id → IsMarking ns id 0 marks → places ≡ places_before ns marks (id + 1) → GivesValues ns places
+gives_values {ns} {id} {marks} places graph distinct rowless m ep v =
     let env : ℕ → Value = values_read ns marks v (id + 1) in
     let plain = all_plain graph rowless m (id + 1) in
     let shows = values_are_read ns marks v graph distinct (id + 1) plain in

@@ -17,17 +17,16 @@ use Rattle.civl_terms.specs.declared.node.Node.TheVariants.{Constant, Variable, 
 use Rattle.civl_terms.specs.Graphs.{IsGraph, Fits, value_at}
 use Rattle.civl_terms.specs.Building.{Grows}
 use Rattle.civl_terms.proofs.Soundness.{zeros, zeros_fit, sort_is}
-use Rattle.civl_reach.specs.Reaching as reach
-use Rattle.civl_rows.specs.Reaching as rows
-use Rattle.civl_rows.specs.Cells.{cell_of, next_number, HasEntries, IsDistinct}
+use Rattle.civl_reach.specs.Reaching.{Reaches, IsRowless}
+use Rattle.civl_rows.specs.Cells.{cell_of, cells_in, next_number, HasEntries}
 use Rattle.civl_rows.specs.Cells as cells
 use Rattle.civl_rows.specs.declared.flat.Cell.{Cell}
 use Rattle.civl_rows.proofs.Growth.{node_stays}
 use Rattle.civl_blast.specs.declared.blasted.Place.{Place}
-use Rattle.civl_blast.specs.Standing.{cells_of, cell_bits, Reads, HasPlaces, NamesCells, GivesValues}
+use Rattle.civl_blast.specs.Standing.{cell_bits, Reads, HasPlaces, NamesCells, GivesValues}
 use Rattle.civl_blast.specs.Renaming.{place_of_cell}
 use Rattle.civl_blast.proofs.Laying.{variable_plain}
-use Rattle.civl_blast.proofs.Renaming.{rowless_too, env_with, env_new, IsOther, entry_or_other, place_of_entry, first_same, celled}
+use Rattle.civl_blast.proofs.Renaming.{env_with, env_new, IsOther, entry_or_other, place_of_entry, first_same, celled}
 use Rattle.civl_blast.proofs.Gathering.{HasOnce, gather, gather_sort, gather_plain, gather_cell}
 
 -- a graph grew by a term without rows that has the same value
@@ -35,13 +34,13 @@ pub record IsFlattened (old new : List Node) (id flat : ℕ) (es : List Cell) : 
   pub grows : Grows old new
   pub old_graph : IsGraph old
   pub new_graph : IsGraph new
-  pub rowless : reach.IsRowless new flat
+  pub rowless : IsRowless new flat
   pub entries : HasEntries old id es
   pub fits : (env : ℕ → Value) → Fits env old → cells.Reads env es → Fits env new
   pub value : (env : ℕ → Value) → Fits env old → cells.Reads env es → value_at env new flat ≡ value_at env old id
 
-pub flattened : {old new : List Node} {id flat : ℕ} {es : List Cell} → Grows old new → IsGraph old → IsGraph new → rows.IsRowless new flat → HasEntries old id es → ((env : ℕ → Value) → Fits env old → cells.Reads env es → Fits env new) → ((env : ℕ → Value) → Fits env old → cells.Reads env es → value_at env new flat ≡ value_at env old id) → IsFlattened old new id flat es
-flattened g o n r e f v = record { grows = g; old_graph = o; new_graph = n; rowless = rowless_too r; entries = e; fits = f; value = v }
+pub flattened : {old new : List Node} {id flat : ℕ} {es : List Cell} → Grows old new → IsGraph old → IsGraph new → IsRowless new flat → HasEntries old id es → ((env : ℕ → Value) → Fits env old → cells.Reads env es → Fits env new) → ((env : ℕ → Value) → Fits env old → cells.Reads env es → value_at env new flat ≡ value_at env old id) → IsFlattened old new id flat es
+flattened g o n r e f v = record { grows = g; old_graph = o; new_graph = n; rowless = r; entries = e; fits = f; value = v }
 
 -- the values of the old variables, with those of their cells, fit the new graph
 fits_with : {old new : List Node} {id flat : ℕ} {es : List Cell} → IsFlattened old new id flat es → (env : ℕ → Value) → Fits env old → Fits (env_with es env) new
@@ -55,8 +54,8 @@ entry_sort {old} {new} {id} {flat} {es} f env fits p e g index width row i s nod
     let P : Value → Type 0 = λ x. HasSort x s in
     ap (λ (w : ℕ). sort.Word w) (sym r.4) ∙ sort_is (value.Word (r.0.width, cell_at r.0 e.cell)) s (subst P shown (fits_with f env fits i e.number s node))
 
-entries_once : {ns : List Node} {id : ℕ} {es : List Cell} → HasEntries ns id es → IsDistinct ns → HasOnce es
-entries_once {ns} h distinct p q d e x y v w = h.numbers p d x ∙ ap (λ n. next_number ns + n) (h.once distinct p q d e x y v w) ∙ sym (h.numbers q e y)
+entries_once : {ns : List Node} {id : ℕ} {es : List Cell} → HasEntries ns id es → HasOnce es
+entries_once {ns} h p q d e x y v w = h.numbers p d x ∙ ap (λ n. next_number ns + n) (h.once p q d e x y v w) ∙ sym (h.numbers q e y)
 
 -- ---- any bits give values
 
@@ -74,8 +73,8 @@ word_cell : (x : Value) (w c : ℕ) → HasSort x (sort.Word w) → cell_of x c 
 word_cell x w c h = let a = word_of x w h in ap (λ y. cell_of y c) a.1 ∙ sym a.1
 
 -- the values of the new variables, with each row's cells gathered, are at each place what they were
-gathered_place : {old new : List Node} {id flat : ℕ} {es : List Cell} → IsFlattened old new id flat es → IsDistinct old → (env : ℕ → Value) → Fits env new → (q : Place) (i : ℕ) (s : Sort) → reach.Reaches new flat i → slice_get new i ≡ Some (Variable q.variable s) → cell_of (gather es env (place_of_cell es q).variable) (place_of_cell es q).cell ≡ cell_of (env q.variable) q.cell
-gathered_place {old} {new} {id} {flat} {es} f distinct env fits q i s r node =
+gathered_place : {old new : List Node} {id flat : ℕ} {es : List Cell} → IsFlattened old new id flat es → (env : ℕ → Value) → Fits env new → (q : Place) (i : ℕ) (s : Sort) → Reaches new flat i → slice_get new i ≡ Some (Variable q.variable s) → cell_of (gather es env (place_of_cell es q).variable) (place_of_cell es q).cell ≡ cell_of (env q.variable) q.cell
+gathered_place {old} {new} {id} {flat} {es} f env fits q i s r node =
     let fits_old = f.grows.fits env fits in
     let cell : Place → Value = λ p. cell_of (gather es env p.variable) p.cell in
     elim (entry_or_other (next_number old) es q.variable f.entries.numbers) [
@@ -89,7 +88,7 @@ gathered_place {old} {new} {id} {flat} {es} f distinct env fits q i s r node =
           let P : Sort → Type 0 = λ t. HasSort (env e.number) t in
           let has_word = subst P (sym is_word) (fits i e.number s node_e) in
           ap cell (place_of_entry (next_number old) es q entry.0 e f.entries.numbers g entry.3)
-          ∙ gather_cell es env entry.0 e row.1 row.2 (entries_once f.entries distinct) g row.5 has_row has_word
+          ∙ gather_cell es env entry.0 e row.1 row.2 (entries_once f.entries) g row.5 has_row has_word
           ∙ sym (word_cell (env e.number) row.2 q.cell has_word)
           ∙ ap (λ k. cell_of (env k) q.cell) (sym entry.3)
       | inr other ↦
@@ -97,18 +96,14 @@ gathered_place {old} {new} {id} {flat} {es} f distinct env fits q i s r node =
           ∙ ap (λ x. cell_of x q.cell) (gather_plain es env q.variable s (fits i q.variable s node) (variable_plain f.new_graph f.rowless i q.variable s r node))
     ]
 
-old_distinct : {old new : List Node} → Grows old new → IsDistinct new → IsDistinct old
-old_distinct {old} {new} g distinct i j n e f =
-    distinct i j n (node_stays old new i g (slice_get_within old i n e) ∙ e) (node_stays old new j g (slice_get_within old j n f) ∙ f)
-
-pub gives_for_cells : {old new : List Node} {id flat count : ℕ} {es : List Cell} {places : List Place} → IsFlattened old new id flat es → HasPlaces new flat count places → GivesValues new places → IsDistinct new → GivesValues old (map (place_of_cell es) places)
-gives_for_cells {old} {new} {id} {flat} {count} {es} {places} f has gives distinct _ v =
-    let given = gives distinct v in
+pub gives_for_cells : {old new : List Node} {id flat count : ℕ} {es : List Cell} {places : List Place} → IsFlattened old new id flat es → HasPlaces new flat count places → GivesValues new places → GivesValues old (map (place_of_cell es) places)
+gives_for_cells {old} {new} {id} {flat} {count} {es} {places} f has gives v =
+    let given = gives v in
     let env = given.0 in
     let fits_old = f.grows.fits env given.1 in (
       gather es env,
       (λ i k s e. gather_sort es env k s (fits_old i k s e)),
-      reads_again v es env (gather es env) places (λ p q g. let here = has.only p q g in gathered_place f (old_distinct f.grows distinct) env given.1 q here.0 here.1 here.2 here.3) given.2,
+      reads_again v es env (gather es env) places (λ p q g. let here = has.only p q g in gathered_place f env given.1 q here.0 here.1 here.2 here.3) given.2,
     )
 
 -- ---- each place is that of a cell of an old variable
@@ -170,9 +165,9 @@ old_variable {old} {new} {id} {flat} {es} f i k s node other = elim (found_or_no
 
 -- what is left to show of a place
 abbrev IsNamed : List Node → ℕ → Place → Type 0
-IsNamed ns count e = (i : ℕ) × (s : Sort) × (slice_get ns i ≡ Some (Variable e.variable s)) × (e.cell < cells_of s) × (e.first + cell_bits s ≤ count)
+IsNamed ns count e = (i : ℕ) × (s : Sort) × (slice_get ns i ≡ Some (Variable e.variable s)) × (e.cell < cells_in (Some s)) × (e.first + cell_bits s ≤ count)
 
-named_place : {old new : List Node} {id flat : ℕ} {es : List Cell} → IsFlattened old new id flat es → (count : ℕ) (q : Place) (i : ℕ) (s : Sort) → slice_get new i ≡ Some (Variable q.variable s) → q.cell < cells_of s → q.first + cell_bits s ≤ count → IsNamed old count (place_of_cell es q)
+named_place : {old new : List Node} {id flat : ℕ} {es : List Cell} → IsFlattened old new id flat es → (count : ℕ) (q : Place) (i : ℕ) (s : Sort) → slice_get new i ≡ Some (Variable q.variable s) → q.cell < cells_in (Some s) → q.first + cell_bits s ≤ count → IsNamed old count (place_of_cell es q)
 named_place {old} {new} {id} {flat} {es} f count q i s node low room =
     let P : Place → Type 0 = IsNamed old count in
     elim (entry_or_other (next_number old) es q.variable f.entries.numbers) [

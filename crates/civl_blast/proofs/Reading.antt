@@ -17,10 +17,9 @@ use Rattle.civl_symbolic.specs.Symbolic.{Shows}
 use Rattle.civl_terms.specs.declared.node.Node.{Node}
 use Rattle.civl_terms.specs.declared.node.Node.TheVariants.{Constant, Variable, One as Once, Two as Twice, Pick, Get, Set, Fill, Slice, Widen, Join}
 use Rattle.civl_terms.proofs.Soundness.{zeros, zeros_fit}
-use Rattle.civl_terms.specs.Graphs.{Fits, IsGraph}
+use Rattle.civl_terms.specs.Graphs.{Fits, IsGraph, IsDistinct}
 use Rattle.civl_reach.specs.Reaching.{is_plain}
 use Rattle.civl_reach.specs.Marks.{marked}
-use Rattle.civl_rows.specs.Cells.{IsDistinct}
 use Rattle.civl_blast.specs.Steps.{inputs_before, ShowsInputs}
 use Rattle.civl_blast.proofs.Laying.{ArePlain}
 

@@ -1,6 +1,6 @@
 -- Clauses that stand for a term without rows stand for the term that was flattened.
-use Rattle.std.specs.Prelude.{◌⊎◌, slice_get, nat_eq, IsTrue, if◌then◌else◌}
-use Rattle.std.proofs.Common.{◌≡◌, ℕ, zero, suc, ◌+◌, ◌-◌, ◌<◌, ◌≤◌, List, [], ◌∷◌, ◌++◌, length, get_or, map, refl, sym, ◌∙◌, ap, subst, inl, inr, arith, Bool, false, Option, Some, None}
+use Rattle.std.specs.Prelude.{◌⊎◌, slice_get, nat_eq, if◌then◌else◌}
+use Rattle.std.proofs.Common.{◌≡◌, ℕ, zero, suc, ◌+◌, ◌-◌, ◌<◌, ◌≤◌, List, [], ◌∷◌, ◌++◌, length, get_or, map, refl, sym, ◌∙◌, ap, subst, inl, inr, arith, Bool, false, Some}
 use Rattle.std.proofs.lemmas.Bool.{true≢false, cases_eq, cases_lt, cond-true, cond-false, eq-eqb, ne_eqb}
 use Rattle.std.proofs.lemmas.Option.{slice_get-get_or}
 use Rattle.std.proofs.lemmas.List.Elements.{All-nil, All-cons, All-head, All-tail}
@@ -12,9 +12,7 @@ use Rattle.civl_cnf.specs.ClauseSet.{ClauseSet}
 use Rattle.civl_symbolic.specs.Symbolic.{Shows}
 use Rattle.civl_terms.specs.declared.node.Node.{Node}
 use Rattle.civl_terms.specs.declared.node.Node.TheVariants.{Constant, Variable, One as Once, Two as Twice, Pick, Get, Set, Fill, Slice, Widen, Join}
-use Rattle.civl_terms.specs.Graphs.{along, node_value, values, value_in, value_at, sort_at, Fits}
-use Rattle.civl_reach.specs.Reaching as reach
-use Rattle.civl_rows.specs.Reaching as rows
+use Rattle.civl_terms.specs.Graphs.{along, node_value, values, value_in, value_at, Fits}
 use Rattle.civl_rows.specs.Cells.{cell_of, next_number, HasEntries}
 use Rattle.civl_rows.specs.Cells as cells
 use Rattle.civl_rows.specs.declared.flat.Cell.{Cell}
@@ -22,20 +20,6 @@ use Rattle.civl_rows.proofs.Numbering.{next_is_above}
 use Rattle.civl_blast.specs.declared.blasted.Place.{Place}
 use Rattle.civl_blast.specs.Standing.{Reads, StandsFor}
 use Rattle.civl_blast.specs.Renaming.{place_of_cell, CountFrom, CountUp}
-
--- ---- what is reached, in the words of both crates
-
-reached_too : {ns : List Node} {id : ℕ} (i : ℕ) → reach.Reaches ns id i → rows.Reaches ns id i
-reached_too _ reach.Reaches.itself = rows.Reaches.itself
-reached_too _ (reach.Reaches.part i k n r e p) = rows.Reaches.part i k n (reached_too i r) e p
-
-pub rowless_too : {ns : List Node} {id : ℕ} → rows.IsRowless ns id → reach.IsRowless ns id
-rowless_too {ns} rowless i r = plain_too (sort_at ns i) (rowless i (reached_too i r)) where
-  plain_too : (o : Option Sort) → IsTrue (rows.is_plain o) → IsTrue (reach.is_plain o)
-  plain_too None h = h
-  plain_too (Some s) h = plain_sort s h where
-    plain_sort : (s : Sort) → IsTrue (rows.is_plain (Some s)) → IsTrue (reach.is_plain (Some s))
-    plain_sort s h = h
 
 -- ---- the values of the variables that stand for cells
 

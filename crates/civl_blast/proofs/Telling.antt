@@ -19,15 +19,15 @@ unit_table true = refl
 unit_table false = refl
 
 pub bits_give_values : BitsGiveValues
-bits_give_values ns id set places distinct gives s v h =
+bits_give_values ns id set places gives s v h =
     let parts = Satisfies-parts v s.gates ((s.output ∷ []) ∷ []) (subst (Satisfies v) s.clauses h) in
     let on : truth_of v s.output ≡ true = sym (unit_table (truth_of v s.output)) ∙ all_true-from_Satisfies v ((s.output ∷ []) ∷ []) parts.1 in
-    let read = gives distinct v in
+    let read = gives v in
     (read.0, read.1, read.2, sym (s.is read.0 read.1 v parts.0 read.2) ∙ on)
 
 pub satisfiable_where_true : SatisfiableWhereTrue
-satisfiable_where_true ns id set places distinct gives s = (
-  λ m. let r = bits_give_values ns id set places distinct gives s m.0 m.1 in (r.0, r.1, r.3),
+satisfiable_where_true ns id set places gives s = (
+  λ m. let r = bits_give_values ns id set places gives s m.0 m.1 in (r.0, r.1, r.3),
   λ m.
       let w = s.some m.0 m.1 in
       let on : truth_of w.0 s.output ≡ true = s.is m.0 m.1 w.0 w.1 w.2 ∙ m.2 in

@@ -1,5 +1,5 @@
 -- Clause sets that stand for terms (Tseitin, "On the complexity of derivation in propositional calculus", 1968).
-use Rattle.std.specs.Prelude.{◌≡◌, ℕ, ◌+◌, ◌*◌, ◌^◌, ◌<◌, ◌≤◌, List, [], ◌∷◌, ◌++◌, length, slice_get, Bool, Some, All}
+use Rattle.std.specs.Prelude.{◌≡◌, ℕ, ◌+◌, ◌*◌, ◌<◌, ◌≤◌, List, [], ◌∷◌, ◌++◌, length, slice_get, Bool, Some, All}
 use Rattle.civl_bits.specs.declared.value.Value.{Value}
 use Rattle.civl_tree.specs.declared.expr.Sort.{Sort}
 use Rattle.civl_tree.specs.declared.expr.Sort.TheVariants as sort
@@ -12,20 +12,14 @@ use Rattle.civl_terms.specs.declared.node.Node.{Node}
 use Rattle.civl_terms.specs.declared.node.Node.TheVariants.{Variable}
 use Rattle.civl_terms.specs.Graphs.{Fits, value_at}
 use Rattle.civl_reach.specs.Reaching.{Reaches}
-use Rattle.civl_rows.specs.Cells.{cell_of, IsDistinct}
+use Rattle.civl_rows.specs.Cells.{cell_of, cells_in}
 use Rattle.civl_blast.specs.declared.blasted.Place.{Place}
-
--- how many cells a value of this sort has
-abbrev pub cells_of : Sort → ℕ
-cells_of sort.Bool = 1
-cells_of (sort.Word width) = 1
-cells_of (sort.Row index width) = 2 ^ index
 
 -- at each place stand the bits of the cell of the variable's value
 abbrev pub Reads : (ℕ → Bool) → List Place → (ℕ → Value) → Type 0
 Reads v places env = All (λ p. Shows v p.first (cell_of (env p.variable) p.cell)) places
 
--- the bits of each of them
+-- the bits of each cell of a value of this sort
 abbrev pub cell_bits : Sort → ℕ
 cell_bits sort.Bool = 1
 cell_bits (sort.Word width) = width
@@ -33,12 +27,12 @@ cell_bits (sort.Row index width) = width
 
 -- each cell of each variable that the term reaches has a place, there are no others, and their bits are among so many variables
 pub record HasPlaces (ns : List Node) (id : ℕ) (count : ℕ) (places : List Place) : Type 0 where
-  pub each : (i k c : ℕ) (s : Sort) → Reaches ns id i → slice_get ns i ≡ Some (Variable k s) → c < cells_of s → (p first : ℕ) × (slice_get places p ≡ Some (record { variable = k; cell = c; first = first }))
-  pub only : (p : ℕ) (e : Place) → slice_get places p ≡ Some e → (i : ℕ) × (s : Sort) × Reaches ns id i × (slice_get ns i ≡ Some (Variable e.variable s)) × (e.cell < cells_of s) × (e.first + cell_bits s ≤ count)
+  pub each : (i k c : ℕ) (s : Sort) → Reaches ns id i → slice_get ns i ≡ Some (Variable k s) → c < cells_in (Some s) → (p first : ℕ) × (slice_get places p ≡ Some (record { variable = k; cell = c; first = first }))
+  pub only : (p : ℕ) (e : Place) → slice_get places p ≡ Some e → (i : ℕ) × (s : Sort) × Reaches ns id i × (slice_get ns i ≡ Some (Variable e.variable s)) × (e.cell < cells_in (Some s)) × (e.first + cell_bits s ≤ count)
 
 -- each place is that of a cell of one of the graph's variables, whose bits are among so many variables
 pub record NamesCells (ns : List Node) (count : ℕ) (places : List Place) : Type 0 where
-  pub only : (p : ℕ) (e : Place) → slice_get places p ≡ Some e → (i : ℕ) × (s : Sort) × (slice_get ns i ≡ Some (Variable e.variable s)) × (e.cell < cells_of s) × (e.first + cell_bits s ≤ count)
+  pub only : (p : ℕ) (e : Place) → slice_get places p ≡ Some e → (i : ℕ) × (s : Sort) × (slice_get ns i ≡ Some (Variable e.variable s)) × (e.cell < cells_in (Some s)) × (e.first + cell_bits s ≤ count)
 
 -- The clauses but the last, which is the unit clause of the output, leave exactly one choice of bits for each list of values of the graph's variables, and this choice makes the output true exactly where the term is true.
 pub record StandsFor (ns : List Node) (id : ℕ) (set : ClauseSet) (places : List Place) : Type 0 where
@@ -51,7 +45,7 @@ pub record StandsFor (ns : List Node) (id : ℕ) (set : ClauseSet) (places : Lis
 
 -- bits give values: any bits are at each place those of some values
 abbrev pub GivesValues : List Node → List Place → Type 0
-GivesValues ns places = IsDistinct ns → (v : ℕ → Bool) → (env : ℕ → Value) × Fits env ns × Reads v places env
+GivesValues ns places = (v : ℕ → Bool) → (env : ℕ → Value) × Fits env ns × Reads v places env
 
 -- at most so many variables, and eight clauses for each, and two more
 pub record IsSmall (set : ClauseSet) (most : ℕ) : Type 0 where

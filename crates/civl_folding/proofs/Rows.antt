@@ -96,16 +96,16 @@ write_at i w r n m e f h = rw (eq-eqb i r.index (sym e), eq-eqb w r.width (sym f
 
 -- the parts of a write of these sorts
 record Write (i w : ℕ) (x y z : Value) : Type 0 where
-  pub row : Cells
+  pub array : Cells
   pub at : ℕ
   pub cell : ℕ
-  pub is_row : x ≡ value.Row row
+  pub is_row : x ≡ value.Row array
   pub is_at : y ≡ value.Word (i, at)
   pub is_cell : z ≡ value.Word (w, cell)
-  pub fits : IsRow row
-  pub index : row.index ≡ i
-  pub width : row.width ≡ w
-  pub within : at < 2 ^ row.index
+  pub fits : IsRow array
+  pub index : array.index ≡ i
+  pub width : array.width ≡ w
+  pub within : at < 2 ^ array.index
 
 write : (i w : ℕ) (t u v : Sort) (x y z : Value) → set_sort (Some (Row i w)) (Some t) (Some u) ≡ Some v → HasSort x (Row i w) → HasSort y t → HasSort z u → Write i w x y z
 write i w t u v x y z e hx hy hz =
@@ -114,20 +114,20 @@ write i w t u v x y z e hx hy hz =
     let r = row_of x i w hx in
     let n = word_of y i (given t y hy (Word i) (of_width i (Some t) j.0)) in
     let m = word_of z w (given u z hz (Word w) (of_width w (Some u) j.1)) in
-    record { row = r.0; at = n.0; cell = m.0; is_row = r.1; is_at = n.1; is_cell = m.1; fits = r.2; index = r.3; width = r.4; within = subst (λ (q : ℕ). n.0 < 2 ^ q) (sym r.3) n.2.fits }
+    record { array = r.0; at = n.0; cell = m.0; is_row = r.1; is_at = n.1; is_cell = m.1; fits = r.2; index = r.3; width = r.4; within = subst (λ (q : ℕ). n.0 < 2 ^ q) (sym r.3) n.2.fits }
 
-write_is : (i w : ℕ) (x y z : Value) (h : Write i w x y z) → cell_at h.row h.at ≡ h.cell → set_value x y z ≡ x
+write_is : (i w : ℕ) (x y z : Value) (h : Write i w x y z) → cell_at h.array h.at ≡ h.cell → set_value x y z ≡ x
 write_is i w x y z h e =
-    ap (λ (v : Value). set_value v y z) h.is_row ∙ ap (λ (v : Value). set_value (value.Row h.row) v z) h.is_at ∙ ap (λ (v : Value). set_value (value.Row h.row) (value.Word (i, h.at)) v) h.is_cell
-    ∙ write_at i w h.row h.at h.cell h.index h.width e ∙ sym h.is_row
+    ap (λ (v : Value). set_value v y z) h.is_row ∙ ap (λ (v : Value). set_value (value.Row h.array) v z) h.is_at ∙ ap (λ (v : Value). set_value (value.Row h.array) (value.Word (i, h.at)) v) h.is_cell
+    ∙ write_at i w h.array h.at h.cell h.index h.width e ∙ sym h.is_row
 
 filled_write : (i w : ℕ) (x y z : Value) (h : Write i w x y z) → (is_filled x && same_value (first_cell x) z) ≡ true → set_value x y z ≡ x
 filled_write i w x y z h e =
     let b = both (is_filled x) (same_value (first_cell x) z) e in
-    let f : is_filled (value.Row h.row) ≡ true = subst (λ (v : Value). is_filled v ≡ true) h.is_row b.0 in
-    let c : first_cell (value.Row h.row) ≡ value.Word (w, h.cell) = ap first_cell (sym h.is_row) ∙ (same_is_equality (first_cell x) z).0 b.1 ∙ h.is_cell in
-    let d : cell_at h.row 0 ≡ h.cell = number c in
-    write_is i w x y z h (filled_cell h.row h.at f h.within ∙ d)
+    let f : is_filled (value.Row h.array) ≡ true = subst (λ (v : Value). is_filled v ≡ true) h.is_row b.0 in
+    let c : first_cell (value.Row h.array) ≡ value.Word (w, h.cell) = ap first_cell (sym h.is_row) ∙ (same_is_equality (first_cell x) z).0 b.1 ∙ h.is_cell in
+    let d : cell_at h.array 0 ≡ h.cell = number c in
+    write_is i w x y z h (filled_cell h.array h.at f h.within ∙ d)
   where
     number_of : Value → ℕ
     number_of (value.Word a) = a.1
@@ -139,8 +139,8 @@ filled_write i w x y z h e =
 identity_write : (i w : ℕ) (x y z : Value) (h : Write i w x y z) (same : Bool) → AreSame same y z → (is_identity x && same) ≡ true → set_value x y z ≡ x
 identity_write i w x y z h same s e =
     let b = both (is_identity x) same e in
-    let f : is_identity (value.Row h.row) ≡ true = subst (λ (v : Value). is_identity v ≡ true) h.is_row b.0 in
-    let k = identity_cell h.row h.at h.fits f h.within in
+    let f : is_identity (value.Row h.array) ≡ true = subst (λ (v : Value). is_identity v ≡ true) h.is_row b.0 in
+    let k = identity_cell h.array h.at h.fits f h.within in
     let c : value.Word (i, h.at) ≡ value.Word (w, h.cell) = sym h.is_at ∙ s b.1 ∙ h.is_cell in
     write_is i w x y z h (k.0 ∙ number c)
   where

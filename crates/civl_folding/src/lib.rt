@@ -15,3 +15,6 @@ mod pairs;
 pub use folded::Folded;
 pub use folding::{fill, get, join, one, pick, set, slice, widen};
 pub use pairs::two;
+
+#[cfg(test)]
+mod tests;

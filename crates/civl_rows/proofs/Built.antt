@@ -11,7 +11,7 @@ use Rattle.civl_terms.specs.declared.node.Node.TheVariants.{Constant}
 use Rattle.civl_terms.specs.Graphs.{sorts, sort_at, PartsBelow}
 use Rattle.civl_terms.specs.Weights.{is_part, node_weight}
 use Rattle.civl_terms.specs.Building.{Grows, Numbers, Answers, Built}
-use Rattle.civl_rows.specs.Reaching.{is_plain}
+use Rattle.civl_reach.specs.Reaching.{is_plain}
 use Rattle.civl_rows.specs.Cells.{number_above}
 use Rattle.civl_rows.specs.Making.{Has, AllIn, Adds, IsCalm, MakesOne}
 use Rattle.civl_rows.proofs.Growth.{node_weight_stays, calm_more, calm_refl}
@@ -39,7 +39,7 @@ answers_add {old} {new} {Uses} {n} {a} {b} {c} {cost} folded.Third id o g p h = 
 same_calm : {old new : List Node} → new ≡ old → IsCalm old new
 same_calm {old} {new} e = let P : List Node → Type 0 = λ ns. IsCalm old ns in subst P (sym e) (calm_refl old)
 
-answers_calm : {old new : List Node} (n : Node) (a b c : ℕ) (f : Folded) (id : ℕ) → number_above n ≡ 0 → Grows old new → Answers old new f n a b c id → IsCalm old new
+pub answers_calm : {old new : List Node} (n : Node) (a b c : ℕ) (f : Folded) (id : ℕ) → number_above n ≡ 0 → Grows old new → Answers old new f n a b c id → IsCalm old new
 answers_calm {old} {new} n a b c folded.New id z g h = calm_more old new n g z h.adds
 answers_calm {old} {new} n a b c (folded.Constant v) id z g h = calm_more old new (Constant v) g refl h.adds
 answers_calm n a b c folded.First id z g h = same_calm h.1

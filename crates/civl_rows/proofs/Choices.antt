@@ -12,7 +12,7 @@ use Rattle.civl_values.specs.Operators.{two_value, pick_value, slice_value}
 use Rattle.civl_values.specs.Weights.{bits_in, two_weight, move_weight}
 use Rattle.civl_terms.specs.declared.node.Node.{Node}
 use Rattle.civl_terms.specs.Graphs.{sort_at, value_at}
-use Rattle.civl_rows.specs.Reaching.{is_plain}
+use Rattle.civl_reach.specs.Reaching.{is_plain}
 use Rattle.civl_rows.specs.Making.{Has, HaveSort, Makes, MakesOne, UsesNone, UsesOne, UsesTwo, UsesRead, bit_value, chosen}
 use Rattle.std.proofs.lemmas.Nat.{pow_pos}
 use Rattle.std.proofs.lemmas.List.{get_or_read}

@@ -10,7 +10,7 @@ use Rattle.civl_values.specs.Operators.{two_value}
 use Rattle.civl_values.specs.Weights.{bits_in, two_weight}
 use Rattle.civl_terms.specs.declared.node.Node.{Node}
 use Rattle.civl_terms.specs.Graphs.{sort_at, value_at}
-use Rattle.civl_rows.specs.Reaching.{is_plain}
+use Rattle.civl_reach.specs.Reaching.{is_plain}
 use Rattle.civl_rows.specs.Making.{HaveSort, MakesOne, UsesTwo, UsesThree, UsesPairs, joined, IsComparison, IsJoin}
 use Rattle.civl_rows.proofs.Growth.{calm_trans}
 use Rattle.civl_rows.proofs.Solid.{all_at, adds_then}

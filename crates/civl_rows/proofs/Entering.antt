@@ -7,9 +7,9 @@ use Rattle.civl_tree.specs.declared.expr.Sort.{Sort}
 use Rattle.civl_tree.specs.declared.expr.Sort.TheVariants as sort
 use Rattle.civl_terms.specs.declared.node.Node.{Node}
 use Rattle.civl_terms.specs.declared.node.Node.TheVariants.{Constant, Variable, One as Once, Two as Twice, Pick, Get, Set, Fill, Slice, Widen, Join}
-use Rattle.civl_terms.specs.Graphs.{IsGraph}
-use Rattle.civl_rows.specs.Cells.{next_number, IsDistinct}
-use Rattle.civl_rows.specs.Marks.{marked}
+use Rattle.civl_terms.specs.Graphs.{IsGraph, IsDistinct}
+use Rattle.civl_rows.specs.Cells.{next_number}
+use Rattle.civl_reach.specs.Marks.{marked}
 use Rattle.civl_rows.specs.Expanding.{row_entries, entries_of}
 use Rattle.civl_rows.specs.declared.flat.Cell.{Cell}
 use Rattle.civl_rows.proofs.Growth.{same_node}
@@ -90,7 +90,7 @@ pub record EntriesTo (source : List Node) (marks : List Bool) (at : ℕ) (cells 
   pub each : (i k index width c : ℕ) → i < at → IsTrue (marked marks i) → slice_get source i ≡ Some (row_variable k index width) → c < 2 ^ index → (p : ℕ) × (slice_get cells p ≡ Some (entry k c (next_number source + p)))
   pub only : (p : ℕ) (e : Cell) → slice_get cells p ≡ Some e → (i index width : ℕ) × (i < at) × IsTrue (marked marks i) × (slice_get source i ≡ Some (row_variable e.variable index width)) × (e.cell < 2 ^ index)
   pub numbers : (p : ℕ) (e : Cell) → slice_get cells p ≡ Some e → e.number ≡ next_number source + p
-  pub once : IsDistinct source → (p q : ℕ) (d e : Cell) → slice_get cells p ≡ Some d → slice_get cells q ≡ Some e → d.variable ≡ e.variable → d.cell ≡ e.cell → p ≡ q
+  pub once : (p q : ℕ) (d e : Cell) → slice_get cells p ≡ Some d → slice_get cells q ≡ Some e → d.variable ≡ e.variable → d.cell ≡ e.cell → p ≡ q
 
 nothing_at : (p : ℕ) (e : Cell) (xs : List Cell) → xs ≡ [] → slice_get xs p ≡ Some e → ⊥
 nothing_at p e xs z h = absurd (omega (arith, slice_get_within xs p e h, ap length z))
@@ -100,7 +100,7 @@ entries_none source marks = record {
   each = λ i k index width c h. absurd (omega arith);
   only = λ p e h. absurd (nothing_at p e [] refl h);
   numbers = λ p e h. absurd (nothing_at p e [] refl h);
-  once = λ u p q d e h. absurd (nothing_at p d [] refl h);
+  once = λ p q d e h. absurd (nothing_at p d [] refl h);
 }
 
 -- a node that isn't marked, or makes none
@@ -119,8 +119,8 @@ row_parts : (k index width j i w : ℕ) → row_variable k index width ≡ row_v
 row_parts k index width j i w e = (cc, cc)
 
 -- a variable that is a row
-pub entries_more : {source : List Node} {marks : List Bool} {at : ℕ} {cells after : List Cell} (variable index width : ℕ) → IsGraph source → EntriesTo source marks at cells → IsTrue (marked marks at) → slice_get source at ≡ Some (row_variable variable index width) → after ≡ cells ++ row_entries variable (next_number source + length cells) (2 ^ index) → EntriesTo source marks (at + 1) after
-entries_more {source} {marks} {at} {cells} {after} variable index width graph m marked_at node eq =
+pub entries_more : {source : List Node} {marks : List Bool} {at : ℕ} {cells after : List Cell} (variable index width : ℕ) → IsGraph source → IsDistinct source → EntriesTo source marks at cells → IsTrue (marked marks at) → slice_get source at ≡ Some (row_variable variable index width) → after ≡ cells ++ row_entries variable (next_number source + length cells) (2 ^ index) → EntriesTo source marks (at + 1) after
+entries_more {source} {marks} {at} {cells} {after} variable index width graph distinct m marked_at node eq =
     let f = next_number source + length cells in
     let block = row_entries variable f (2 ^ index) in
     let P : List Cell → Type 0 = λ xs. EntriesTo source marks (at + 1) xs in
@@ -128,15 +128,15 @@ entries_more {source} {marks} {at} {cells} {after} variable index width graph m 
     λ p e l h. of_block variable f (2 ^ index) (p - length cells) e (sym (get-right cells block p (p - length cells) (omega arith)) ∙ h) in
     let front : (p : ℕ) (e : Cell) → p < length cells → slice_get (cells ++ block) p ≡ Some e → slice_get cells p ≡ Some e =
     λ p e l h. sym (get-left cells block p l) ∙ h in
-    let apart : IsDistinct source → (p q : ℕ) (d e : Cell) → p < length cells → length cells ≤ q → slice_get (cells ++ block) p ≡ Some d → slice_get (cells ++ block) q ≡ Some e → d.variable ≡ e.variable → ⊥ =
-    λ u p q d e l k h g v.
+    let apart : (p q : ℕ) (d e : Cell) → p < length cells → length cells ≤ q → slice_get (cells ++ block) p ≡ Some d → slice_get (cells ++ block) q ≡ Some e → d.variable ≡ e.variable → ⊥ =
+    λ p q d e l k h g v.
     let o = m.only p d (front p d l h) in
     let b = behind q e k g in
     let same : d.variable ≡ variable = v ∙ sym (ap (λ (x : Cell). x.variable) b.1) in
     let theirs : slice_get source o.0 ≡ Some (row_variable variable o.1 o.2) = o.5 ∙ ap (λ (x : ℕ). Some (row_variable x o.1 o.2)) same in
     let sorts : sort.Row o.1 o.2 ≡ sort.Row index width = graph.variables at (row_variable variable index width) node o.0 (sort.Row o.1 o.2) theirs in
     let there : slice_get source o.0 ≡ Some (row_variable variable index width) = theirs ∙ ap (λ (s : Sort). Some (Variable variable s)) sorts in
-    absurd (omega (arith, u o.0 at (row_variable variable index width) there node, o.3)) in
+    absurd (omega (arith, distinct o.0 at (row_variable variable index width) there node, o.3)) in
     subst P (sym eq) (record {
       each = λ i k j w c h y e l. elim (cases_eq i at) [
         | inl q ↦
@@ -163,13 +163,13 @@ entries_more {source} {marks} {at} {cells} {after} variable index width graph m 
         | inl l ↦ m.numbers p e (front p e l h)
         | inr l ↦ let b = behind p e l h in sym (ap (λ (x : Cell). x.number) b.1) ∙ omega arith
       ];
-      once = λ u p q d e h g v c. elim (cases_lt p (length cells)) [
+      once = λ p q d e h g v c. elim (cases_lt p (length cells)) [
         | inl l ↦ elim (cases_lt q (length cells)) [
-          | inl k ↦ m.once u p q d e (front p d l h) (front q e k g) v c
-          | inr k ↦ absurd (apart u p q d e l k h g v)
+          | inl k ↦ m.once p q d e (front p d l h) (front q e k g) v c
+          | inr k ↦ absurd (apart p q d e l k h g v)
         ]
         | inr l ↦ elim (cases_lt q (length cells)) [
-          | inl k ↦ absurd (apart u q p e d k l g h (sym v))
+          | inl k ↦ absurd (apart q p e d k l g h (sym v))
           | inr k ↦
               let b = behind p d l h in
               let a = behind q e k g in
@@ -181,10 +181,10 @@ entries_more {source} {marks} {at} {cells} {after} variable index width graph m 
     })
 
 -- a marked node, whatever it is
-pub entries_step : {source : List Node} {marks : List Bool} {at : ℕ} {cells after : List Cell} (n : Node) → IsGraph source → EntriesTo source marks at cells → IsTrue (marked marks at) → slice_get source at ≡ Some n → after ≡ cells ++ entries_of n (next_number source + length cells) → EntriesTo source marks (at + 1) after
-entries_step {source} {marks} {at} {cells} {after} n graph m y e eq = elim (kinds n) [
+pub entries_step : {source : List Node} {marks : List Bool} {at : ℕ} {cells after : List Cell} (n : Node) → IsGraph source → IsDistinct source → EntriesTo source marks at cells → IsTrue (marked marks at) → slice_get source at ≡ Some n → after ≡ cells ++ entries_of n (next_number source + length cells) → EntriesTo source marks (at + 1) after
+entries_step {source} {marks} {at} {cells} {after} n graph distinct m y e eq = elim (kinds n) [
   | inl r ↦
-      entries_more r.variable r.index r.width graph m y (e ∙ ap (λ (x : Node). Some x) r.is) (eq ∙ ap (λ (x : Node). cells ++ entries_of x (next_number source + length cells)) r.is)
+      entries_more r.variable r.index r.width graph distinct m y (e ∙ ap (λ (x : Node). Some x) r.is) (eq ∙ ap (λ (x : Node). cells ++ entries_of x (next_number source + length cells)) r.is)
   | inr r ↦
       let P : List Cell → Type 0 = λ xs. EntriesTo source marks (at + 1) xs in
       let same : after ≡ cells = eq ∙ ap (λ (xs : List Cell). cells ++ xs) (r.none (next_number source + length cells)) ∙ append-nil cells in

@@ -15,7 +15,7 @@ use Rattle.civl_terms.specs.declared.node.Node.{Node}
 use Rattle.civl_terms.specs.declared.node.Node.TheVariants.{Variable}
 use Rattle.civl_terms.specs.Graphs.{sort_at, value_at, IsFree, Fits}
 use Rattle.civl_terms.specs.Building.{Grows, Numbers, Built}
-use Rattle.civl_rows.specs.Reaching.{is_plain}
+use Rattle.civl_reach.specs.Reaching.{is_plain}
 use Rattle.civl_rows.specs.Cells.{cell_of, next_number, Reads}
 use Rattle.civl_rows.specs.Making.{UsesNone, Adds}
 use Rattle.civl_rows.specs.Expanding.{row_entries, Expands}

@@ -1,4 +1,3 @@
-pub mod Marked
 pub mod Numbering
 pub mod Growth
 pub mod Solid

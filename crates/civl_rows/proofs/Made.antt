@@ -12,7 +12,7 @@ use Rattle.civl_values.specs.Operators.{pick_value}
 use Rattle.civl_terms.specs.declared.node.Node.{Node}
 use Rattle.civl_terms.specs.Graphs.{sort_at, value_at, Fits}
 use Rattle.civl_terms.specs.Building.{Grows}
-use Rattle.civl_rows.specs.Reaching.{is_plain}
+use Rattle.civl_reach.specs.Reaching.{is_plain}
 use Rattle.civl_rows.specs.Making.{Has, AllIn, Covers, Makes, MakesOne}
 use Rattle.std.proofs.lemmas.List.{get_or_past}
 use Rattle.civl_terms.specs.Graphs.{sorts}

@@ -18,7 +18,7 @@ use Rattle.civl_tree.specs.declared.expr.Two.TheVariants.{Eq, Ne, And, Or}
 use Rattle.civl_values.specs.Operators.{nothing, is_index, two_value, pick_value, get_value, set_value, fill_value}
 use Rattle.civl_values.specs.Values.{HasSort}
 use Rattle.civl_values.proofs.Sorting.{bool_of, word_of, row_of}
-use Rattle.civl_rows.specs.Reaching.{is_plain}
+use Rattle.civl_reach.specs.Reaching.{is_plain}
 use Rattle.civl_rows.specs.Cells.{cell_of, cells_in}
 use Rattle.civl_rows.specs.Making.{bit_value, written, chosen, joined}
 

@@ -15,7 +15,7 @@ use Rattle.civl_values.proofs.Sorting.{common, a_word, a_truth, of_width, over}
 use Rattle.civl_terms.specs.declared.node.Node.{Node}
 use Rattle.civl_terms.specs.Graphs.{PartsBelow, values, sorts, sort_at, value_at, node_value, node_sort, IsGraph, Fits}
 use Rattle.civl_terms.specs.Weights.{node_weight, weight_in, own_weight}
-use Rattle.civl_rows.specs.Reaching.{is_plain}
+use Rattle.civl_reach.specs.Reaching.{is_plain}
 use Rattle.civl_rows.specs.Cells.{cell_of, cells_in, cell_sort}
 use Rattle.civl_rows.specs.Making.{Has, AllIn, HaveSort, HasShape, HasCells, Here, is_comparison}
 use Rattle.civl_terms.proofs.Nodes.{value_of_node, sort_of_node}

@@ -8,7 +8,7 @@ use Rattle.civl_values.specs.Weights.{bits_in, pick_weight}
 use Rattle.civl_terms.specs.declared.node.Node.{Node}
 use Rattle.civl_terms.specs.Graphs.{sort_at, value_at}
 use Rattle.civl_terms.specs.Building.{Grows}
-use Rattle.civl_rows.specs.Reaching.{is_plain}
+use Rattle.civl_reach.specs.Reaching.{is_plain}
 use Rattle.civl_rows.specs.Making.{Has, Makes, MakesOne, UsesThree}
 use Rattle.civl_rows.proofs.Made.{sort_stays, value_stays, pick_sort_is, pick_same, makes_more}
 

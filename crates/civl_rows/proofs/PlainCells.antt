@@ -13,7 +13,7 @@ use Rattle.civl_terms.specs.declared.node.Node.{Node}
 use Rattle.civl_terms.specs.declared.node.Node.TheVariants.{One as Once, Two as Twice, Slice, Widen, Join}
 use Rattle.civl_terms.specs.Graphs.{sort_at, value_at, IsGraph, Fits}
 use Rattle.civl_terms.specs.Weights.{own_weight, is_part}
-use Rattle.civl_rows.specs.Reaching.{is_plain}
+use Rattle.civl_reach.specs.Reaching.{is_plain}
 use Rattle.civl_rows.specs.Cells.{cell_of, cells_in, cell_sort}
 use Rattle.civl_rows.specs.Making.{PartsHaveCells, HasParts, Here, cells_at, Makes, MakesOne, MakesCells, UsesOne, UsesTwo, is_comparison}
 use Rattle.civl_rows.proofs.Growth.{calm_refl, grows_refl}

@@ -24,7 +24,7 @@ use Rattle.civl_terms.specs.declared.node.Node.{Node}
 use Rattle.civl_terms.specs.declared.node.Node.TheVariants.{Constant, Two as Twice, Pick, Get, Set, Fill}
 use Rattle.civl_terms.specs.Graphs.{sort_at, value_at}
 use Rattle.civl_terms.specs.Weights.{is_part}
-use Rattle.civl_rows.specs.Reaching.{is_plain}
+use Rattle.civl_reach.specs.Reaching.{is_plain}
 use Rattle.civl_rows.specs.Cells.{cell_of, cells_in, cell_sort}
 use Rattle.civl_rows.specs.Making.{Has, AllIn, HaveSort, Here, cells_at, Makes, MakesOne, MakesCells, UsesNone, UsesPicks, UsesPairs, UsesWrite, UsesRead, bit_value, written, chosen, joined, is_comparison, IsComparison, IsJoin, Joins, index_in}
 use Rattle.civl_rows.proofs.Growth.{calm_refl, grows_refl}

@@ -6,7 +6,7 @@ use Rattle.civl_terms.specs.declared.node.Node.{Node}
 use Rattle.civl_terms.specs.Graphs.{sorts, sort_at}
 use Rattle.civl_terms.specs.Weights.{is_part, node_weight, weight_in, own_weight}
 use Rattle.civl_terms.specs.Building.{Grows}
-use Rattle.civl_rows.specs.Reaching.{is_plain}
+use Rattle.civl_reach.specs.Reaching.{is_plain}
 use Rattle.civl_rows.specs.Making.{Has, AllIn, Covers, IsSolid, set_weight, Adds}
 use Rattle.civl_rows.proofs.Growth.{node_stays, own_weight_stays, parts_from, same_node}
 

@@ -12,7 +12,7 @@ use Rattle.civl_terms.specs.declared.node.Node.{Node}
 use Rattle.civl_terms.specs.declared.node.Node.TheVariants.{Constant, Variable, One as Once, Two as Twice, Pick, Get, Set, Fill, Slice, Widen, Join}
 use Rattle.civl_terms.specs.Graphs.{sort_at}
 use Rattle.civl_terms.specs.Weights.{own_weight}
-use Rattle.civl_rows.specs.Reaching.{is_plain}
+use Rattle.civl_reach.specs.Reaching.{is_plain}
 use Rattle.civl_rows.specs.Cells.{cell_of, cells_in, cell_sort, next_number}
 use Rattle.civl_rows.specs.Making.{HasParts, Here, MakesCells}
 use Rattle.civl_rows.specs.Expanding.{Expands, Steps, entries_of, row_entries, is_variable}

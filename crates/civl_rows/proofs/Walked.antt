@@ -11,16 +11,16 @@ use Rattle.civl_values.specs.Operators.{nothing, is_index, is_width}
 use Rattle.civl_values.specs.Values.{is_sort}
 use Rattle.civl_terms.specs.declared.node.Node.{Node}
 use Rattle.civl_terms.specs.declared.node.Node.TheVariants.{Constant}
-use Rattle.civl_terms.specs.Graphs.{sort_at, value_at, IsGraph, Fits}
+use Rattle.civl_terms.specs.Graphs.{sort_at, value_at, IsGraph, IsDistinct, Fits}
 use Rattle.civl_terms.specs.Weights.{own_weight, weight_in, is_part, with_parts, reached_weight, term_weight}
 use Rattle.civl_terms.specs.Building.{Grows}
-use Rattle.civl_rows.specs.Reaching.{Reaches, is_plain, IsRowless}
+use Rattle.civl_reach.specs.Reaching.{Reaches, is_plain, IsRowless}
 use Rattle.civl_rows.specs.Cells.{cell_of, cells_in, cell_sort, next_number, Reads, HasEntries}
-use Rattle.civl_rows.specs.Marks.{marked, weight_from, IsMarking}
+use Rattle.civl_reach.specs.Marks.{marked, weight_from, IsMarking}
 use Rattle.civl_rows.specs.Making.{Has, AllIn, IsSolid, set_weight, HasShape, HasCells, PartsShaped, cells_at}
 use Rattle.civl_rows.specs.Expanding.{Steps, entries_of}
 use Rattle.civl_rows.specs.declared.flat.Cell.{Cell}
-use Rattle.civl_rows.proofs.Marked.{weight-more, part_is_below}
+use Rattle.civl_reach.proofs.Marked.{weight-more, part_is_below}
 use Rattle.civl_rows.proofs.Growth.{grows_refl, grows_trans, node_stays, own_weight_stays, parts_wider}
 use Rattle.civl_rows.proofs.Solid.{all_covered, all_at}
 use Rattle.civl_rows.proofs.Parts.{own_cell}
@@ -129,8 +129,8 @@ walk_other {source} {ns} {id} {marks} {cells} {table} {at} new after out ids m l
     })))
 
 -- a node that is marked
-pub walk_marked : {source ns : List Node} {id : ℕ} {marks : List Bool} {cells : List Cell} {table : List (List ℕ)} {at : ℕ} (new : List Node) (after : List Cell) (out : List (List ℕ)) (ids : List ℕ) (n : Node) → IsGraph source → IsMarking source id 0 marks → Flattening source ns id marks cells table at → at ≤ id → id < length source → IsTrue (marked marks at) → slice_get source at ≡ Some n → Steps ns new cells after table n at ids → out ≡ table ++ ids ∷ [] → Flattening source new id marks after out (at + 1)
-walk_marked {source} {ns} {id} {marks} {cells} {table} {at} new after out ids n graph marking m l w y e s eo =
+pub walk_marked : {source ns : List Node} {id : ℕ} {marks : List Bool} {cells : List Cell} {table : List (List ℕ)} {at : ℕ} (new : List Node) (after : List Cell) (out : List (List ℕ)) (ids : List ℕ) (n : Node) → IsGraph source → IsDistinct source → IsMarking source id 0 marks → Flattening source ns id marks cells table at → at ≤ id → id < length source → IsTrue (marked marks at) → slice_get source at ≡ Some n → Steps ns new cells after table n at ids → out ≡ table ++ ids ∷ [] → Flattening source new id marks after out (at + 1)
+walk_marked {source} {ns} {id} {marks} {cells} {table} {at} new after out ids n graph distinct marking m l w y e s eo =
     let R : List (List ℕ) → Type 0 = λ xs. Flattening source new id marks after xs (at + 1) in
     let rest = marked_rest source id at marks l y in
     let below = graph.parts at n e in
@@ -166,22 +166,22 @@ walk_marked {source} {ns} {id} {marks} {cells} {table} {at} new after out ids n 
       ];
       weighs = omega (arith, added.1.weighs, m.weighs, rest, own);
       few = omega (arith, m.few, rest, many, entries_few source graph at n (next_number ns) e);
-      entries = entries_step n graph m.entries y e (s.cells ∙ ap (λ (x : ℕ). cells ++ entries_of n x) m.numbers);
+      entries = entries_step n graph distinct m.entries y e (s.cells ∙ ap (λ (x : ℕ). cells ++ entries_of n x) m.numbers);
     })
 
 -- ---- the step, as the code makes it
 
 pub walk_step : {source ns : List Node} {id : ℕ} {marks : List Bool} {cells : List Cell} {table : List (List ℕ)} {at : ℕ} (new : List Node) (after : List Cell) (ms : List Bool) (ts out : List (List ℕ)) (ids : List ℕ)
-    → IsGraph source → IsMarking source id 0 marks → Flattening source ns id marks cells table at → at ≤ id → id < length source → ms ≡ marks → ts ≡ table
+    → IsGraph source → IsDistinct source → IsMarking source id 0 marks → Flattening source ns id marks cells table at → at ≤ id → id < length source → ms ≡ marks → ts ≡ table
     → (IsTrue (marked ms at) → (n : Node) → slice_get ns at ≡ Some n → Steps ns new cells after ts n at ids)
     → (marked ms at ≡ false → (new ≡ ns) × (after ≡ cells))
     → out ≡ table ++ ids ∷ [] → Flattening source new id marks after out (at + 1)
-walk_step {source} {ns} {id} {marks} {cells} {table} {at} new after ms ts out ids graph marking m l w em et steps other eo = elim (cases_Bool (marked ms at)) [
+walk_step {source} {ns} {id} {marks} {cells} {table} {at} new after ms ts out ids graph distinct marking m l w em et steps other eo = elim (cases_Bool (marked ms at)) [
   | inl y ↦
       let n = get_or source at (Constant nothing) in
       let e : slice_get source at ≡ Some n = slice_get-get_or source at (Constant nothing) (omega arith) in
       let P : List (List ℕ) → Type 0 = λ xs. Steps ns new cells after xs n at ids in
-      walk_marked new after out ids n graph marking m l w (sym (ap (λ (xs : List Bool). marked xs at) em) ∙ y) e (subst P et (steps y n (node_stays source ns at m.grows (omega arith) ∙ e))) eo
+      walk_marked new after out ids n graph distinct marking m l w (sym (ap (λ (xs : List Bool). marked xs at) em) ∙ y) e (subst P et (steps y n (node_stays source ns at m.grows (omega arith) ∙ e))) eo
   | inr y ↦
       let o = other y in
       walk_other new after out ids m l (sym (ap (λ (xs : List Bool). marked xs at) em) ∙ y) o.0 o.1 eo

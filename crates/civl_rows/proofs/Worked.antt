@@ -8,9 +8,9 @@ use Rattle.civl_tree.specs.declared.expr.Sort.TheVariants as sort
 use Rattle.civl_tree.specs.declared.expr.Two.TheVariants.{Eq}
 use Rattle.civl_terms.specs.declared.node.Node.TheVariants.{Constant, Variable, Two as Twice, Get}
 use Rattle.civl_terms.specs.Graphs.{sorts}
-use Rattle.civl_rows.specs.Reaching.{Reaches, IsRowless}
+use Rattle.civl_reach.specs.Reaching.{Reaches, IsRowless}
 use Rattle.civl_rows.specs.Cells.{cell_of, Reads, HasEntries}
-use Rattle.civl_rows.specs.Example.{example, example_cells, example_row}
+use Rattle.civl_rows.specs.Example.{index_bits, cell_bits, pair, example, example_cells, example_array}
 use Rattle.civl_rows.specs.declared.flat.Cell.{Cell}
 use Rattle.civl_rows.proofs.Growth.{same_node}
 use Rattle.civl_rows.proofs.Entering.{row_variable, entry}
@@ -22,19 +22,19 @@ pub worked_rows : IsRowless example 4 → ⊥
 unfolding sorts
 worked_rows h = absurd (false≢true (h 0 worked_reaches))
 
-pub worked_reads : (env : ℕ → Value) → env 3 ≡ example_row → env 4 ≡ value.Word (4, 5) → env 5 ≡ value.Word (4, 9) → Reads env example_cells
+pub worked_reads : (env : ℕ → Value) → env 3 ≡ example_array → env 4 ≡ value.Word (cell_bits, 5) → env 5 ≡ value.Word (cell_bits, 9) → Reads env example_cells
 worked_reads env e f g = (f ∙ ap (λ (v : Value). cell_of v 0) (sym e), (g ∙ ap (λ (v : Value). cell_of v 1) (sym e), tt))
 
-the_row : (k index width : ℕ) → Variable 3 (sort.Row 1 4) ≡ row_variable k index width → (3 ≡ k) × (1 ≡ index)
+the_row : (k index width : ℕ) → Variable 3 pair ≡ row_variable k index width → (3 ≡ k) × (index_bits ≡ index)
 the_row k index width e = (cc, cc)
 
-no_word : (k index width : ℕ) → Variable 1 (sort.Word 1) ≡ row_variable k index width → ⊥
+no_word : (k index width : ℕ) → Variable 1 (sort.Word index_bits) ≡ row_variable k index width → ⊥
 no_word k index width e = cc
 
 no_read : (k index width : ℕ) → Get 0 1 ≡ row_variable k index width → ⊥
 no_read k index width e = cc
 
-no_constant : (k index width : ℕ) → Constant (value.Word (4, 5)) ≡ row_variable k index width → ⊥
+no_constant : (k index width : ℕ) → Constant (value.Word (cell_bits, 5)) ≡ row_variable k index width → ⊥
 no_constant k index width e = cc
 
 no_comparison : (k index width : ℕ) → Twice Eq 2 3 ≡ row_variable k index width → ⊥
@@ -47,12 +47,12 @@ two_places (suc (suc c)) h = absurd (omega arith)
 
 found : (i k index width c : ℕ) → slice_get example i ≡ Some (row_variable k index width) → c < 2 ^ index → (p : ℕ) × (slice_get example_cells p ≡ Some (entry k c (4 + p)))
 found zero k index width c e l =
-    let r = the_row k index width (same_node (Variable 3 (sort.Row 1 4)) (row_variable k index width) e) in
+    let r = the_row k index width (same_node (Variable 3 pair) (row_variable k index width) e) in
     let x = two_places c (omega (arith, ap (λ (n : ℕ). 2 ^ n) r.1)) in
     (x.0, x.1 ∙ ap (λ (n : ℕ). Some (entry n c (4 + x.0))) r.0)
-found (suc zero) k index width c e l = absurd (no_word k index width (same_node (Variable 1 (sort.Word 1)) (row_variable k index width) e))
+found (suc zero) k index width c e l = absurd (no_word k index width (same_node (Variable 1 (sort.Word index_bits)) (row_variable k index width) e))
 found (suc (suc zero)) k index width c e l = absurd (no_read k index width (same_node (Get 0 1) (row_variable k index width) e))
-found (suc (suc (suc zero))) k index width c e l = absurd (no_constant k index width (same_node (Constant (value.Word (4, 5))) (row_variable k index width) e))
+found (suc (suc (suc zero))) k index width c e l = absurd (no_constant k index width (same_node (Constant (value.Word (cell_bits, 5))) (row_variable k index width) e))
 found (suc (suc (suc (suc zero)))) k index width c e l = absurd (no_comparison k index width (same_node (Twice Eq 2 3) (row_variable k index width) e))
 found (suc (suc (suc (suc (suc i))))) k index width c e l = absurd (nothing e) where
   nothing : None ≡ Some (row_variable k index width) → ⊥
@@ -74,9 +74,9 @@ worked_entries = record {
   each = λ i k index width c r e l. found i k index width c e l;
   only = λ p e h.
       let x = place_of p e h in
-      (0, 1, 4, worked_reaches, ap (λ (n : ℕ). Some (row_variable n 1 4)) (ap (λ (z : Cell). z.variable) x.1), omega (arith, x.0, ap (λ (z : Cell). z.cell) x.1));
+      (0, index_bits, cell_bits, worked_reaches, ap (λ (n : ℕ). Some (row_variable n index_bits cell_bits)) (ap (λ (z : Cell). z.variable) x.1), omega (arith, x.0, ap (λ (z : Cell). z.cell) x.1));
   numbers = λ p e h. let x = place_of p e h in sym (ap (λ (z : Cell). z.number) x.1);
-  once = λ u p q d e h g v c.
+  once = λ p q d e h g v c.
       let x = place_of p d h in
       let y = place_of q e g in
       ap (λ (z : Cell). z.cell) x.1 ∙ c ∙ sym (ap (λ (z : Cell). z.cell) y.1);

@@ -9,7 +9,7 @@ use Rattle.civl_values.specs.Operators.{two_value, pick_value}
 use Rattle.civl_values.specs.Weights.{bits_in, two_weight, pick_weight}
 use Rattle.civl_terms.specs.declared.node.Node.{Node}
 use Rattle.civl_terms.specs.Graphs.{sort_at, value_at}
-use Rattle.civl_rows.specs.Reaching.{is_plain}
+use Rattle.civl_reach.specs.Reaching.{is_plain}
 use Rattle.civl_rows.specs.Making.{Makes, MakesOne, UsesNone, UsesTwo, UsesThree, UsesWrite, written}
 use Rattle.civl_rows.proofs.Solid.{all_at}
 use Rattle.civl_rows.proofs.Made.{sort_stays, value_stays, eq_sort_is, pick_sort_is, pick_same, makes_more, one_as, one_then}

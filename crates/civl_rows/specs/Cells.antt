@@ -8,7 +8,7 @@ use Rattle.civl_tree.specs.declared.expr.Sort.{Sort}
 use Rattle.civl_tree.specs.declared.expr.Sort.TheVariants as sort
 use Rattle.civl_terms.specs.declared.node.Node.{Node}
 use Rattle.civl_terms.specs.declared.node.Node.TheVariants.{Variable}
-use Rattle.civl_rows.specs.Reaching.{Reaches}
+use Rattle.civl_reach.specs.Reaching.{Reaches}
 use Rattle.civl_rows.specs.declared.flat.Cell.{Cell}
 
 -- the cell of a row at an index; a bool or a word is its own only cell
@@ -45,17 +45,13 @@ abbrev pub Reads : (ℕ → Value) → List Cell → Type 0
 Reads env [] = Unit {0}
 Reads env (e ∷ es) = (env e.number ≡ cell_of (env e.variable) e.cell) × Reads env es
 
--- no two nodes are equal
-abbrev pub IsDistinct : List Node → Type 0
-IsDistinct ns = (i j : ℕ) (n : Node) → slice_get ns i ≡ Some n → slice_get ns j ≡ Some n → i ≡ j
-
 -- each cell of each row variable that the term reaches has one entry, and there are no others; the numbers go up from the
 -- least above all numbers that the graph had
 pub record HasEntries (ns : List Node) (id : ℕ) (cells : List Cell) : Type 0 where
   pub each : (i k index width c : ℕ) → Reaches ns id i → slice_get ns i ≡ Some (Variable k (sort.Row index width)) → c < 2 ^ index → (p : ℕ) × (slice_get cells p ≡ Some (record { variable = k; cell = c; number = next_number ns + p }))
   pub only : (p : ℕ) (e : Cell) → slice_get cells p ≡ Some e → (i index width : ℕ) × Reaches ns id i × (slice_get ns i ≡ Some (Variable e.variable (sort.Row index width))) × (e.cell < 2 ^ index)
   pub numbers : (p : ℕ) (e : Cell) → slice_get cells p ≡ Some e → e.number ≡ next_number ns + p
-  pub once : IsDistinct ns → (p q : ℕ) (d e : Cell) → slice_get cells p ≡ Some d → slice_get cells q ≡ Some e → d.variable ≡ e.variable → d.cell ≡ e.cell → p ≡ q
+  pub once : (p q : ℕ) (d e : Cell) → slice_get cells p ≡ Some d → slice_get cells q ≡ Some e → d.variable ≡ e.variable → d.cell ≡ e.cell → p ≡ q
 
 -- all numbers of variables are below this one
 abbrev pub NumbersBelow : ℕ → List Node → Type 0

@@ -12,7 +12,7 @@ use Rattle.civl_terms.specs.declared.node.Node.{Node}
 use Rattle.civl_terms.specs.Graphs.{sort_at, value_at, Fits, IsGraph}
 use Rattle.civl_terms.specs.Weights.{is_part, own_weight}
 use Rattle.civl_terms.specs.Building.{Grows}
-use Rattle.civl_rows.specs.Reaching.{is_plain}
+use Rattle.civl_reach.specs.Reaching.{is_plain}
 use Rattle.civl_rows.specs.Cells.{cell_of, cells_in, cell_sort, next_number}
 
 -- ---- sets of nodes that hold what they reach

@@ -6,7 +6,7 @@ ghost use Rattle.civl_values.specs.Values.{sort_of_value};
 ghost use Rattle.civl_values.specs.Weights.{bits_in, one_weight, two_weight, pick_weight, move_weight};
 ghost use Rattle.civl_terms.specs.Graphs.{sort_at, value_at};
 ghost use Rattle.civl_terms.specs.Building.{Grows};
-ghost use Rattle.civl_rows.specs.Reaching.{is_plain};
+ghost use Rattle.civl_reach.specs.Reaching.{is_plain};
 ghost use Rattle.civl_rows.specs.Making.{Has, MakesOne, UsesNone, UsesOne, UsesTwo, UsesThree};
 
 use crate::memory::Memory;

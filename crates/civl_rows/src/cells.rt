@@ -8,7 +8,7 @@ ghost use Rattle.civl_values.specs.Operators.{two_value, pick_value};
 ghost use Rattle.civl_values.specs.Weights.{bits_in};
 ghost use Rattle.civl_terms.specs.Graphs.{sort_at, value_at};
 ghost use Rattle.civl_terms.specs.Building.{Grows};
-ghost use Rattle.civl_rows.specs.Reaching.{is_plain};
+ghost use Rattle.civl_reach.specs.Reaching.{is_plain};
 ghost use Rattle.civl_rows.specs.Making.{HaveSort, Makes, MakesOne, UsesNone, UsesOne, UsesThree, UsesPicks, UsesPairs, UsesWrite, UsesRead, joined, bit_value, written};
 
 use crate::building::{constant, pick, slice, two};

@@ -5,7 +5,7 @@ ghost use Rattle.civl_values.specs.Operators.{two_value};
 ghost use Rattle.civl_values.specs.Weights.{bits_in};
 ghost use Rattle.civl_terms.specs.Graphs.{sort_at, value_at};
 ghost use Rattle.civl_terms.specs.Building.{Grows};
-ghost use Rattle.civl_rows.specs.Reaching.{is_plain};
+ghost use Rattle.civl_reach.specs.Reaching.{is_plain};
 ghost use Rattle.civl_rows.specs.Making.{HaveSort, MakesOne, UsesThree, UsesPairs, joined, IsComparison, IsJoin};
 
 use crate::building::two;

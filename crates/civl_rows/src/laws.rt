@@ -3,19 +3,19 @@ ghost use Rattle.std.specs.Prelude.{◌≡◌, ℕ, true, Some, IsTrue};
 ghost use Rattle.civl_bits.specs.declared.value.Value.{Value};
 ghost use Rattle.civl_bits.specs.declared.value.Value.TheVariants as value;
 ghost use Rattle.civl_tree.specs.declared.expr.Sort.TheVariants as sort;
-ghost use Rattle.civl_rows.specs.Reaching.{Reaches, IsRowless};
+ghost use Rattle.civl_reach.specs.Reaching.{Reaches, IsRowless};
 ghost use Rattle.civl_rows.specs.Cells.{cell_of, cells_in, cell_sort, next_number, Reads, HasEntries};
-ghost use Rattle.civl_rows.specs.Example.{example, example_cells, example_row};
+ghost use Rattle.civl_rows.specs.Example.{cell_bits, pair, example, example_cells, example_array};
 
-/// The cells of the row of 5 and 9, and the numbers that stand for them after 3, the greatest of the worked graph.
+/// The cells of the array of 5 and 9, and the numbers that stand for them after 3, the greatest of the worked graph.
 pub fn worked_cells()
-    ensures first { cell_of example_row 0 ≡ value.Word (4, 5) }
-    ensures second { cell_of example_row 1 ≡ value.Word (4, 9) }
+    ensures first { cell_of example_array 0 ≡ value.Word (cell_bits, 5) }
+    ensures second { cell_of example_array 1 ≡ value.Word (cell_bits, 9) }
     ensures own { cell_of (value.Bool true) 0 ≡ value.Bool true }
-    ensures count { cells_in (Some (sort.Row 1 4)) ≡ 2 }
-    ensures sort { cell_sort (Some (sort.Row 1 4)) ≡ Some (sort.Word 4) }
+    ensures count { cells_in (Some pair) ≡ 2 }
+    ensures sort { cell_sort (Some pair) ≡ Some (sort.Word cell_bits) }
     ensures next { next_number example ≡ 4 }
-    ensures reads { (env : ℕ → Value) → env 3 ≡ example_row → env 4 ≡ value.Word (4, 5) → env 5 ≡ value.Word (4, 9) → Reads env example_cells }
+    ensures reads { (env : ℕ → Value) → env 3 ≡ example_array → env 4 ≡ value.Word (cell_bits, 5) → env 5 ≡ value.Word (cell_bits, 9) → Reads env example_cells }
 {}
 
 /// The term of the worked graph reaches the row, so it isn't without rows; its entries are those of the two cells.

@@ -11,13 +11,14 @@ mod compare;
 mod expand;
 mod flat;
 pub mod laws;
-mod marking;
 mod memory;
 mod node;
 mod numbers;
 mod plain;
 mod read;
 mod rowed;
+#[cfg(test)]
+mod tests;
 mod walk;
 mod write;
 

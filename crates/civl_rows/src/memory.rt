@@ -23,3 +23,9 @@ impl From<civl_terms::Memory> for Memory {
         Memory
     }
 }
+
+impl From<civl_reach::Memory> for Memory {
+    fn from(_error: civl_reach::Memory) -> Memory {
+        Memory
+    }
+}

@@ -5,7 +5,7 @@ ghost use Rattle.civl_tree.specs.declared.expr.Sort.TheVariants as sort;
 ghost use Rattle.civl_values.specs.Weights.{bits_in};
 ghost use Rattle.civl_terms.specs.Graphs.{sort_at, value_at};
 ghost use Rattle.civl_terms.specs.Building.{Grows};
-ghost use Rattle.civl_rows.specs.Reaching.{is_plain};
+ghost use Rattle.civl_reach.specs.Reaching.{is_plain};
 ghost use Rattle.civl_rows.specs.Making.{HaveSort, Makes, MakesOne, UsesThree, UsesWrite, written};
 
 use crate::building::{constant, pick, two};

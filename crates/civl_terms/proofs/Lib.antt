@@ -2,6 +2,7 @@ pub mod Along
 pub mod Nodes
 pub mod Soundness
 pub mod Places
+pub mod Distinct
 pub mod Weighing
 pub mod Growing
 pub mod Answering

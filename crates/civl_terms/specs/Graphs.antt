@@ -110,6 +110,10 @@ pub record IsGraph (ns : List Node) : Type 0 where
   pub limits : (i : ℕ) (n : Node) → slice_get ns i ≡ Some n → InLimits n
   pub variables : (i : ℕ) (n : Node) → slice_get ns i ≡ Some n → VariablesFit ns n
 
+-- no two places hold equal nodes
+abbrev pub IsDistinct : List Node → Type 0
+IsDistinct ns = (i j : ℕ) (n : Node) → slice_get ns i ≡ Some n → slice_get ns j ≡ Some n → i ≡ j
+
 -- a graph with its sorts beside it
 pub record HoldsGraph (ns : List Node) (ss : List Sort) : Type 0 where
   pub graph : IsGraph ns

@@ -6,7 +6,7 @@ ghost use Rattle.civl_tree.specs.rules.StoreSize.{bits_of};
 ghost use Rattle.civl_values.specs.Operators.{one_value, two_value, pick_value, get_value, set_value, fill_value, slice_value, widen_value, join_value};
 ghost use Rattle.civl_values.specs.Values.{sort_of_value, is_sort};
 ghost use Rattle.civl_values.specs.Weights.{bits_in, one_weight, two_weight, pick_weight, get_weight, set_weight, move_weight};
-ghost use Rattle.civl_terms.specs.Graphs.{PartsBelow, node_sort, sorts, sort_at, value_at, InLimits, VariablesFit, IsFree, IsGraph, listed};
+ghost use Rattle.civl_terms.specs.Graphs.{PartsBelow, node_sort, sorts, sort_at, value_at, InLimits, VariablesFit, IsFree, IsGraph, IsDistinct, listed};
 ghost use Rattle.civl_terms.specs.Building.{Grows, Numbers, Answers, Built, constant_at, one_in, two_in, pick_in, get_in, set_in, fill_in, slice_in, widen_in, join_in};
 ghost use Rattle.civl_terms.specs.declared.node.Node.TheVariants as node;
 
@@ -65,10 +65,11 @@ impl Terms {
         }
     }
 
-    /// The number of nodes.
+    /// The number of nodes, no two of which are equal.
     pub fn len(&self) -> usize
         ensures is { result ≡ length self.now }
         ensures graph { IsGraph self.now }
+        ensures distinct { IsDistinct self.now }
     {
         self.nodes.len()
     }

@@ -14,4 +14,4 @@ returns-clause-places c =
     placed _ _ c.len-count.ensures.graph c.requires.rowless c.in_ok-marks.ensures (rw c.as_slice-2.ensures.value at c.in_ok-gates.ensures) (rw c.as_slice.ensures.value at c.in_ok-places.ensures.count) (rw c.as_slice.ensures.value at c.in_ok-places.ensures.places) (ap (λ (s : ClauseSet). s.variables) set)
 
 pub returns-clause-back : goal.returns-clause-back
-returns-clause-back c = gives_values _ c.len-count.ensures.graph c.requires.rowless c.in_ok-marks.ensures (rw c.as_slice.ensures.value at c.in_ok-places.ensures.places)
+returns-clause-back c = gives_values _ c.len-count.ensures.graph c.len-count.ensures.distinct c.requires.rowless c.in_ok-marks.ensures (rw c.as_slice.ensures.value at c.in_ok-places.ensures.places)

@@ -1,9 +1,6 @@
-use Rattle.civl_blast.proofs.Renaming.{rowless_too, stands_for_cells}
+use Rattle.civl_blast.proofs.Renaming.{stands_for_cells}
 use Rattle.civl_blast.proofs.Giving.{flattened, gives_for_cells, names_cells}
 use Rattle.civl_blast.proofs.flattened.blast.Goals as goal
-
-pub blast_flat-requires-clause-rowless : goal.blast_flat-requires-clause-rowless
-blast_flat-requires-clause-rowless c = rowless_too c.in_ok-flat.ensures.rowless
 
 pub places_of_cells-requires : goal.places_of_cells-requires
 places_of_cells-requires c = rw c.as_slice.ensures (record { counts = (_, c.in_ok-flat.ensures.entries.numbers) })

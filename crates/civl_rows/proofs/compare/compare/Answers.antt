@@ -1,6 +1,6 @@
 use Rattle.std.proofs.Common.{refl, sym, ap, ◌∙◌, arith, get_or, ◌+◌}
 use Rattle.civl_terms.specs.Graphs.{sort_at}
-use Rattle.civl_rows.specs.Reaching.{is_plain}
+use Rattle.civl_reach.specs.Reaching.{is_plain}
 use Rattle.civl_rows.proofs.Made.{within_sorted, within_plain, sort_stays}
 use Rattle.civl_rows.proofs.Comparisons.{comparison_sort, first_pair, more_pairs}
 use Rattle.civl_rows.proofs.compare.compare.Goals as goal

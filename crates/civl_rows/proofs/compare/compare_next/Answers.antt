@@ -1,7 +1,7 @@
 use Rattle.std.proofs.Common.{refl, ap, ◌∙◌, arith, Some}
 use Rattle.civl_tree.specs.declared.expr.Sort.TheVariants as sort
 use Rattle.civl_terms.specs.Graphs.{sort_at}
-use Rattle.civl_rows.specs.Reaching.{is_plain}
+use Rattle.civl_reach.specs.Reaching.{is_plain}
 use Rattle.civl_rows.proofs.Made.{within_some, within_sorted, within_plain, sort_stays}
 use Rattle.civl_rows.proofs.Comparisons.{comparison_sort, join_sort_is, next_made}
 use Rattle.civl_rows.proofs.compare.compare_next.Goals as goal

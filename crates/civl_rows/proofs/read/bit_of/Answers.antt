@@ -1,6 +1,6 @@
 use Rattle.std.proofs.Common.{refl, ap, arith, Some}
 use Rattle.civl_tree.specs.declared.expr.Sort.TheVariants as sort
-use Rattle.civl_rows.specs.Reaching.{is_plain}
+use Rattle.civl_reach.specs.Reaching.{is_plain}
 use Rattle.civl_rows.proofs.Made.{within_some, within_plain, eq_sort_is, sort_stays}
 use Rattle.civl_rows.proofs.Choices.{bit_sort, bit_made, sliceable}
 use Rattle.civl_rows.proofs.read.bit_of.Goals as goal

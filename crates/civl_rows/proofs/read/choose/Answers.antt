@@ -1,5 +1,5 @@
 use Rattle.std.proofs.Common.{refl, sym, ap, ◌∙◌}
-use Rattle.civl_rows.specs.Reaching.{is_plain}
+use Rattle.civl_reach.specs.Reaching.{is_plain}
 use Rattle.civl_rows.proofs.Made.{sort_stays}
 use Rattle.civl_rows.proofs.Choices.{chosen_by}
 use Rattle.civl_rows.proofs.read.choose.Goals as goal

@@ -1,6 +1,6 @@
 use Rattle.std.proofs.Common.{refl, ap, subst, arith, get_or, length, ◌≡◌, ◌-◌, ℕ}
 use Rattle.civl_terms.specs.Graphs.{sort_at}
-use Rattle.civl_rows.specs.Reaching.{is_plain}
+use Rattle.civl_reach.specs.Reaching.{is_plain}
 use Rattle.civl_rows.proofs.Made.{sort_stays}
 use Rattle.civl_rows.proofs.Choices.{Chosen, chosen_none, chosen_more, chosen_all, is_sliceable, two_cells}
 use Rattle.civl_rows.proofs.read.read_cell.Goals as goal

@@ -1,5 +1,5 @@
 use Rattle.std.proofs.Common.{sym, ap, ◌∙◌, arith, List, Bool}
-use Rattle.civl_rows.specs.Marks.{marked}
+use Rattle.civl_reach.specs.Marks.{marked}
 use Rattle.civl_rows.proofs.Walked.{walk_none, walk_step, walk_room, walk_parts, walk_all}
 use Rattle.civl_rows.proofs.walk.flatten.Goals as goal
 
@@ -18,7 +18,7 @@ visit-requires-clause-shaped c = λ y n e.
 
 pub loop-at-preserved : goal.loop-at-preserved
 loop-at-preserved c =
-    walk_step _ _ _ _ _ _ c.len-count.ensures.graph c.in_ok-marks.ensures c.loop-at.invariant (omega arith) c.requires.within
+    walk_step _ _ _ _ _ _ c.len-count.ensures.graph c.len-count.ensures.distinct c.in_ok-marks.ensures c.loop-at.invariant (omega arith) c.requires.within
     c.as_slice.ensures.value c.as_slice-in-loop-at.ensures.value c.in_ok-ids.ensures.steps c.in_ok-ids.ensures.other c.in_ok-push.ensures.items
 
 pub returns-clause-within : goal.returns-clause-within

@@ -1,6 +1,6 @@
 use Rattle.std.proofs.Common.{refl, ap, ◌∙◌, arith, Some}
 use Rattle.civl_tree.specs.declared.expr.Sort.TheVariants as sort
-use Rattle.civl_rows.specs.Reaching.{is_plain}
+use Rattle.civl_reach.specs.Reaching.{is_plain}
 use Rattle.civl_rows.proofs.Made.{within_some, within_sorted, within_plain, eq_sort_is, pick_sort_is, sort_stays}
 use Rattle.civl_rows.proofs.Writes.{written_made}
 use Rattle.civl_rows.proofs.Growth.{grows_trans}

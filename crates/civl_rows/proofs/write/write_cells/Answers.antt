@@ -1,7 +1,7 @@
 use Rattle.std.proofs.Common.{refl, sym, ap, ◌∙◌, arith, ◌≡◌, ◌^◌, ℕ, Some}
 use Rattle.civl_tree.specs.declared.expr.Sort.TheVariants as sort
 use Rattle.civl_terms.specs.Graphs.{sort_at}
-use Rattle.civl_rows.specs.Reaching.{is_plain}
+use Rattle.civl_reach.specs.Reaching.{is_plain}
 use Rattle.civl_rows.proofs.Made.{sort_stays}
 use Rattle.civl_rows.proofs.Writes.{write_step}
 use Rattle.civl_rows.proofs.write.write_cells.Goals as goal
