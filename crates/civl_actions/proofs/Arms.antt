@@ -14,7 +14,7 @@ use Rattle.civl_tree.specs.declared.expr.Expr.TheOpen as expr
 use Rattle.civl_tree.specs.rules.Sorts.{one_sort, two_sort, pick_sort, get_sort, set_sort, fill_sort, slice_sort, widen_sort, join_sort}
 use Rattle.civl_values.specs.Operators.{one_value, two_value, pick_value, get_value, set_value, fill_value, slice_value, widen_value, join_value}
 use Rattle.civl_values.specs.Weights.{bits_in, one_weight, two_weight, pick_weight, get_weight, set_weight, move_weight}
-use Rattle.civl_meaning.specs.Truth.{place_of}
+use Rattle.civl_firing.specs.Truth.{place_of}
 use Rattle.civl_terms.specs.declared.node.Node.{Node}
 use Rattle.civl_terms.specs.Graphs.{value_at, sort_at, IsGraph}
 use Rattle.civl_terms.specs.Building.{Grows, Built}

@@ -19,9 +19,9 @@ use Rattle.civl_values.specs.Operators.{nothing}
 use Rattle.civl_values.specs.Values.{HasSort, is_true}
 use Rattle.civl_values.proofs.Sorting.{bool_of}
 use Rattle.civl_values.specs.Weights.{weight_of}
-use Rattle.civl_meaning.specs.declared.scope.Scope.{Scope as Meant}
-use Rattle.civl_meaning.specs.Eval.{look, value_of, value_step}
-use Rattle.civl_meaning.specs.Truth.{place_of}
+use Rattle.civl_firing.specs.declared.scope.Scope.{Scope as Meant}
+use Rattle.civl_firing.specs.Eval.{look, value_of, value_step}
+use Rattle.civl_firing.specs.Truth.{place_of}
 use Rattle.civl_terms.specs.declared.node.Node.{Node}
 use Rattle.civl_terms.specs.Graphs.{value_at, sort_at, sorts, IsGraph, Fits}
 use Rattle.civl_terms.specs.Weights.{graph_weight}

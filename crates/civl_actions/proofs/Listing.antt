@@ -22,11 +22,11 @@ use Rattle.civl_tree.specs.rules.Sorts.{sort_of}
 use Rattle.civl_values.specs.Values.{zero_of, is_sort, sort_of_value}
 use Rattle.civl_values.specs.Weights.{weight_of}
 use Rattle.civl_values.proofs.Zeros.{zeros_have_their_sorts}
-use Rattle.civl_meaning.specs.declared.scope.Scope.{Scope as Meant}
-use Rattle.civl_meaning.specs.Eval.{value_of}
-use Rattle.civl_meaning.specs.Fired.{updated}
-use Rattle.civl_meaning.specs.Truth.{place_of}
-use Rattle.civl_meaning.specs.Scope.{global_names, param_names}
+use Rattle.civl_firing.specs.declared.scope.Scope.{Scope as Meant}
+use Rattle.civl_firing.specs.Eval.{value_of}
+use Rattle.civl_firing.specs.Fired.{updated}
+use Rattle.civl_firing.specs.Truth.{place_of}
+use Rattle.civl_firing.specs.Scope.{global_names, param_names}
 use Rattle.civl_terms.specs.declared.node.Node.{Node}
 use Rattle.civl_terms.specs.Graphs.{value_at, sort_at, Fits}
 use Rattle.civl_terms.specs.Building.{Grows, Built}

@@ -13,11 +13,11 @@ use Rattle.civl_tree.specs.declared.action.Update.{Update}
 use Rattle.civl_tree.specs.declared.program.Program.{Program}
 use Rattle.civl_tree.specs.rules.Scopes.{Scope as Sorts, Binding, sort_in, bind_globals, bind_params, gate_scope, guard_scope}
 use Rattle.civl_values.specs.Values.{is_true}
-use Rattle.civl_meaning.specs.declared.scope.Scope.{Scope as Meant}
-use Rattle.civl_meaning.specs.Eval.{value_of}
-use Rattle.civl_meaning.specs.Scope.{global_names, param_names, present, zeros_of_params, guard_scope as guard_meant}
-use Rattle.civl_meaning.specs.Fired.{gate_holds, guard_holds, store_after, outs_after, updated}
-use Rattle.civl_meaning.specs.Truth.{place_of}
+use Rattle.civl_firing.specs.declared.scope.Scope.{Scope as Meant}
+use Rattle.civl_firing.specs.Eval.{value_of}
+use Rattle.civl_firing.specs.Scope.{global_names, param_names, present, zeros_of_params, guard_scope as guard_meant}
+use Rattle.civl_firing.specs.Fired.{gate_holds, guard_holds, store_after, outs_after, updated}
+use Rattle.civl_firing.specs.Truth.{place_of}
 use Rattle.civl_terms.specs.declared.node.Node.{Node}
 use Rattle.civl_terms.specs.Graphs.{value_at, sort_at, IsGraph, Fits}
 use Rattle.civl_terms.specs.Building.{Grows, Built}

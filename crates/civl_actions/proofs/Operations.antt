@@ -15,7 +15,7 @@ use Rattle.civl_tree.specs.rules.Sorts.{sort_of, one_sort, two_sort, pick_sort, 
 use Rattle.civl_values.specs.Operators.{one_value, two_value, pick_value, get_value, set_value, fill_value, slice_value, widen_value, join_value}
 use Rattle.civl_values.proofs.Sorting.{literal_has_sort}
 use Rattle.civl_values.specs.Weights.{bits_in, one_weight, two_weight, pick_weight, get_weight, set_weight, move_weight}
-use Rattle.civl_meaning.specs.Eval.{value_of, value_step}
+use Rattle.civl_firing.specs.Eval.{value_of, value_step}
 use Rattle.civl_terms.specs.declared.node.Node.{Node}
 use Rattle.civl_terms.specs.Graphs.{value_at, sort_at, sorts}
 use Rattle.civl_terms.specs.Building.{Grows, Built}

@@ -28,7 +28,7 @@ use Rattle.civl_tree.specs.rules.Refusals.{BreaksNone}
 use Rattle.civl_tree.specs.rules.Broken.{InAction, IsTried}
 use Rattle.civl_values.specs.Values.{is_sort}
 use Rattle.civl_values.proofs.Sorting.{same_sort-true}
-use Rattle.civl_meaning.proofs.Begun.{no_rule_broken}
+use Rattle.civl_firing.proofs.Unbroken.{no_rule_broken}
 use Rattle.civl_actions.specs.Scopes.{IsTyped}
 
 -- ---- lists of which none passes

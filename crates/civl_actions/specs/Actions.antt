@@ -8,8 +8,8 @@ use Rattle.civl_tree.specs.declared.action.Update.{Update}
 use Rattle.civl_tree.specs.declared.program.Program.{Program}
 use Rattle.civl_tree.specs.rules.Scopes.{Scope as Sorts, gate_scope, guard_scope}
 use Rattle.civl_values.specs.Weights.{weight_of}
-use Rattle.civl_meaning.specs.declared.config.Store.{Store}
-use Rattle.civl_meaning.specs.Fired.{gate_holds, guard_holds, store_after, outs_after}
+use Rattle.civl_firing.specs.declared.store.Store.{Store}
+use Rattle.civl_firing.specs.Fired.{gate_holds, guard_holds, store_after, outs_after}
 use Rattle.civl_terms.specs.declared.node.Node.{Node}
 use Rattle.civl_terms.specs.Graphs.{value_at, sort_at, Fits}
 use Rattle.civl_terms.specs.Weights.{graph_weight}

@@ -10,10 +10,10 @@ use Rattle.civl_tree.specs.rules.Exprs.{widths_fit, indices_fit}
 use Rattle.civl_bits.specs.declared.value.Value.{Value}
 use Rattle.civl_values.specs.Values.{is_true}
 use Rattle.civl_values.specs.Weights.{weight_of}
-use Rattle.civl_meaning.specs.declared.scope.Scope.{Scope as Meant}
-use Rattle.civl_meaning.specs.Truth.{place_of}
-use Rattle.civl_meaning.specs.Names.{names_of}
-use Rattle.civl_meaning.specs.Eval.{value_of}
+use Rattle.civl_firing.specs.declared.scope.Scope.{Scope as Meant}
+use Rattle.civl_firing.specs.Truth.{place_of}
+use Rattle.civl_firing.specs.Names.{names_of}
+use Rattle.civl_firing.specs.Eval.{value_of}
 use Rattle.civl_terms.specs.declared.node.Node.{Node}
 use Rattle.civl_terms.specs.Graphs.{value_at, sort_at, Fits}
 use Rattle.civl_terms.specs.Weights.{graph_weight}

@@ -3,8 +3,8 @@ ghost use Rattle.std.specs.Prelude.{◌≡◌, ◌<◌, [], ◌++◌, ℕ, All, 
 ghost use Rattle.civl_tree.specs.rules.Refusals.{BreaksNone};
 ghost use Rattle.civl_tree.specs.rules.Scopes.{gate_scope, guard_scope};
 ghost use Rattle.civl_values.specs.Values.{is_sort};
-ghost use Rattle.civl_meaning.specs.Names.{names_of};
-ghost use Rattle.civl_meaning.specs.Scope.{global_names, param_names, choice_names};
+ghost use Rattle.civl_firing.specs.Names.{names_of};
+ghost use Rattle.civl_firing.specs.Scope.{global_names, param_names, choice_names};
 ghost use Rattle.civl_terms.specs.Building.{Grows};
 ghost use Rattle.civl_actions.specs.Scopes.{AreOf, names_in, ScopeFits};
 ghost use Rattle.civl_actions.specs.Actions.{IsInstance};
@@ -14,7 +14,7 @@ use crate::expressions::term;
 use crate::made::Instance;
 use crate::scope::Scope;
 use civl_bits::Value;
-use civl_meaning::names::{Names, place};
+use civl_firing::names::{Names, place};
 use civl_terms::{Id, Memory, Terms};
 use civl_tree::{Action, Choice, Global, List, Param, Program, Update};
 use civl_values::zero;
@@ -53,7 +53,7 @@ fn joined(
 }
 
 /// The scope of an action with these of its choices.
-#[tactic(auto, using(civl_meaning::proofs::Joining::appending))]
+#[tactic(auto, using(civl_firing::proofs::Joining::appending))]
 fn scope_of<'a>(
     program: &'a Program,
     action: &'a Action,
@@ -84,7 +84,7 @@ fn scope_of<'a>(
 }
 
 /// The names of the globals alone, as targets.
-#[tactic(auto, using(civl_meaning::proofs::Joining::appending))]
+#[tactic(auto, using(civl_firing::proofs::Joining::appending))]
 fn global_targets<'a>(globals: &'a [Global]) -> Names<'a>
     ensures { names_of result ≡ global_names globals.now }
 {
@@ -99,7 +99,7 @@ fn global_targets<'a>(globals: &'a [Global]) -> Names<'a>
 }
 
 /// The names of outputs alone, as targets.
-#[tactic(auto, using(civl_meaning::proofs::Joining::appending))]
+#[tactic(auto, using(civl_firing::proofs::Joining::appending))]
 fn out_targets<'a>(outs: &'a [Param]) -> Names<'a>
     ensures { names_of result ≡ param_names outs.now }
 {

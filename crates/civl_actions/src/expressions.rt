@@ -5,7 +5,7 @@ ghost use Rattle.civl_actions.specs.Scopes.{HasTyping, Means};
 
 use crate::scope::Scope;
 use civl_bits::Value;
-use civl_meaning::names::place;
+use civl_firing::names::place;
 use civl_terms::{Id, Memory, Terms};
 use civl_tree::Expr;
 use civl_values::literal;

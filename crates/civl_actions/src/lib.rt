@@ -3,7 +3,7 @@
 //! An expression whose names stand for terms ([`Scope`]) has a term with its value, its sort and at most its weight
 //! ([`term`]). An action has an instance at given terms ([`instance`]): the terms of its gate and its guard, and of the globals
 //! and the outputs after its updates, which are all made at once. The definitions stand in specs/ (`Scopes`, `Actions`); the
-//! values are those of `civl_meaning`.
+//! values are those of `civl_firing`.
 #![tactic(auto)]
 
 mod actions;

@@ -1,6 +1,6 @@
 // The terms that names stand for.
 
-use civl_meaning::names::Names;
+use civl_firing::names::Names;
 use civl_terms::Id;
 
 /// What the names of an expression stand for: for each name its term and the term of its old value, at one place of the two

@@ -4,7 +4,7 @@ use Rattle.civl_tree.specs.declared.program.Program.{Program}
 use Rattle.civl_tree.specs.declared.script.Entry.{Entry}
 use Rattle.civl_tree.specs.declared.script.Told.{Told}
 use Rattle.civl_meaning.specs.declared.config.Plain.{Plain}
-use Rattle.civl_meaning.specs.declared.config.Store.{Store}
+use Rattle.civl_firing.specs.declared.store.Store.{Store}
 use Rattle.civl_meaning.specs.declared.config.Move.{Move}
 use Rattle.civl_script.specs.Schedules.{IsSchedule}
 use Rattle.civl_script.specs.declared.schedule.Schedule.TheVariants.{Fits}

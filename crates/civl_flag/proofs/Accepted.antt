@@ -18,12 +18,13 @@ use Rattle.civl_layers.specs.Rules.{Keeps, each_place}
 use Rattle.civl_layers.specs.Places.{global_breaks as layers_of_globals, invariant_breaks as layers_of_invariants, action_breaks as layers_of_actions, proc_breaks as layers_of_procs, stmt_breaks as layers_of_stmts, thread_breaks as layers_of_threads}
 use Rattle.civl_layers.specs.Layered.{IsLayered, layer_rules}
 use Rattle.civl_meaning.specs.declared.config.State.TheVariants.{Inside}
-use Rattle.civl_meaning.specs.Fired.{gate_holds}
+use Rattle.civl_firing.specs.Fired.{gate_holds}
 use Rattle.civl_meaning.specs.Failing.{IsMove, CanFail}
 use Rattle.civl_meaning.specs.Initial.{IsInitial}
 use Rattle.civl_meaning.specs.Layers.{lowest}
 use Rattle.civl_meaning.specs.Preserves.{Preserves}
-use Rattle.civl_meaning.specs.examples.Written.{by, moves_of, proc, refines, call}
+use Rattle.civl_firing.specs.examples.Written.{proc, refines, call}
+use Rattle.civl_meaning.specs.examples.Moves.{by, moves_of}
 use Rattle.civl_meaning.specs.examples.Flag.{flag_is, set, bare}
 use Rattle.civl_flag.specs.Conditions.{violates}
 use Rattle.civl_flag.specs.Verdicts.{IsFlagProgram}

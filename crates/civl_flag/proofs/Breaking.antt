@@ -12,9 +12,9 @@ use Rattle.civl_tree.specs.declared.program.Program.{Program}
 use Rattle.civl_tree.specs.declared.program.Refines.{Refines}
 use Rattle.civl_tree.specs.declared.stmt.Stmt.{Stmt, out-Stmt}
 use Rattle.civl_tree.specs.declared.stmt.Stmt.TheOpen as stmt
-use Rattle.civl_meaning.specs.Table.{store_at}
-use Rattle.civl_meaning.specs.Truth.{truth_of}
-use Rattle.civl_meaning.proofs.Numbers.{number_of, number_of-lt, store_at-number_of}
+use Rattle.civl_firing.specs.Table.{store_at}
+use Rattle.civl_firing.specs.Truth.{truth_of}
+use Rattle.civl_firing.proofs.Numbers.{number_of, number_of-lt, store_at-number_of}
 use Rattle.civl_flag.specs.Conditions.{global_names, gate_in, guard_in, updated, assigned, action_named, Outcome, Fails, Stops, Ends, called, committed, stepped, way_of, same_store, does, breaks_part, refined, breaks_path, breaks_proc}
 use Rattle.civl_flag.specs.FlagForm.{is_flag_proc, is_flag_body, is_flag_refines, is_bare_call, is_commit, is_none}
 use Rattle.civl_flag.specs.Tables.{AreTabled, AreTables, FindsTables, column}

@@ -18,10 +18,10 @@ use Rattle.civl_tree.specs.rules.Broken.{Broken, InAction, InProc, InThread, IsA
 use Rattle.civl_tree.proofs.First.{first_is_answer}
 use Rattle.civl_types.specs.Numbered.{IsNumbered}
 use Rattle.civl_bits.specs.declared.value.Value.{Value}
-use Rattle.civl_meaning.specs.declared.config.Store.{Store}
+use Rattle.civl_firing.specs.declared.store.Store.{Store}
 use Rattle.civl_values.specs.Values.{is_true}
-use Rattle.civl_meaning.specs.Eval.{value_of}
-use Rattle.civl_meaning.specs.Scope.{global_names, global_scope}
+use Rattle.civl_firing.specs.Eval.{value_of}
+use Rattle.civl_firing.specs.Scope.{global_names, global_scope}
 use Rattle.civl_meaning.specs.Initial.{IsInitial}
 use Rattle.civl_flag.specs.FlagForm.{is_none, is_flag_expr, is_flag_form, is_flag_global, is_flag_action, is_flag_proc, is_flag_refines, is_flag_body, is_flag_thread, are_few, has_flag_header, has_flag_items}
 use Rattle.civl_flag.specs.Decide.{IsInitial as IsBoolInitial, IsVerdict, IsWithinLimits}

@@ -10,18 +10,18 @@ use Rattle.civl_tree.specs.declared.action.Param.{Param}
 use Rattle.civl_tree.specs.declared.name.Name.{Name}
 use Rattle.civl_tree.specs.declared.program.Global.{Global}
 use Rattle.civl_tree.specs.rules.Names.{any_twice}
-use Rattle.civl_meaning.specs.declared.config.Store.{Store}
+use Rattle.civl_firing.specs.declared.store.Store.{Store}
 use Rattle.civl_meaning.specs.declared.config.Plain.{Plain}
 use Rattle.civl_meaning.specs.declared.config.Stepped.{Stepped}
 use Rattle.civl_meaning.specs.declared.config.Stepped.TheVariants as answer
-use Rattle.civl_meaning.specs.declared.config.Fired.TheVariants as fire
+use Rattle.civl_firing.specs.declared.firing.Fired.TheVariants as fire
 use Rattle.civl_meaning.specs.declared.config.Change.{Change}
 use Rattle.civl_meaning.specs.declared.config.Change.TheVariants.{Stays, Acts}
-use Rattle.civl_meaning.specs.declared.scope.Scope.{Scope}
+use Rattle.civl_firing.specs.declared.scope.Scope.{Scope}
 use Rattle.civl_values.specs.Values.{is_true, are_of}
-use Rattle.civl_meaning.specs.Eval.{value_of}
-use Rattle.civl_meaning.specs.Scope.{present, global_names, param_names, choice_names, zeros_of_params, guard_scope}
-use Rattle.civl_meaning.specs.Fired.{gate_holds, guard_holds, choices_fit, updated as made, store_after, outs_after, fires, fired_by, fired}
+use Rattle.civl_firing.specs.Eval.{value_of}
+use Rattle.civl_firing.specs.Scope.{present, global_names, param_names, choice_names, zeros_of_params, guard_scope}
+use Rattle.civl_firing.specs.Fired.{gate_holds, guard_holds, choices_fit, updated as made, store_after, outs_after, fires, fired_by, fired}
 use Rattle.civl_meaning.specs.Change.{acted, action_change}
 use Rattle.civl_flag.specs.FlagForm.{is_none, is_flag_expr, are_flag_updates}
 use Rattle.civl_flag.specs.Conditions.{gate_in, guard_in, updated}

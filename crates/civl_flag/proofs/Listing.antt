@@ -7,9 +7,9 @@ use Rattle.civl_tree.specs.declared.program.Proc.{Proc}
 use Rattle.civl_tree.specs.declared.program.Program.{Program}
 use Rattle.civl_tree.specs.declared.name.Name.{Name}
 use Rattle.civl_tree.specs.declared.program.Global.{Global}
-use Rattle.civl_meaning.specs.Table.{IsTabled, bits_from, bit_of, store_at}
-use Rattle.civl_meaning.specs.Truth.{truth_of}
-use Rattle.civl_meaning.proofs.Numbers.{number_of, number_of-lt, store_at-number_of}
+use Rattle.civl_firing.specs.Table.{IsTabled, bits_from, bit_of, store_at}
+use Rattle.civl_firing.specs.Truth.{truth_of}
+use Rattle.civl_firing.proofs.Numbers.{number_of, number_of-lt, store_at-number_of}
 use Rattle.std.proofs.lemmas.List.{length-map}
 use Rattle.std.proofs.lemmas.Bool.{false≢true}
 use Rattle.civl_flag.specs.FlagForm.{is_none, is_flag_expr, is_flag_global, is_flag_action, is_flag_proc, is_flag_thread, are_few, has_flag_header, has_flag_items, is_flag_form}

@@ -13,15 +13,15 @@ use Rattle.civl_tree.specs.declared.stmt.Stmt.{Stmt, out-Stmt, the_lemmas as of_
 use Rattle.civl_tree.specs.declared.stmt.Stmt.TheOpen as layer
 use Rattle.civl_tree.specs.declared.stmt.Stmt as stmt
 use Rattle.civl_tree.specs.rules.Names.{any_twice}
-use Rattle.civl_meaning.specs.declared.config.Store.{Store}
+use Rattle.civl_firing.specs.declared.store.Store.{Store}
 use Rattle.civl_meaning.specs.declared.config.Plain.{Plain}
 use Rattle.civl_meaning.specs.declared.config.Activation.{Activation}
 use Rattle.civl_meaning.specs.declared.config.State.{State}
 use Rattle.civl_meaning.specs.declared.config.State.TheVariants.{Before, Inside}
 use Rattle.civl_meaning.specs.declared.config.Running.{Running}
 use Rattle.civl_meaning.specs.declared.config.Change.TheVariants.{Enters, Leaves}
-use Rattle.civl_meaning.specs.Scope.{global_names, frame_names}
-use Rattle.civl_meaning.specs.Fired.{gate_holds}
+use Rattle.civl_firing.specs.Scope.{global_names, frame_names}
+use Rattle.civl_firing.specs.Fired.{gate_holds}
 use Rattle.civl_meaning.specs.Places.{spot_at}
 use Rattle.civl_meaning.specs.Meaning.{Meaning, Does, Runs, Missing, action_named, meaning_of_action, refined, meaning_by, meaning_of, meaning_else}
 use Rattle.civl_meaning.specs.Layers.{means_body, lowest, topmost}

@@ -1,42 +1,16 @@
 -- What a name stands for: the ways of saying which action it is agree. And names of which none stands twice.
-use Rattle.std.proofs.Common.{◌≡◌, ℕ, zero, suc, ◌+◌, Bool, true, false, ◌||◌, cond, List, [], ◌∷◌, map, take, slice_get, find, Some, refl, sym, ap, ◌∙◌, add-one}
+use Rattle.std.proofs.Common.{◌≡◌, ℕ, zero, suc, false, ◌||◌, cond, List, [], ◌∷◌, map, take, slice_get, find, Some, refl, ap, ◌∙◌}
 use Rattle.std.specs.Str.{bytes_eq}
 use Rattle.std.proofs.lemmas.Bool.{or_parts}
-use Rattle.std.proofs.lemmas.Slice.Eq.{bytes_eq-Decides}
 use Rattle.civl_tree.specs.declared.action.Action.{Action}
 use Rattle.civl_tree.specs.declared.name.Name.{Name}
 use Rattle.civl_tree.specs.declared.program.Program.{Program}
 use Rattle.civl_tree.specs.rules.Names.{same_name, has_name, any_twice, action_named as by_find}
-use Rattle.civl_meaning.specs.Truth.{place_of}
 use Rattle.civl_meaning.specs.Meaning.{action_named as by_place}
+use Rattle.civl_firing.proofs.Finding.{swapped, found_at}
 use Rattle.civl_flag.specs.Conditions.{action_named}
 
--- two tests that are true together are one
-same_truth : (a b : Bool) → (a ≡ true → b ≡ true) → (b ≡ true → a ≡ true) → a ≡ b
-same_truth true true f g = refl
-same_truth true false f g = sym (f refl)
-same_truth false true f g = g refl
-same_truth false false f g = refl
-
-pub swapped : (a b : List ℕ) → bytes_eq a b ≡ bytes_eq b a
-swapped a b =
-    let there = bytes_eq-Decides a b in
-    let back = bytes_eq-Decides b a in
-    same_truth (bytes_eq a b) (bytes_eq b a) (λ e. back.1 (sym (there.0 e))) (λ e. there.1 (sym (back.0 e)))
-
 -- ---- the action of a name
-
-at_place : (actions : List Action) (name : Name) → slice_get actions (place_of (map (λ a. a.name) actions) name) ≡ action_named actions name
-at_place [] name = refl
-at_place (a ∷ rest) name = either (bytes_eq a.name.bytes name.bytes) (at_place rest name)
-  where
-    either : (same : Bool) → slice_get rest (place_of (map (λ a. a.name) rest) name) ≡ action_named rest name →
-        slice_get (a ∷ rest) (cond same 0 (place_of (map (λ a. a.name) rest) name + 1)) ≡ cond same (Some a) (action_named rest name)
-    either true behind = refl
-    either false behind = ap (λ k. slice_get (a ∷ rest) k) (add-one (place_of (map (λ a. a.name) rest) name)) ∙ behind
-
-pub by_place-is : (program : Program) (name : Name) → by_place program name ≡ action_named program.actions name
-by_place-is program name = at_place program.actions name
 
 found : (actions : List Action) (name : Name) → find (λ action. same_name name action.name) actions ≡ action_named actions name
 found [] name = refl
@@ -45,6 +19,9 @@ found (a ∷ rest) name =
 
 pub by_find-is : (program : Program) (name : Name) → by_find program name ≡ action_named program.actions name
 by_find-is program name = found program.actions name
+
+pub by_place-is : (program : Program) (name : Name) → by_place program name ≡ action_named program.actions name
+by_place-is program name = found_at (λ (a : Action). a.name) program.actions name ∙ by_find-is program name
 
 -- ---- names of which none stands twice
 

@@ -18,14 +18,14 @@ use Rattle.civl_meaning.specs.declared.config.State.{State}
 use Rattle.civl_meaning.specs.declared.config.State.TheVariants.{Before, Inside, After}
 use Rattle.civl_meaning.specs.declared.config.Stepped.{Stepped}
 use Rattle.civl_meaning.specs.declared.config.Stepped.TheVariants as answer
-use Rattle.civl_meaning.specs.declared.config.Store.{Store}
-use Rattle.civl_meaning.specs.Fired.{gate_holds, fires, fired, store_after}
+use Rattle.civl_firing.specs.declared.store.Store.{Store}
+use Rattle.civl_firing.specs.Fired.{gate_holds, fires, fired, store_after}
 use Rattle.civl_meaning.specs.Step.{start, step_of}
 use Rattle.civl_meaning.specs.Run.{RunsTo}
 use Rattle.civl_meaning.specs.Failing.{IsMove, CanFail, is_failing}
 use Rattle.civl_meaning.specs.Initial.{IsInitial}
 use Rattle.civl_meaning.specs.Layers.{lowest, topmost}
-use Rattle.civl_meaning.specs.examples.Written.{by, moves_of}
+use Rattle.civl_meaning.specs.examples.Moves.{by, moves_of}
 use Rattle.civl_meaning.specs.examples.Flag.{setting, flag_is, bare, running}
 use Rattle.civl_flag.specs.Conditions.{violates}
 use Rattle.civl_flag.specs.Decide.{IsInitial as IsBoolInitial}

@@ -15,15 +15,15 @@ use Rattle.civl_tree.specs.declared.program.Global.{Global}
 use Rattle.civl_tree.specs.declared.program.Proc.{Proc}
 use Rattle.civl_tree.specs.declared.program.Thread.{Thread}
 use Rattle.civl_tree.specs.declared.program.Program.{Program}
-use Rattle.civl_meaning.specs.declared.config.Store.{Store}
+use Rattle.civl_firing.specs.declared.store.Store.{Store}
 use Rattle.civl_meaning.specs.declared.config.Move.{Move}
 use Rattle.civl_meaning.specs.declared.config.State.TheVariants.{Before}
 use Rattle.civl_meaning.specs.declared.config.Running.{Running}
 use Rattle.civl_meaning.specs.declared.config.Config.{Config}
 use Rattle.civl_meaning.specs.declared.config.Stepped.TheVariants as answer
 use Rattle.civl_values.specs.Values.{is_true, is_of, are_of}
-use Rattle.civl_meaning.specs.Eval.{values_of}
-use Rattle.civl_meaning.specs.Scope.{global_names, global_scope}
+use Rattle.civl_firing.specs.Eval.{values_of}
+use Rattle.civl_firing.specs.Scope.{global_names, global_scope}
 use Rattle.civl_meaning.specs.Meaning.{proc_number}
 use Rattle.civl_meaning.specs.Permissions.{pairwise_disjoint, of_globals, of_params}
 use Rattle.civl_meaning.specs.Initial.{IsInitial, of_args, of_thread}

@@ -19,7 +19,7 @@ use Rattle.civl_tree.specs.rules.Places.{E10, global_breaks, action_breaks}
 use Rattle.civl_tree.specs.rules.Refusals.{BreaksNone, first_of}
 use Rattle.civl_tree.specs.rules.Broken.{Broken, InGlobal, InAction, IsAnswer}
 use Rattle.civl_tree.proofs.First.{first_is_answer}
-use Rattle.civl_meaning.specs.Truth.{place_of}
+use Rattle.civl_firing.specs.Truth.{place_of}
 use Rattle.civl_meaning.specs.Meaning.{action_named as by_place}
 use Rattle.civl_flag.specs.FlagForm.{is_none, is_flag_expr, are_flag_updates, is_plain, is_of_one_layer, is_atomic, has_flag_exprs, is_flag_action, is_bare_call, is_commit, is_flag_body, is_flag_refines, is_flag_proc}
 use Rattle.civl_flag.specs.WellFormed.{IsWellFormed, is_there, call_below, calls_below, refined_there, refines_there}

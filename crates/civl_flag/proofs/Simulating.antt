@@ -12,7 +12,7 @@ use Rattle.civl_bits.specs.declared.value.Value.{Value}
 use Rattle.civl_tree.specs.declared.program.Global.{Global}
 use Rattle.civl_tree.specs.declared.program.Proc.{Proc}
 use Rattle.civl_tree.specs.declared.program.Program.{Program}
-use Rattle.civl_meaning.specs.declared.config.Store.{Store}
+use Rattle.civl_firing.specs.declared.store.Store.{Store}
 use Rattle.civl_meaning.specs.declared.config.Move.{Move}
 use Rattle.civl_meaning.specs.declared.config.State.{State}
 use Rattle.civl_meaning.specs.declared.config.State.TheVariants.{Before, Inside, After}
@@ -23,8 +23,8 @@ use Rattle.civl_meaning.specs.declared.config.Stepped.TheVariants as answer
 use Rattle.civl_meaning.specs.declared.config.Change.{Change}
 use Rattle.civl_meaning.specs.declared.config.Change.TheVariants.{Acts, Enters, Leaves}
 use Rattle.civl_tree.specs.declared.name.Name.{Name}
-use Rattle.civl_meaning.specs.Scope.{global_names, frame_names}
-use Rattle.civl_meaning.specs.Fired.{gate_holds}
+use Rattle.civl_firing.specs.Scope.{global_names, frame_names}
+use Rattle.civl_firing.specs.Fired.{gate_holds}
 use Rattle.civl_meaning.specs.Meaning.{Meaning}
 use Rattle.civl_meaning.specs.Layers.{lowest, topmost}
 use Rattle.civl_meaning.specs.Change.{new_frame, action_change, call_change, proc_change, change_of}

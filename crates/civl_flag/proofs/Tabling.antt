@@ -7,7 +7,7 @@ use Rattle.civl_tree.specs.declared.action.Action.{Action}
 use Rattle.civl_tree.specs.declared.action.Update.{Update}
 use Rattle.civl_tree.specs.declared.expr.Expr.TheVariants as expr
 use Rattle.civl_tree.specs.declared.name.Name.{Name}
-use Rattle.civl_meaning.specs.Table.{IsTabled}
+use Rattle.civl_firing.specs.Table.{IsTabled}
 use Rattle.civl_flag.specs.Conditions.{assigned, action_named, same_bool, same_store}
 use Rattle.civl_flag.specs.Tables.{AreTabled, AreTables, AreAllTables, column}
 use Rattle.civl_flag.specs.declared.tables.Tables.{Tables}

@@ -10,11 +10,11 @@ use Rattle.civl_tree.specs.declared.expr.Two.TheVariants.{And, Or}
 use Rattle.civl_tree.specs.declared.expr.Expr.{Expr}
 use Rattle.civl_tree.specs.declared.expr.Expr.TheFolds.{fold-Expr}
 use Rattle.civl_tree.specs.declared.expr.Expr.TheOpen as expr
-use Rattle.civl_meaning.specs.Truth.{truth_of}
-use Rattle.civl_meaning.specs.Eval.{value_of}
-use Rattle.civl_meaning.specs.Scope.{present}
-use Rattle.civl_meaning.specs.Agreement.{logical_step, is_logical}
-use Rattle.civl_meaning.proofs.Agreeing.{truth_is_value}
+use Rattle.civl_firing.specs.Truth.{truth_of}
+use Rattle.civl_firing.specs.Eval.{value_of}
+use Rattle.civl_firing.specs.Scope.{present}
+use Rattle.civl_firing.specs.Agreement.{logical_step, is_logical}
+use Rattle.civl_firing.proofs.Agreeing.{truth_is_value}
 use Rattle.civl_flag.specs.FlagForm.{flag_step, is_flag_expr}
 
 two_same : (op : Two) (a b : Bool) → flag_step (expr.Two op a b) ≡ logical_step (expr.Two op a b)

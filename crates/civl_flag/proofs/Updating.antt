@@ -12,15 +12,15 @@ use Rattle.civl_tree.specs.declared.action.Update.{Update}
 use Rattle.civl_tree.specs.declared.expr.Expr.{the_lemmas as of_expr}
 use Rattle.civl_tree.specs.declared.name.Name.{Name}
 use Rattle.civl_tree.specs.rules.Names.{same_name, has_name, any_twice}
-use Rattle.civl_meaning.specs.declared.scope.Scope.{Scope}
-use Rattle.civl_meaning.specs.Truth.{place_of, truth_of}
-use Rattle.civl_meaning.specs.Eval.{value_of}
-use Rattle.civl_meaning.specs.Fired.{updated as made}
-use Rattle.civl_meaning.specs.Scope.{present}
+use Rattle.civl_firing.specs.declared.scope.Scope.{Scope}
+use Rattle.civl_firing.specs.Truth.{place_of, truth_of}
+use Rattle.civl_firing.specs.Eval.{value_of}
+use Rattle.civl_firing.specs.Fired.{updated as made}
+use Rattle.civl_firing.specs.Scope.{present}
 use Rattle.civl_flag.specs.FlagForm.{is_flag_expr, are_flag_updates}
 use Rattle.civl_flag.specs.Conditions.{assigned}
 use Rattle.civl_flag.proofs.Breaking.{both_true}
-use Rattle.civl_flag.proofs.Naming.{swapped}
+use Rattle.civl_firing.proofs.Finding.{swapped}
 use Rattle.civl_flag.proofs.Truths.{truth_is}
 
 -- the value of a name after the updates, where it had another one before

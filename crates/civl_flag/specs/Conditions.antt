@@ -13,7 +13,7 @@ use Rattle.civl_tree.specs.declared.program.Program.{Program}
 use Rattle.civl_tree.specs.declared.program.Refines.{Refines}
 use Rattle.civl_tree.specs.declared.stmt.Stmt.{Stmt, out-Stmt}
 use Rattle.civl_tree.specs.declared.stmt.Stmt.TheOpen as stmt
-use Rattle.civl_meaning.specs.Truth.{truth_of}
+use Rattle.civl_firing.specs.Truth.{truth_of}
 use Rattle.civl_flag.specs.declared.condition.Condition.{Condition}
 use Rattle.civl_flag.specs.declared.condition.Condition.TheVariants.{Keep, Path}
 use Rattle.civl_flag.specs.declared.condition.Part.{Part}

@@ -7,8 +7,8 @@ use Rattle.civl_tree.specs.declared.program.Proc.{Proc}
 use Rattle.civl_tree.specs.declared.program.Program.{Program}
 use Rattle.civl_tree.specs.declared.stmt.Stmt.{Stmt, out-Stmt}
 use Rattle.civl_tree.specs.declared.stmt.Stmt.TheOpen as stmt
-use Rattle.civl_meaning.specs.Table.{store_at}
-use Rattle.civl_meaning.specs.Truth.{truth_of}
+use Rattle.civl_firing.specs.Table.{store_at}
+use Rattle.civl_firing.specs.Truth.{truth_of}
 use Rattle.civl_flag.specs.Conditions.{global_names, violates, conditions_of, breaks_proc, same_store}
 use Rattle.civl_flag.specs.Tables.{column}
 use Rattle.civl_flag.specs.declared.condition.Condition.{Condition}

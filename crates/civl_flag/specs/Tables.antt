@@ -3,8 +3,8 @@ use Rattle.std.specs.Prelude.{◌≡◌, ℕ, Bool, false, List, [], ◌∷◌, 
 use Rattle.civl_tree.specs.declared.action.Action.{Action}
 use Rattle.civl_tree.specs.declared.name.Name.{Name}
 use Rattle.civl_tree.specs.declared.program.Program.{Program}
-use Rattle.civl_meaning.specs.Table.{IsTabled}
-use Rattle.civl_meaning.specs.Truth.{truth_of}
+use Rattle.civl_firing.specs.Table.{IsTabled}
+use Rattle.civl_firing.specs.Truth.{truth_of}
 use Rattle.civl_flag.specs.Conditions.{global_names, assigned, gate_in, guard_in, action_named}
 use Rattle.civl_flag.specs.declared.tables.Board.{Board}
 use Rattle.civl_flag.specs.declared.tables.Tables.{Tables}

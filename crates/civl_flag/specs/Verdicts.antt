@@ -2,7 +2,7 @@
 use Rattle.std.specs.Prelude.{◌≡◌, length, IsTrue}
 use Rattle.civl_tree.specs.declared.program.Program.{Program}
 use Rattle.civl_layers.specs.Layered.{IsLayered}
-use Rattle.civl_meaning.specs.declared.config.Store.{Store}
+use Rattle.civl_firing.specs.declared.store.Store.{Store}
 use Rattle.civl_meaning.specs.Initial.{IsInitial}
 use Rattle.civl_flag.specs.FlagForm.{is_flag_form}
 use Rattle.civl_flag.specs.Conditions.{conditions_of}

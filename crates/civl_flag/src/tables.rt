@@ -1,12 +1,12 @@
 // The truth tables of a program's actions.
 ghost use Rattle.std.specs.Prelude.{◌≡◌, ◌≤◌, ◌<◌, length, IfOk, slice_index_or, false, map};
 ghost use Rattle.std.specs.Option.{option_copied};
-ghost use Rattle.civl_meaning.specs.Table.{IsTabled};
-ghost use Rattle.civl_meaning.specs.Truth.{truth_of};
+ghost use Rattle.civl_firing.specs.Table.{IsTabled};
+ghost use Rattle.civl_firing.specs.Truth.{truth_of};
 ghost use Rattle.civl_flag.specs.Conditions.{assigned, global_names, same_store, same_bool};
 ghost use Rattle.civl_flag.specs.Tables.{AreTabled, AreTables, AreAllTables, IsBoard, FindsTables, column};
 
-use civl_meaning::truth_table;
+use civl_firing::truth_table;
 use civl_tree::{Action, Expr, List, Memory, Name, Program, Update};
 use std::alloc::Global;
 

@@ -1,6 +1,6 @@
 // Deciding the conditions, by trying all stores.
 ghost use Rattle.std.specs.Prelude.{◌≡◌, ◌≤◌, ◌<◌, ◌^◌, ℕ, length, IfOk, IsTrue, slice_index_or, false, true, MatchOption};
-ghost use Rattle.civl_meaning.specs.Table.{bit_of, store_at};
+ghost use Rattle.civl_firing.specs.Table.{bit_of, store_at};
 ghost use Rattle.civl_flag.specs.Conditions.{keeps_from, conditions_of};
 ghost use Rattle.civl_flag.specs.FlagForm.{is_flag_form, is_flag_proc};
 ghost use Rattle.civl_flag.specs.Decide.{IsVerdict, low_count, gate_broken, perform_broken, FindsPart, FindsCounter, TellsInitial, IsWithinLimits};
@@ -11,8 +11,8 @@ ghost use Rattle.civl_flag.specs.Verdicts.{IsRight};
 use crate::body::callee;
 use crate::condition::{Condition, Counter, Part, Verdict};
 use crate::tables::{Board, Tables, agrees, value};
+use civl_firing::truth_table;
 use civl_layers::{Layered, program};
-use civl_meaning::truth_table;
 use civl_tree::{Action, List, Memory, Name, Proc, Program};
 use std::alloc::Global;
 

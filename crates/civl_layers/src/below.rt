@@ -4,8 +4,9 @@ ghost use Rattle.civl_tree.specs.rules.Names.{action_named, proc_named};
 ghost use Rattle.civl_tree.specs.declared.stmt.Stmt.{out-Stmt};
 ghost use Rattle.civl_layers.specs.NotBelow.{not_among, root_runs, layered_runs, calls_proc, spawns_proc, call_not_below, spawns_option, layer_not_below, stmt_not_below};
 
-use crate::names::{action_named, is_among, proc_named};
+use crate::names::is_among;
 use civl_tree::{Name, Proc, Program, Refines, Stmt};
+use civl_types::names::{action_named, proc_named};
 
 /// Whether a root, behind these procedures, runs this one.
 fn root_runs(earlier: &[Proc], callee: &Proc) -> bool

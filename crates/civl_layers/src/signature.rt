@@ -4,8 +4,8 @@ ghost use Rattle.civl_tree.specs.rules.Names.{action_named};
 ghost use Rattle.civl_tree.specs.rules.Sorts.{same_sort};
 ghost use Rattle.civl_tree.specs.rules.Signature.{same_mode, same_params, signature_differs, proc_signature_differs};
 
-use crate::names::action_named;
 use civl_tree::{Action, Mode, Param, Proc, Program, Sort};
+use civl_types::names::action_named;
 
 fn same_mode(first: Mode, second: Mode) -> bool
     ensures { result ≡ same_mode first second }

@@ -4,9 +4,9 @@ ghost use Rattle.civl_tree.specs.rules.Names.{action_named, proc_named};
 ghost use Rattle.civl_tree.specs.declared.stmt.Stmt.{out-Stmt};
 ghost use Rattle.civl_layers.specs.NotThere.{action_missing, refined_missing, run_missing, call_missing, layer_missing, stmt_missing, refines_missing, thread_missing};
 
-use crate::names::{action_named, proc_named};
 use crate::ranges::{exists_through, life_end};
 use civl_tree::{Action, Name, Proc, Program, Refines, Stmt, Thread};
+use civl_types::names::{action_named, proc_named};
 
 fn action_missing(from: u32, to: u32, action: Option<&Action>) -> bool
     ensures { result ≡ action_missing from to (option_copied action.entry) }

@@ -3,13 +3,13 @@ ghost use Rattle.std.specs.Prelude.{◌≡◌, map, IfOk};
 ghost use Rattle.civl_linear.specs.Modes.{passed_names, given_names};
 ghost use Rattle.civl_linear.specs.Wants.{wants};
 ghost use Rattle.civl_linear.specs.Held.{without, joined, call_held, spawn_held};
-ghost use Rattle.civl_walks.specs.Signatures.{signature_of};
+ghost use Rattle.civl_types.specs.Views.{signature_of};
 
 use crate::flags::copied;
 use crate::modes::Want;
 use crate::passing::{is_given_name, is_passed_name};
 use civl_tree::{Expr, List, Memory, Name, Param};
-use civl_walks::Signature;
+use civl_types::names::Signature;
 use std::alloc::Global;
 
 /// What is held without the names that stand for the parameters which are looked at.

@@ -6,7 +6,7 @@ ghost use Rattle.civl_linear.specs.Wants.{wants};
 
 use crate::modes::{Want, is_given, wants};
 use civl_tree::{Expr, Name, Param};
-use civl_walks::same_name;
+use civl_types::names::same_name;
 
 /// Whether the expression is this plain name.
 fn is_plainly(expr: &Expr, name: &Name) -> bool

@@ -7,7 +7,7 @@ ghost use Rattle.civl_linear.specs.Places.{passes_in, gives_out, is_linear_local
 
 use crate::modes::{is_given, is_passed};
 use civl_tree::{List, Memory, Name, Param, Proc};
-use civl_walks::same_name;
+use civl_types::names::same_name;
 use std::alloc::Global;
 
 /// The names of a procedure: its parameters, outputs and locals.

@@ -2,7 +2,7 @@
 ghost use Rattle.std.specs.Prelude.{◌≡◌, ◌+◌, map};
 ghost use Rattle.std.specs.List.{list_any};
 ghost use Rattle.civl_tree.specs.rules.Names.{any_twice, has_name};
-ghost use Rattle.civl_walks.specs.Signatures.{signature_of};
+ghost use Rattle.civl_types.specs.Views.{signature_of};
 ghost use Rattle.civl_linear.specs.Modes.{is_passed, is_taken, at_modes, plain_name, passed_names, given_names};
 ghost use Rattle.civl_linear.specs.Wants.{list_of};
 ghost use Rattle.civl_linear.specs.Held.{holds, without};
@@ -13,7 +13,8 @@ use crate::modes::{Want, is_given, is_passed};
 use crate::passing::is_passed_name;
 use crate::places::{holds, is_param, may_get, may_pass};
 use civl_tree::{Expr, List, Mode, Name, Param, Proc, Program, Stmt};
-use civl_walks::{Rule, Signature, Test, callee_signature, proc_signature, same_name};
+use civl_types::names::{Signature, callee_signature, proc_signature, same_name};
+use civl_walks::{Rule, Test};
 
 /// Whether the argument isn't the plain name of something held that may stand for a linear parameter.
 fn not_held(proc: &Proc, names: &[&Name], held: &List<bool>, arg: &Expr) -> bool

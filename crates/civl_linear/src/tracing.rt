@@ -6,7 +6,7 @@ use crate::calls::{call_held, spawn_held};
 use crate::flags::{both_held, copied, covers, entry_held};
 use crate::places::names_in_proc;
 use civl_tree::{List, Memory, Name, Proc, Program, Stmt};
-use civl_walks::{callee_signature, proc_signature};
+use civl_types::names::{callee_signature, proc_signature};
 use std::alloc::Global;
 
 /// Behind each other.

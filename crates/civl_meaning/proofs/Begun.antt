@@ -23,26 +23,24 @@ use Rattle.civl_tree.specs.rules.Sorted.{any_missorted}
 use Rattle.civl_tree.specs.rules.Unknown.{any_unknown}
 use Rattle.civl_tree.specs.rules.Arity.{thread_arity}
 use Rattle.civl_tree.specs.rules.Places.{Code, E11, E20, E21, E22, E23, thread_breaks}
-use Rattle.civl_tree.specs.rules.Refusals.{BreaksNone, first_of}
-use Rattle.civl_tree.specs.rules.Broken.{Broken, InThread, IsTried, IsAnswer}
-use Rattle.civl_tree.proofs.First.{first_is_answer}
-use Rattle.civl_meaning.specs.declared.config.Store.{Store}
+use Rattle.civl_tree.specs.rules.Refusals.{BreaksNone}
+use Rattle.civl_tree.specs.rules.Broken.{InThread, IsTried}
+use Rattle.civl_firing.specs.declared.store.Store.{Store}
 use Rattle.civl_meaning.specs.declared.config.Plain.{Plain}
-use Rattle.civl_meaning.specs.Truth.{place_of}
+use Rattle.civl_firing.specs.Truth.{place_of}
 use Rattle.civl_values.specs.Values.{HaveSorts}
-use Rattle.civl_meaning.specs.Stores.{IsStore}
-use Rattle.civl_meaning.specs.Eval.{values_of}
-use Rattle.civl_meaning.specs.Scope.{global_scope}
-use Rattle.civl_meaning.specs.Sorts.{IsSorted}
+use Rattle.civl_firing.specs.Stores.{IsStore}
+use Rattle.civl_firing.specs.Eval.{values_of}
+use Rattle.civl_firing.specs.Scope.{global_scope}
+use Rattle.civl_firing.specs.Sorts.{IsSorted}
 use Rattle.civl_meaning.specs.Meaning.{proc_number}
 use Rattle.civl_meaning.specs.Step.{begun}
 use Rattle.civl_meaning.specs.Config.{IsPlain, spawns, IsBegun, ThreadIsSorted, IsStacked, StartIsOf}
-use Rattle.civl_meaning.proofs.Having.{found_alone, args_have_sorts}
+use Rattle.civl_firing.proofs.Finding.{found_at}
+use Rattle.civl_firing.proofs.Having.{found_alone, args_have_sorts}
+use Rattle.civl_firing.proofs.Unbroken.{no_rule_broken}
 
 -- ---- the rules, part by part
-
-pub no_rule_broken : (program : Program) → BreaksNone program → (code : Code) (item statement : ℕ) → IsTried code → Broken code program item statement → ⊥
-no_rule_broken program none = subst (IsAnswer program) (ap first_of none) (first_is_answer program)
 
 not_broken : (b : Bool) → (b ≡ true → ⊥) → b ≡ false
 not_broken true n = absurd (n refl)
@@ -54,30 +52,8 @@ thread_keeps program none i t at code tried =
 
 -- ---- the procedure of a name
 
-same_truth : (a b : Bool) → (a ≡ true → b ≡ true) → (b ≡ true → a ≡ true) → a ≡ b
-same_truth true true f g = refl
-same_truth true false f g = sym (f refl)
-same_truth false true f g = g refl
-same_truth false false f g = refl
-
-swapped : (a b : List ℕ) → bytes_eq a b ≡ bytes_eq b a
-swapped a b =
-    let there = bytes_eq-Decides a b in
-    let back = bytes_eq-Decides b a in
-    same_truth (bytes_eq a b) (bytes_eq b a) (λ e. back.1 (sym (there.0 e))) (λ e. there.1 (sym (back.0 e)))
-
-found_at : (procs : List Proc) (name : Name) → slice_get procs (place_of (map (λ p. p.name) procs) name) ≡ find (λ p. same_name name p.name) procs
-found_at [] name = refl
-found_at (p ∷ rest) name =
-    either (bytes_eq p.name.bytes name.bytes) (found_at rest name) ∙ ap (λ (same : Bool). cond same (Some p) (find (λ q. same_name name q.name) rest)) (swapped p.name.bytes name.bytes)
-  where
-    either : (same : Bool) → slice_get rest (place_of (map (λ q. q.name) rest) name) ≡ find (λ q. same_name name q.name) rest →
-        slice_get (p ∷ rest) (cond same 0 (place_of (map (λ q. q.name) rest) name + 1)) ≡ cond same (Some p) (find (λ q. same_name name q.name) rest)
-    either true behind = refl
-    either false behind = ap (λ k. slice_get (p ∷ rest) k) (add-one (place_of (map (λ q. q.name) rest) name)) ∙ behind
-
 pub proc_is : (program : Program) (name : Name) → slice_get program.procs (proc_number program name) ≡ proc_named program name
-proc_is program name = found_at program.procs name
+proc_is program name = found_at (λ (p : Proc). p.name) program.procs name
 
 -- ---- threads
 

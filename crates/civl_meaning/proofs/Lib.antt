@@ -1,5 +1,3 @@
-pub mod Numbers
-pub mod Places
 pub mod Placing
 pub mod Stepping
 pub mod Runs
@@ -7,18 +5,13 @@ pub mod Failures
 pub mod Schedules
 pub mod Stores
 pub mod Safe
-pub mod Agreeing
-pub mod Fitting
-pub mod Joining
 pub mod Finding
 pub mod Putting
 pub mod Shifting
 pub mod Firsts
 pub mod Rests
 pub mod Resting
-pub mod Soundness
 pub mod Frames
-pub mod Having
 pub mod Begun
 pub mod Spots
 pub mod Stacking

@@ -4,11 +4,12 @@ use Rattle.std.proofs.lemmas.List.Elements.{All-nil, All-cons}
 use Rattle.civl_bits.specs.Value.{IsValue}
 use Rattle.civl_tree.specs.declared.expr.Expr.{the_lemmas as of_expr}
 use Rattle.civl_tree.specs.declared.stmt.Stmt.{the_lemmas as of_stmt}
-use Rattle.civl_meaning.specs.Fired.{gate_holds, fires, fired}
+use Rattle.civl_firing.specs.Fired.{gate_holds, fires, fired}
 use Rattle.civl_meaning.specs.Step.{start}
 use Rattle.civl_meaning.specs.Failing.{IsMove}
 use Rattle.civl_meaning.specs.Layers.{lowest}
-use Rattle.civl_meaning.specs.examples.Written.{word, holding, by, moves_of}
+use Rattle.civl_firing.specs.examples.Written.{word, holding}
+use Rattle.civl_meaning.specs.examples.Moves.{by, moves_of}
 use Rattle.civl_meaning.specs.examples.Increments.{increments, low_middle, low_later, LowScheduleBegins, LowScheduleGoesOn, LowScheduleEnds, LowScheduleRuns}
 use Rattle.civl_meaning.specs.declared.config.State.TheVariants.{Inside}
 use Rattle.civl_meaning.specs.examples.Flag.{set, bare, GatedCanFail}

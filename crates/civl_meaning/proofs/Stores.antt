@@ -7,13 +7,13 @@ use Rattle.civl_bits.specs.declared.value.Value.{Value}
 use Rattle.civl_tree.specs.declared.expr.Expr as expr
 use Rattle.civl_tree.specs.declared.expr.Expr.{the_lemmas as of_expr}
 use Rattle.civl_tree.specs.declared.program.Program.{Program}
-use Rattle.civl_meaning.specs.declared.config.Store.{Store}
+use Rattle.civl_firing.specs.declared.store.Store.{Store}
 use Rattle.civl_values.specs.Values.{is_true}
-use Rattle.civl_meaning.specs.Eval.{value_of}
-use Rattle.civl_meaning.specs.Scope.{global_scope}
+use Rattle.civl_firing.specs.Eval.{value_of}
+use Rattle.civl_firing.specs.Scope.{global_scope}
 use Rattle.civl_meaning.specs.Permissions.{pairwise_disjoint}
 use Rattle.civl_meaning.specs.Initial.{IsInitial, initial_permissions}
-use Rattle.civl_meaning.specs.examples.Written.{word, bool, holding}
+use Rattle.civl_firing.specs.examples.Written.{word, bool, holding}
 use Rattle.civl_meaning.specs.examples.Pool.{pooled, empty_pool, EmptyPoolIsInitial, OtherPoolsAreNot, ThirteenIsInitial, TwoIsNot, PoolCarriesItsBits}
 use Rattle.civl_meaning.specs.examples.Spinlock.{spinlock, TwoThreadsAreInitial, OneNumberTwice}
 

@@ -12,7 +12,7 @@ use Rattle.civl_tree.specs.Numbering.{statements_of}
 use Rattle.civl_tree.specs.rules.Uses.{param_sorts}
 use Rattle.civl_tree.specs.rules.Places.{E34}
 use Rattle.civl_tree.specs.rules.Refusals.{Keeps, BreaksNone}
-use Rattle.civl_meaning.specs.declared.config.Store.{Store}
+use Rattle.civl_firing.specs.declared.store.Store.{Store}
 use Rattle.civl_meaning.specs.declared.config.Move.{Move}
 use Rattle.civl_meaning.specs.declared.config.Plain.{Plain}
 use Rattle.civl_meaning.specs.declared.config.Activation.{Activation}
@@ -21,7 +21,7 @@ use Rattle.civl_meaning.specs.declared.config.State.TheVariants.{Before, Inside,
 use Rattle.civl_meaning.specs.declared.config.Running.{Running}
 use Rattle.civl_meaning.specs.declared.config.Config.{Config}
 use Rattle.civl_values.specs.Values.{HaveSorts}
-use Rattle.civl_meaning.specs.Stores.{IsStore}
+use Rattle.civl_firing.specs.Stores.{IsStore}
 use Rattle.civl_meaning.specs.Places.{Spot, sizes_of, spot_at}
 use Rattle.civl_meaning.specs.Meaning.{Meaning, Does, Runs, Missing, meaning_of, called, proc_number}
 use Rattle.civl_meaning.specs.Step.{start, step_of}

@@ -6,7 +6,7 @@ use Rattle.civl_bits.specs.declared.value.Value.{Value}
 use Rattle.civl_tree.specs.declared.program.Proc.{Proc}
 use Rattle.civl_tree.specs.declared.stmt.Stmt.{Stmt, out-Stmt}
 use Rattle.civl_tree.specs.declared.stmt.Stmt.TheOpen as stmt
-use Rattle.civl_meaning.specs.declared.config.Store.{Store}
+use Rattle.civl_firing.specs.declared.store.Store.{Store}
 use Rattle.civl_meaning.specs.declared.config.Move.{Move}
 use Rattle.civl_meaning.specs.declared.config.Plain.{Plain}
 use Rattle.civl_meaning.specs.declared.config.Activation.{Activation}
@@ -18,9 +18,9 @@ use Rattle.civl_meaning.specs.declared.config.Stepped.TheVariants as answer
 use Rattle.civl_meaning.specs.declared.config.Change.{Change}
 use Rattle.civl_meaning.specs.declared.config.Change.TheVariants.{Stays, Goes, Acts, Enters, Leaves, Spawns}
 use Rattle.civl_values.specs.Values.{is_true}
-use Rattle.civl_meaning.specs.Eval.{value_of, values_of}
-use Rattle.civl_meaning.specs.Scope.{frame_scope}
-use Rattle.civl_meaning.specs.Fired.{gate_holds}
+use Rattle.civl_firing.specs.Eval.{value_of, values_of}
+use Rattle.civl_firing.specs.Scope.{frame_scope}
+use Rattle.civl_firing.specs.Fired.{gate_holds}
 use Rattle.civl_meaning.specs.Places.{Spot, spot_at}
 use Rattle.civl_meaning.specs.Meaning.{Meaning, Does, Runs, Missing, called, meaning_of}
 use Rattle.civl_meaning.specs.Change.{change_of}

@@ -5,11 +5,11 @@ use Rattle.civl_tree.specs.declared.program.Proc.{Proc}
 use Rattle.civl_tree.specs.declared.program.Thread.{Thread}
 use Rattle.civl_tree.specs.declared.program.Program.{Program}
 use Rattle.std.specs.Prelude.{ℕ}
-use Rattle.civl_meaning.specs.declared.config.Store.{Store}
+use Rattle.civl_firing.specs.declared.store.Store.{Store}
 use Rattle.civl_values.specs.Values.{is_true}
-use Rattle.civl_meaning.specs.Stores.{IsStore}
-use Rattle.civl_meaning.specs.Eval.{value_of, values_of}
-use Rattle.civl_meaning.specs.Scope.{global_scope}
+use Rattle.civl_firing.specs.Stores.{IsStore}
+use Rattle.civl_firing.specs.Eval.{value_of, values_of}
+use Rattle.civl_firing.specs.Scope.{global_scope}
 use Rattle.civl_meaning.specs.Meaning.{proc_number}
 use Rattle.civl_meaning.specs.Permissions.{pairwise_disjoint, of_globals, of_params}
 

@@ -1,13 +1,3 @@
-pub mod Truth
-pub mod Table
-pub mod Stores
-pub mod Sorts
-pub mod Eval
-pub mod Scope
-pub mod Names
-pub mod Settings
-pub mod Asked
-pub mod Fired
 pub mod Places
 pub mod Found
 pub mod Left
@@ -25,5 +15,4 @@ pub mod Layers
 pub mod Permissions
 pub mod Initial
 pub mod Preserves
-pub mod Agreement
 pub mod examples

@@ -1,6 +1,6 @@
 -- What a layered program is verified for: its lowest program fails only where its topmost one does.
 use Rattle.civl_tree.specs.declared.program.Program.{Program}
-use Rattle.civl_meaning.specs.declared.config.Store.{Store}
+use Rattle.civl_firing.specs.declared.store.Store.{Store}
 use Rattle.civl_meaning.specs.Failing.{CanFail}
 use Rattle.civl_meaning.specs.Layers.{lowest, topmost}
 use Rattle.civl_meaning.specs.Initial.{IsInitial}

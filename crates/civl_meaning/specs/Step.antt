@@ -3,7 +3,7 @@ use Rattle.std.specs.Prelude.{◌≡◌, ◌≢◌, ◌<◌, ℕ, ◌-◌, List,
 use Rattle.civl_bits.specs.declared.value.Value.{Value}
 use Rattle.civl_tree.specs.declared.program.Thread.{Thread}
 use Rattle.civl_tree.specs.declared.program.Program.{Program}
-use Rattle.civl_meaning.specs.declared.config.Store.{Store}
+use Rattle.civl_firing.specs.declared.store.Store.{Store}
 use Rattle.civl_meaning.specs.declared.config.Move.{Move}
 use Rattle.civl_meaning.specs.declared.config.Plain.{Plain}
 use Rattle.civl_meaning.specs.declared.config.Activation.{Activation}
@@ -15,8 +15,8 @@ use Rattle.civl_meaning.specs.declared.config.Stepped.{Stepped}
 use Rattle.civl_meaning.specs.declared.config.Stepped.TheVariants as answer
 use Rattle.civl_meaning.specs.declared.config.Change.{Change}
 use Rattle.civl_meaning.specs.declared.config.Change.TheVariants.{Stays, Goes, Acts, Enters, Leaves, Spawns}
-use Rattle.civl_meaning.specs.Eval.{values_of}
-use Rattle.civl_meaning.specs.Scope.{global_scope}
+use Rattle.civl_firing.specs.Eval.{values_of}
+use Rattle.civl_firing.specs.Scope.{global_scope}
 use Rattle.civl_meaning.specs.Meaning.{proc_number}
 use Rattle.civl_meaning.specs.Change.{change_of}
 

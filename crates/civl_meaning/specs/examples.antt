@@ -1,6 +1,4 @@
-pub mod Written
-pub mod Operators
-pub mod Scopes
+pub mod Moves
 pub mod Places
 pub mod Steps
 pub mod Frames

@@ -2,26 +2,27 @@
 ghost use Rattle.std.specs.Prelude.{◌≡◌, ◌+◌, ◌^◌, ◌<◌, [], length, take, drop, slice_get, slice_set, if◌then◌else◌, IfOk};
 ghost use Rattle.civl_tree.specs.declared.stmt.Stmt.{out-Stmt};
 ghost use Rattle.civl_meaning.specs.declared.config.State.TheVariants.{Before};
-ghost use Rattle.civl_meaning.specs.Truth.{place_of};
+ghost use Rattle.civl_firing.specs.Truth.{place_of};
 ghost use Rattle.civl_values.specs.Values.{is_true};
-ghost use Rattle.civl_meaning.specs.Eval.{value_of, values_of};
-ghost use Rattle.civl_meaning.specs.Scope.{frame_names, frame_scope};
-ghost use Rattle.civl_meaning.specs.Names.{names_of};
+ghost use Rattle.civl_firing.specs.Eval.{value_of, values_of};
+ghost use Rattle.civl_firing.specs.Scope.{frame_names, frame_scope};
+ghost use Rattle.civl_firing.specs.Names.{names_of};
 ghost use Rattle.civl_meaning.specs.Places.{start_of, sizes_of, size_of};
 ghost use Rattle.civl_meaning.specs.Found.{spot, Fits};
 ghost use Rattle.civl_meaning.specs.Callees.{meaning};
 ghost use Rattle.civl_meaning.specs.Meaning.{called, proc_number};
 ghost use Rattle.civl_meaning.specs.Change.{with_results, new_frame, acted, action_change, call_change, layer_change, returned_layer, returned_at, returned, leaves, outs_in, spot_change, proc_change, caller_of, change_of};
 
-use crate::config::{Activation, Change, Fired, Plain, Running, State, Stepped, Store};
-use crate::expressions::{holds, value, values};
-use crate::firing::{choices_fit, gate, transition, write};
+use crate::config::{Activation, Change, Plain, Running, State, Stepped};
 use crate::found::{Found, begin, look_body, sizes};
 use crate::meant::{Callee, of_name, of_proc};
-use crate::names::{Names, place, proc};
-use crate::setting::in_frame;
-use crate::sorts::{push_locals, push_params};
 use civl_bits::Value;
+use civl_firing::expressions::{holds, value, values};
+use civl_firing::firing::{choices_fit, gate, transition, write};
+use civl_firing::names::{Names, place, proc};
+use civl_firing::setting::in_frame;
+use civl_firing::sorts::{push_locals, push_params};
+use civl_firing::{Fired, Store};
 use civl_tree::{Action, Expr, List, Memory, Name, Proc, Stmt};
 use std::alloc::Global as Alloc;
 
@@ -34,7 +35,7 @@ pub struct Standing<'a> {
 }
 
 /// The names of a procedure's frame, as targets.
-#[tactic(auto, using(crate::proofs::Joining::appending))]
+#[tactic(auto, using(civl_firing::proofs::Joining::appending))]
 pub fn frame_targets<'a>(proc: &'a Proc) -> Names<'a>
     ensures { names_of result ≡ frame_names proc.now }
 {
@@ -106,7 +107,7 @@ fn done_by(alloc: Alloc, after: &After<'_>, fired: Fired) -> Result<Change, Memo
 }
 
 /// A call of an action.
-#[tactic(auto, unfolding(crate::specs::Fired::fired))]
+#[tactic(auto, unfolding(civl_firing::specs::Fired::fired))]
 fn call_of_action(
     alloc: Alloc,
     plain: &Plain,

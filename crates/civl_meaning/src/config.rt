@@ -1,13 +1,8 @@
-// Stores, moves, plain programs and their configurations.
+// Moves, plain programs and their configurations.
 
 use civl_bits::Value;
+use civl_firing::Store;
 use civl_tree::{List, Program};
-
-/// A store: one value for each global of the source, of all layers, in text order.
-#[derive(Drop)]
-pub struct Store {
-    pub values: List<Value>,
-}
 
 /// A move of an interleaving: the thread that takes a step, and values for the choices of the action that it calls.
 /// At other statements the choices don't count.
@@ -34,14 +29,6 @@ pub enum Stepped {
     Ended,
     Failing,
     BadChoices,
-}
-
-/// What comes of an action: its gate is false, or its guard is, or it gives a store and its outputs.
-#[derive(Drop)]
-pub enum Fired {
-    GateFalse,
-    Blocked,
-    Moved(Store, List<Value>),
 }
 
 /// An activation record, a frame of a thread's stack: a procedure's number, the place before which it stands, and the

@@ -2,9 +2,10 @@
 ghost use Rattle.std.specs.Prelude.{◌≡◌, ◌+◌, ◌<◌, ◌^◌, ◌↔◌, length, slice_get, IfOk, IfSome, IsTrue};
 ghost use Rattle.civl_meaning.specs.Depth.{depth_of};
 
-use crate::config::{Activation, Config, Running, State, Store};
+use crate::config::{Activation, Config, Running, State};
 use crate::leaving::{copied, copied_frame};
 use civl_bits::Value;
+use civl_firing::Store;
 use civl_tree::{List, Memory};
 use std::alloc::Global;
 

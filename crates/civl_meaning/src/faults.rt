@@ -1,18 +1,18 @@
 // Failing threads.
 ghost use Rattle.std.specs.Prelude.{◌≡◌, ◌<◌, ◌^◌, length, slice_get, option_copied};
 ghost use Rattle.civl_tree.specs.declared.stmt.Stmt.{out-Stmt};
-ghost use Rattle.civl_meaning.specs.Eval.{values_of};
-ghost use Rattle.civl_meaning.specs.Scope.{frame_scope};
+ghost use Rattle.civl_firing.specs.Eval.{values_of};
+ghost use Rattle.civl_firing.specs.Scope.{frame_scope};
 ghost use Rattle.civl_meaning.specs.Callees.{meaning};
 ghost use Rattle.civl_meaning.specs.Failing.{call_fails, layer_fails, proc_fails, state_fails, thread_fails, failing_thread};
 
-use crate::asking::gate_of_call;
 use crate::change::{Standing, holds_in};
-use crate::config::{Activation, Config, Plain, Running, State, Store};
-use crate::firing::gate;
+use crate::config::{Activation, Config, Plain, Running, State};
 use crate::meant::{Callee, of_name, of_proc};
 use crate::seeking::seek_body;
 use civl_bits::Value;
+use civl_firing::firing::gate;
+use civl_firing::{Store, gate_of_call};
 use civl_tree::{Expr, Stmt};
 
 /// Whether the call with which a thread begins fails.

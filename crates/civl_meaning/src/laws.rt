@@ -1,29 +1,15 @@
 //! Laws of the definitions. Each function computes nothing; its clauses are theorems. Those of the modules below are
 //! worked examples.
-ghost use Rattle.civl_meaning.specs.Agreement.{TruthIsValue};
 ghost use Rattle.civl_meaning.specs.Failing.{FailingIsAnswered};
 ghost use Rattle.civl_meaning.specs.Run.{RunsAreMade, RunsJoin};
-ghost use Rattle.civl_meaning.specs.Sorts.{ValuesHaveTheirSorts};
 ghost use Rattle.civl_meaning.specs.Step.{RefusedStays, OthersStay};
 
 pub mod configs;
 pub mod frames;
-pub mod operators;
 pub mod places;
 pub mod schedules;
-pub mod scopes;
 pub mod steps;
 pub mod stores;
-
-/// An expression whose sorts fit has a value of its sort, where the names of its scope have values of theirs.
-pub fn values_have_their_sorts()
-    ensures { ValuesHaveTheirSorts }
-{}
-
-/// On expressions of names, `true`, `false`, `!`, `&&` and `||` the value is the truth.
-pub fn truth_is_value()
-    ensures { TruthIsValue }
-{}
 
 /// A step that isn't made leaves the configuration, and one that is made leaves the other threads.
 pub fn what_a_step_leaves()

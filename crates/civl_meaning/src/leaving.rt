@@ -5,10 +5,11 @@ ghost use Rattle.civl_meaning.specs.Found.{spot, Fits};
 ghost use Rattle.civl_meaning.specs.Change.{returned_layer, returned_at, returned_in, returned, leaves, outs_in, spot_change, proc_change, caller_of, change_of};
 
 use crate::change::{Standing, first_call, frame_targets, statement, write_results};
-use crate::config::{Activation, Change, Plain, Running, State, Stepped, Store};
+use crate::config::{Activation, Change, Plain, Running, State, Stepped};
 use crate::found::{Found, look_body};
 use crate::meant::of_proc;
 use civl_bits::Value;
+use civl_firing::Store;
 use civl_tree::{List, Memory, Proc, Stmt};
 use std::alloc::Global as Alloc;
 

@@ -4,7 +4,7 @@ ghost use Rattle.civl_meaning.specs.Meaning.{meaning_of, called, refined};
 ghost use Rattle.civl_meaning.specs.Callees.{meaning};
 
 use crate::config::Plain;
-use crate::names::{action, proc};
+use civl_firing::names::{action, proc};
 use civl_tree::{Action, Name, Proc, Program};
 
 /// What a call means: an action, or the body of the procedure with this number; or nothing.

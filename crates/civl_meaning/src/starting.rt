@@ -2,11 +2,12 @@
 ghost use Rattle.std.specs.Prelude.{◌≡◌, IfOk, map};
 ghost use Rattle.civl_meaning.specs.Step.{begun, start};
 
-use crate::config::{Config, Plain, Running, State, Store};
-use crate::expressions::values;
+use crate::config::{Config, Plain, Running, State};
 use crate::leaving::copied;
-use crate::names::proc;
-use crate::setting::at_start;
+use civl_firing::Store;
+use civl_firing::expressions::values;
+use civl_firing::names::proc;
+use civl_firing::setting::at_start;
 use civl_tree::{List, Memory, Program, Thread};
 use std::alloc::Global;
 

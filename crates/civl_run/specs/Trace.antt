@@ -1,7 +1,7 @@
 -- What a schedule gives: the first moves up to one that isn't made, its answer, and what is read off the configuration
 -- to which they lead. (Small-step interleaving.)
 use Rattle.std.specs.Prelude.{ℕ, ◌≡◌, ◌≢◌, ◌≤◌, ◌↔◌, List, length, take, Option, None, Some, slice_get}
-use Rattle.civl_meaning.specs.declared.config.Store.{Store}
+use Rattle.civl_firing.specs.declared.store.Store.{Store}
 use Rattle.civl_meaning.specs.declared.config.Move.{Move}
 use Rattle.civl_meaning.specs.declared.config.Plain.{Plain}
 use Rattle.civl_meaning.specs.declared.config.Config.{Config}

@@ -5,7 +5,7 @@ use Rattle.civl_bits.specs.declared.value.Value.{Value}
 use Rattle.civl_tree.specs.declared.program.Global.{Global}
 use Rattle.civl_tree.specs.declared.script.Entry.{Entry}
 use Rattle.civl_tree.specs.declared.script.Told.{Told}
-use Rattle.civl_meaning.specs.declared.config.Store.{Store}
+use Rattle.civl_firing.specs.declared.store.Store.{Store}
 use Rattle.civl_meaning.specs.declared.config.Move.{Move}
 use Rattle.civl_script.specs.Schedules.{AreEntriesOf, AreValuesOf, IsMoveOf, AreMovesOf, IsWrongEntry, IsWrongMove, IsSchedule}
 use Rattle.civl_script.specs.declared.schedule.Schedule.{Schedule}

@@ -7,9 +7,9 @@ use Rattle.civl_tree.specs.declared.program.Proc.{Proc}
 use Rattle.civl_meaning.specs.declared.config.State.TheVariants.{Inside}
 use Rattle.civl_meaning.specs.Layers.{lowest}
 use Rattle.civl_meaning.specs.Config.{IsBegun, IsPlaced, HasLocals, ThreadIsSorted, IsStacked, IsOf}
-use Rattle.civl_meaning.specs.examples.Written.{word, root, proc, call}
+use Rattle.civl_firing.specs.examples.Written.{word, root, proc, call}
 use Rattle.civl_meaning.specs.examples.Flag.{bare, running}
-use Rattle.civl_meaning.proofs.Having.{no_sorts, more_sorts}
+use Rattle.civl_firing.proofs.Having.{no_sorts, more_sorts}
 use Rattle.civl_soundness.specs.examples.Putting.{putting, before}
 
 abbrev main : Proc

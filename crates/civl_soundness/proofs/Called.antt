@@ -1,8 +1,6 @@
 -- What a call means has the sorts of its callee's signature.
-use Rattle.std.proofs.Common.{◌≡◌, ℕ, ◌+◌, Bool, true, false, ◌&&◌, cond, List, [], ◌∷◌, map, find, refl, sym, ap, ap₂, ◌∙◌, subst, Option, Some, None, slice_get, add-one}
-use Rattle.std.specs.Str.{bytes_eq}
+use Rattle.std.proofs.Common.{◌≡◌, ℕ, Bool, true, false, ◌&&◌, List, [], ◌∷◌, map, refl, sym, ap, ap₂, ◌∙◌, subst, Option, Some, None, slice_get}
 use Rattle.std.proofs.lemmas.Bool.{false≢true, not-false}
-use Rattle.std.proofs.lemmas.Slice.Eq.{bytes_eq-Decides}
 use Rattle.civl_tree.specs.declared.name.Name.{Name}
 use Rattle.civl_tree.specs.declared.expr.Sort.{Sort}
 use Rattle.civl_tree.specs.declared.action.Action.{Action}
@@ -10,44 +8,23 @@ use Rattle.civl_tree.specs.declared.action.Param.{Param}
 use Rattle.civl_tree.specs.declared.program.Proc.{Proc}
 use Rattle.civl_tree.specs.declared.program.Refines.{Refines}
 use Rattle.civl_tree.specs.declared.program.Program.{Program}
-use Rattle.civl_tree.specs.rules.Names.{Signature, same_name, action_named as first_action, proc_named, action_signature, proc_signature, proc_signature_of, first_signature, callee_signature}
+use Rattle.civl_tree.specs.rules.Names.{Signature, action_named as first_action, proc_named, action_signature, proc_signature, proc_signature_of, first_signature, callee_signature}
 use Rattle.civl_tree.specs.rules.Signature.{same_mode, same_params, signature_differs, refined_differs}
 use Rattle.civl_tree.specs.rules.Sorts.{same_sort}
 use Rattle.civl_tree.specs.rules.Uses.{param_sorts}
 use Rattle.civl_values.proofs.Sorting.{both, same_sort-true}
 use Rattle.civl_meaning.specs.declared.config.Plain.{Plain}
-use Rattle.civl_meaning.specs.Truth.{place_of}
+use Rattle.civl_firing.specs.Truth.{place_of}
 use Rattle.civl_meaning.specs.Meaning.{Meaning, Does, Runs, Missing, action_named, proc_number, meaning_of_action, refined, meaning_by, meaning_of, meaning_else, called}
 use Rattle.civl_meaning.specs.Config.{IsPlain}
+use Rattle.civl_firing.proofs.Finding.{found_at}
 use Rattle.civl_meaning.proofs.Begun.{proc_is}
 use Rattle.civl_soundness.proofs.Kept.{signature_kept}
 
 -- ---- the action of a name
 
-same_truth : (a b : Bool) → (a ≡ true → b ≡ true) → (b ≡ true → a ≡ true) → a ≡ b
-same_truth true true f g = refl
-same_truth true false f g = sym (f refl)
-same_truth false true f g = g refl
-same_truth false false f g = refl
-
-swapped : (a b : List ℕ) → bytes_eq a b ≡ bytes_eq b a
-swapped a b =
-    let there = bytes_eq-Decides a b in
-    let back = bytes_eq-Decides b a in
-    same_truth (bytes_eq a b) (bytes_eq b a) (λ e. back.1 (sym (there.0 e))) (λ e. there.1 (sym (back.0 e)))
-
-found_at : (actions : List Action) (name : Name) → slice_get actions (place_of (map (λ a. a.name) actions) name) ≡ find (λ a. same_name name a.name) actions
-found_at [] name = refl
-found_at (a ∷ rest) name =
-    either (bytes_eq a.name.bytes name.bytes) (found_at rest name) ∙ ap (λ (same : Bool). cond same (Some a) (find (λ b. same_name name b.name) rest)) (swapped a.name.bytes name.bytes)
-  where
-    either : (same : Bool) → slice_get rest (place_of (map (λ b. b.name) rest) name) ≡ find (λ b. same_name name b.name) rest →
-        slice_get (a ∷ rest) (cond same 0 (place_of (map (λ b. b.name) rest) name + 1)) ≡ cond same (Some a) (find (λ b. same_name name b.name) rest)
-    either true behind = refl
-    either false behind = ap (λ k. slice_get (a ∷ rest) k) (add-one (place_of (map (λ b. b.name) rest) name)) ∙ behind
-
 pub action_is : (program : Program) (name : Name) → action_named program name ≡ first_action program name
-action_is program name = found_at program.actions name
+action_is program name = found_at (λ (a : Action). a.name) program.actions name
 
 -- ---- signatures
 

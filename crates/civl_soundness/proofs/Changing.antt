@@ -27,28 +27,28 @@ use Rattle.civl_tree.specs.rules.Unknown.{any_unknown, place_unknown, layer_unkn
 use Rattle.civl_tree.specs.rules.Arity.{call_arity, thread_arity, layer_arity}
 use Rattle.civl_tree.specs.rules.Places.{E11, E20, E21, E22, E23, stmt_breaks}
 use Rattle.civl_values.specs.Values.{is_true, HasSort, HaveSorts}
-use Rattle.civl_meaning.specs.declared.config.Store.{Store}
+use Rattle.civl_firing.specs.declared.store.Store.{Store}
 use Rattle.civl_meaning.specs.declared.config.Plain.{Plain}
 use Rattle.civl_meaning.specs.declared.config.Activation.{Activation}
 use Rattle.civl_meaning.specs.declared.config.State.{State}
 use Rattle.civl_meaning.specs.declared.config.State.TheVariants.{Before, Inside, After}
 use Rattle.civl_meaning.specs.declared.config.Running.{Running}
 use Rattle.civl_meaning.specs.declared.config.Stepped.TheVariants as answer
-use Rattle.civl_meaning.specs.declared.config.Fired.{Fired}
-use Rattle.civl_meaning.specs.declared.config.Fired.TheVariants as fire
+use Rattle.civl_firing.specs.declared.firing.Fired.{Fired}
+use Rattle.civl_firing.specs.declared.firing.Fired.TheVariants as fire
 use Rattle.civl_meaning.specs.declared.config.Change.TheVariants.{Stays, Goes}
-use Rattle.civl_meaning.specs.declared.scope.Scope.{Scope}
-use Rattle.civl_meaning.specs.Truth.{place_of}
-use Rattle.civl_meaning.specs.Eval.{value_of, values_of}
-use Rattle.civl_meaning.specs.Stores.{IsStore}
-use Rattle.civl_meaning.specs.Sorts.{IsSorted}
-use Rattle.civl_meaning.specs.Scope.{frame_names, frame_scope}
-use Rattle.civl_meaning.specs.Fired.{gate_holds, choices_fit, fired}
+use Rattle.civl_firing.specs.declared.scope.Scope.{Scope}
+use Rattle.civl_firing.specs.Truth.{place_of}
+use Rattle.civl_firing.specs.Eval.{value_of, values_of}
+use Rattle.civl_firing.specs.Stores.{IsStore}
+use Rattle.civl_firing.specs.Sorts.{IsSorted}
+use Rattle.civl_firing.specs.Scope.{frame_names, frame_scope}
+use Rattle.civl_firing.specs.Fired.{gate_holds, choices_fit, fired}
 use Rattle.civl_meaning.specs.Places.{Spot, spot_at}
 use Rattle.civl_meaning.specs.Meaning.{Meaning, Does, Runs, Missing, called, meaning_of, proc_number}
 use Rattle.civl_meaning.specs.Change.{with_results, new_frame, acted, action_change, call_change, layer_change, returned_layer, returned_at, returned_in, returned, leaves, outs_in, spot_change, proc_change, caller_of, state_change, change_of}
 use Rattle.civl_meaning.specs.Config.{IsPlain, layer_spawns, spawns, begins_threads, frame_sorts, HasLocals, IsBodyOf, LayerCalls, SpotCalls, ProcCalls, Waits, AreWaiting, StateIsStacked, StateIsSorted, ThreadIsSorted, IsStacked}
-use Rattle.civl_meaning.proofs.Having.{first_sort, rest_sorts, args_have_sorts}
+use Rattle.civl_firing.proofs.Having.{first_sort, rest_sorts, args_have_sorts}
 use Rattle.civl_meaning.proofs.Begun.{proc_is}
 use Rattle.civl_soundness.proofs.Bindings.{sorts_of, proc_names, proc_sorts}
 use Rattle.civl_soundness.proofs.Sorted.{first_values, rest_values, set_fits}

@@ -25,18 +25,18 @@ use Rattle.civl_tree.specs.rules.Sorted.{any_missorted}
 use Rattle.civl_tree.specs.rules.Places.{E20, E21, E22, action_breaks}
 use Rattle.civl_tree.specs.rules.Refusals.{BreaksNone}
 use Rattle.civl_values.specs.Values.{HasSort, HaveSorts}
-use Rattle.civl_meaning.specs.declared.config.Store.{Store}
-use Rattle.civl_meaning.specs.declared.config.Fired.TheVariants.{GateFalse, Moved}
-use Rattle.civl_meaning.specs.declared.scope.Scope.{Scope}
-use Rattle.civl_meaning.specs.Truth.{place_of}
-use Rattle.civl_meaning.specs.Eval.{value_of}
-use Rattle.civl_meaning.specs.Stores.{IsStore}
-use Rattle.civl_meaning.specs.Sorts.{IsSorted}
-use Rattle.civl_meaning.specs.Scope.{zeros_of_params, gate_scope, guard_scope}
-use Rattle.civl_meaning.specs.Fired.{gate_holds, guard_holds, offers, updated, store_after, outs_after, fires, fired_by, fired}
+use Rattle.civl_firing.specs.declared.store.Store.{Store}
+use Rattle.civl_firing.specs.declared.firing.Fired.TheVariants.{GateFalse, Moved}
+use Rattle.civl_firing.specs.declared.scope.Scope.{Scope}
+use Rattle.civl_firing.specs.Truth.{place_of}
+use Rattle.civl_firing.specs.Eval.{value_of}
+use Rattle.civl_firing.specs.Stores.{IsStore}
+use Rattle.civl_firing.specs.Sorts.{IsSorted}
+use Rattle.civl_firing.specs.Scope.{zeros_of_params, gate_scope, guard_scope}
+use Rattle.civl_firing.specs.Fired.{gate_holds, guard_holds, offers, updated, store_after, outs_after, fires, fired_by, fired}
 use Rattle.civl_values.proofs.Sorting.{same_sort-true}
-use Rattle.civl_meaning.proofs.Having.{no_sorts, more_sorts}
-use Rattle.civl_meaning.proofs.Soundness.{values_have_their_sorts}
+use Rattle.civl_firing.proofs.Having.{no_sorts, more_sorts}
+use Rattle.civl_firing.proofs.Soundness.{values_have_their_sorts}
 use Rattle.civl_soundness.specs.Scope.{choice_sorts, GateIsSorted, GuardIsSorted, BodyIsSorted, OffersAreSorted, GateIsBool, GuardIsBool}
 use Rattle.civl_soundness.specs.Fired.{UpdatesKeepSorts, FiredIsSorted}
 use Rattle.civl_soundness.proofs.Bindings.{names_of, sorts_of, in_front, in_back, not_in_first, no_global, names_bound, sorts_bound}

@@ -13,7 +13,7 @@ use Rattle.civl_meaning.specs.declared.config.Running.{Running}
 use Rattle.civl_meaning.specs.declared.config.Config.{Config}
 use Rattle.civl_meaning.specs.declared.config.Change.{Change}
 use Rattle.civl_meaning.specs.declared.config.Change.TheVariants.{Stays, Goes, Acts, Enters, Leaves, Spawns}
-use Rattle.civl_meaning.specs.Stores.{IsStore}
+use Rattle.civl_firing.specs.Stores.{IsStore}
 use Rattle.civl_meaning.specs.Step.{thread_after, state_after, step_with}
 use Rattle.civl_meaning.specs.Config.{frame_sorts, HasLocals, IsBegun, StateIsSorted, ThreadIsSorted}
 

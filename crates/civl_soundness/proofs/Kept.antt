@@ -11,7 +11,7 @@ use Rattle.civl_tree.specs.rules.Places.{Code, E34, header_breaks, global_breaks
 use Rattle.civl_tree.specs.rules.Signature.{proc_signature_differs}
 use Rattle.civl_tree.specs.rules.Refusals.{Keeps, BreaksNone, each_from, item_refusals, global_refusals, invariant_refusals, action_refusals, proc_refusals, thread_refusals, refusals_of}
 use Rattle.civl_tree.specs.rules.Broken.{IsTried, InGlobal, InAction, InProc, InStatement}
-use Rattle.civl_meaning.proofs.Begun.{no_rule_broken}
+use Rattle.civl_firing.proofs.Unbroken.{no_rule_broken}
 
 not_broken : (b : Bool) → (b ≡ true → ⊥) → b ≡ false
 not_broken true n = absurd (n refl)

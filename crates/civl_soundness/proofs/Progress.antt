@@ -12,7 +12,7 @@ use Rattle.civl_tree.specs.declared.stmt.Stmt.TheOpen.{Stmt-F, Assign, Assert, I
 use Rattle.civl_tree.specs.rules.Names.{callee_signature}
 use Rattle.civl_tree.specs.rules.Unknown.{place_unknown}
 use Rattle.civl_values.specs.Values.{is_true}
-use Rattle.civl_meaning.specs.declared.config.Store.{Store}
+use Rattle.civl_firing.specs.declared.store.Store.{Store}
 use Rattle.civl_meaning.specs.declared.config.Move.{Move}
 use Rattle.civl_meaning.specs.declared.config.Plain.{Plain}
 use Rattle.civl_meaning.specs.declared.config.Activation.{Activation}
@@ -22,13 +22,13 @@ use Rattle.civl_meaning.specs.declared.config.Running.{Running}
 use Rattle.civl_meaning.specs.declared.config.Config.{Config}
 use Rattle.civl_meaning.specs.declared.config.Stepped.{Stepped}
 use Rattle.civl_meaning.specs.declared.config.Stepped.TheVariants as answer
-use Rattle.civl_meaning.specs.declared.config.Fired.{Fired}
-use Rattle.civl_meaning.specs.declared.config.Fired.TheVariants as fire
+use Rattle.civl_firing.specs.declared.firing.Fired.{Fired}
+use Rattle.civl_firing.specs.declared.firing.Fired.TheVariants as fire
 use Rattle.civl_meaning.specs.declared.config.Change.{Change}
 use Rattle.civl_meaning.specs.declared.config.Change.TheVariants.{Stays, Goes, Acts, Enters, Leaves, Spawns}
-use Rattle.civl_meaning.specs.Eval.{value_of, values_of}
-use Rattle.civl_meaning.specs.Scope.{frame_names, frame_scope}
-use Rattle.civl_meaning.specs.Fired.{gate_holds, guard_holds, choices_fit, fires, fired_by, fired}
+use Rattle.civl_firing.specs.Eval.{value_of, values_of}
+use Rattle.civl_firing.specs.Scope.{frame_names, frame_scope}
+use Rattle.civl_firing.specs.Fired.{gate_holds, guard_holds, choices_fit, fires, fired_by, fired}
 use Rattle.civl_meaning.specs.Places.{Spot, skip_layer, spot_at}
 use Rattle.civl_meaning.specs.Meaning.{Meaning, Does, Runs, Missing, called, meaning_of}
 use Rattle.civl_meaning.specs.Change.{acted, action_change, call_change, layer_change, leaves, outs_in, spot_change, proc_change, caller_of, state_change, change_of}

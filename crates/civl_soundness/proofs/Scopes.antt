@@ -22,12 +22,12 @@ use Rattle.civl_tree.specs.rules.Index.{sort_index, any_index}
 use Rattle.civl_tree.specs.rules.Places.{E10, E20, E22, global_breaks, action_breaks, proc_breaks}
 use Rattle.civl_tree.specs.rules.Refusals.{BreaksNone}
 use Rattle.civl_values.specs.Values.{HaveSorts}
-use Rattle.civl_meaning.specs.declared.config.Store.{Store}
-use Rattle.civl_meaning.specs.Stores.{IsStore}
-use Rattle.civl_meaning.specs.Sorts.{IsSorted}
-use Rattle.civl_meaning.specs.Scope.{zeros_of_globals, zeros_of_params, zeros_of_locals, frame_names, frame_scope, gate_scope, guard_scope}
+use Rattle.civl_firing.specs.declared.store.Store.{Store}
+use Rattle.civl_firing.specs.Stores.{IsStore}
+use Rattle.civl_firing.specs.Sorts.{IsSorted}
+use Rattle.civl_firing.specs.Scope.{zeros_of_globals, zeros_of_params, zeros_of_locals, frame_names, frame_scope, gate_scope, guard_scope}
 use Rattle.civl_meaning.specs.Config.{frame_sorts}
-use Rattle.civl_meaning.proofs.Having.{Found}
+use Rattle.civl_firing.proofs.Having.{Found}
 use Rattle.civl_soundness.proofs.Bindings.{names_of, sorts_of, in_front, in_back, in_either, once_behind, not_in_first, not_in_second, Declared, not_declared, names_bound, sorts_bound, joined, proc_names, proc_sorts}
 use Rattle.civl_soundness.proofs.Sorted.{more_values, sort_fits, zeros_fit, none_at, found_in}
 use Rattle.civl_soundness.proofs.Kept.{global_keeps, action_keeps, proc_keeps}

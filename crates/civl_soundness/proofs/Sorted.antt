@@ -14,8 +14,8 @@ use Rattle.civl_tree.specs.rules.Index.{sort_index}
 use Rattle.civl_values.specs.Operators.{is_width, is_index}
 use Rattle.civl_values.specs.Values.{HasSort, HaveSorts, zero_of, is_sort}
 use Rattle.civl_values.proofs.Zeros.{zeros_have_their_sorts}
-use Rattle.civl_meaning.specs.Truth.{place_of}
-use Rattle.civl_meaning.proofs.Having.{no_sorts, more_sorts, first_sort, rest_sorts, Found, nothing_found, found_more}
+use Rattle.civl_firing.specs.Truth.{place_of}
+use Rattle.civl_firing.proofs.Having.{no_sorts, more_sorts, first_sort, rest_sorts, Found, nothing_found, found_more}
 use Rattle.civl_soundness.proofs.Bindings.{names_of, sorts_of}
 
 -- ---- several lists

@@ -1,11 +1,11 @@
 -- A step keeps configurations those of their program (preservation, one half of type soundness; Wright and Felleisen, A
 -- Syntactic Approach to Type Soundness, 1994).
 use Rattle.std.specs.Prelude.{List, All}
-use Rattle.civl_meaning.specs.declared.config.Store.{Store}
+use Rattle.civl_firing.specs.declared.store.Store.{Store}
 use Rattle.civl_meaning.specs.declared.config.Move.{Move}
 use Rattle.civl_meaning.specs.declared.config.Plain.{Plain}
 use Rattle.civl_meaning.specs.declared.config.Config.{Config}
-use Rattle.civl_meaning.specs.Stores.{IsStore}
+use Rattle.civl_firing.specs.Stores.{IsStore}
 use Rattle.civl_meaning.specs.Step.{start, step_of}
 use Rattle.civl_meaning.specs.Run.{RunsTo}
 use Rattle.civl_meaning.specs.Failing.{IsMove}

@@ -4,10 +4,10 @@ use Rattle.civl_bits.specs.declared.value.Value.{Value}
 use Rattle.civl_tree.specs.declared.action.Action.{Action}
 use Rattle.civl_tree.specs.declared.program.Program.{Program}
 use Rattle.civl_tree.specs.rules.Uses.{param_sorts}
-use Rattle.civl_meaning.specs.declared.config.Store.{Store}
-use Rattle.civl_meaning.specs.declared.config.Fired.TheVariants.{Moved}
-use Rattle.civl_meaning.specs.Fired.{store_after, outs_after, fired}
-use Rattle.civl_meaning.specs.Stores.{IsStore}
+use Rattle.civl_firing.specs.declared.store.Store.{Store}
+use Rattle.civl_firing.specs.declared.firing.Fired.TheVariants.{Moved}
+use Rattle.civl_firing.specs.Fired.{store_after, outs_after, fired}
+use Rattle.civl_firing.specs.Stores.{IsStore}
 use Rattle.civl_values.specs.Values.{HaveSorts}
 use Rattle.civl_soundness.specs.Scope.{choice_sorts, Given}
 

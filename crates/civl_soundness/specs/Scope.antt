@@ -11,12 +11,12 @@ use Rattle.civl_tree.specs.rules.Scopes.{body_scope, gate_scope as gate_sorts, g
 use Rattle.civl_tree.specs.rules.Uses.{param_sorts}
 use Rattle.civl_tree.specs.rules.Refusals.{BreaksNone}
 use Rattle.civl_values.specs.Values.{HasSort, HaveSorts}
-use Rattle.civl_meaning.specs.declared.config.Store.{Store}
-use Rattle.civl_meaning.specs.Eval.{value_of}
-use Rattle.civl_meaning.specs.Fired.{offers}
-use Rattle.civl_meaning.specs.Stores.{IsStore}
-use Rattle.civl_meaning.specs.Sorts.{IsSorted}
-use Rattle.civl_meaning.specs.Scope.{frame_scope, gate_scope, guard_scope}
+use Rattle.civl_firing.specs.declared.store.Store.{Store}
+use Rattle.civl_firing.specs.Eval.{value_of}
+use Rattle.civl_firing.specs.Fired.{offers}
+use Rattle.civl_firing.specs.Stores.{IsStore}
+use Rattle.civl_firing.specs.Sorts.{IsSorted}
+use Rattle.civl_firing.specs.Scope.{frame_scope, gate_scope, guard_scope}
 use Rattle.civl_meaning.specs.Config.{frame_sorts}
 
 -- the sorts of an action's choices

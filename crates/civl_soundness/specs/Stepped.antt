@@ -17,9 +17,9 @@ use Rattle.civl_meaning.specs.declared.config.Running.{Running}
 use Rattle.civl_meaning.specs.declared.config.Config.{Config}
 use Rattle.civl_meaning.specs.declared.config.Stepped.{Stepped}
 use Rattle.civl_meaning.specs.declared.config.Stepped.TheVariants as answer
-use Rattle.civl_meaning.specs.Eval.{values_of}
-use Rattle.civl_meaning.specs.Scope.{frame_scope}
-use Rattle.civl_meaning.specs.Fired.{gate_holds, guard_holds, choices_fit}
+use Rattle.civl_firing.specs.Eval.{values_of}
+use Rattle.civl_firing.specs.Scope.{frame_scope}
+use Rattle.civl_firing.specs.Fired.{gate_holds, guard_holds, choices_fit}
 use Rattle.civl_meaning.specs.Places.{Spot, spot_at}
 use Rattle.civl_meaning.specs.Meaning.{Meaning, Does, Runs, Missing, called, meaning_of}
 use Rattle.civl_meaning.specs.Failing.{thread_fails}

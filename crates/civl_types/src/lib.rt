@@ -12,7 +12,7 @@ mod first;
 mod items;
 mod name_set;
 mod named;
-mod names;
+pub mod names;
 mod parts;
 mod rule;
 mod sorts;

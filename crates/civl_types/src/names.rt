@@ -6,14 +6,14 @@ ghost use Rattle.civl_types.specs.Views.{signature_of};
 use civl_tree::{Action, Name, Param, Proc, Program};
 
 /// Whether two names have the same bytes.
-pub(crate) fn same_name(first: &Name, second: &Name) -> bool
+pub fn same_name(first: &Name, second: &Name) -> bool
     ensures { result ≡ same_name first.now second.now }
 {
     first.as_slice() == second.as_slice()
 }
 
 /// The action of this name.
-pub(crate) fn action_named<'a>(program: &'a Program, name: &Name) -> Option<&'a Action>
+pub fn action_named<'a>(program: &'a Program, name: &Name) -> Option<&'a Action>
     ensures { option_copied result ≡ action_named program.now name.now }
 {
     program
@@ -24,7 +24,7 @@ pub(crate) fn action_named<'a>(program: &'a Program, name: &Name) -> Option<&'a 
 }
 
 /// The procedure of this name.
-pub(crate) fn proc_named<'a>(program: &'a Program, name: &Name) -> Option<&'a Proc>
+pub fn proc_named<'a>(program: &'a Program, name: &Name) -> Option<&'a Proc>
     ensures { option_copied result ≡ proc_named program.now name.now }
 {
     program
@@ -36,13 +36,13 @@ pub(crate) fn proc_named<'a>(program: &'a Program, name: &Name) -> Option<&'a Pr
 
 /// The parameters and outputs of an action or a procedure.
 #[derive(Clone, Copy)]
-pub(crate) struct Signature<'a> {
+pub struct Signature<'a> {
     pub params: &'a [Param],
     pub outs: &'a [Param],
 }
 
 /// The signature of the procedure of this name.
-pub(crate) fn proc_signature<'a>(program: &'a Program, name: &Name) -> Option<Signature<'a>>
+pub fn proc_signature<'a>(program: &'a Program, name: &Name) -> Option<Signature<'a>>
     ensures { signature_of result ≡ proc_signature_of (proc_named program.now name.now) }
 {
     match proc_named(program, name) {
@@ -55,7 +55,7 @@ pub(crate) fn proc_signature<'a>(program: &'a Program, name: &Name) -> Option<Si
 }
 
 /// The signature of the action or procedure that a call of this name means.
-pub(crate) fn callee_signature<'a>(program: &'a Program, name: &Name) -> Option<Signature<'a>>
+pub fn callee_signature<'a>(program: &'a Program, name: &Name) -> Option<Signature<'a>>
     ensures { signature_of result ≡ callee_signature program.now name.now }
 {
     match action_named(program, name) {

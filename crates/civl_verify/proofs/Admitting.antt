@@ -7,7 +7,7 @@ use Rattle.civl_tree.specs.rules.Refusals.{first_of}
 use Rattle.civl_layers.specs.Rules.{refusals_of_rule, refusal_by}
 use Rattle.civl_linear.specs.Refusals.{linear_rules}
 use Rattle.civl_yields.specs.Refusals.{yield_rules}
-use Rattle.civl_walks.proofs.Refusing.{or_first, first_append}
+use Rattle.civl_types.proofs.Walking.{or_first, first_append}
 use Rattle.civl_verify.specs.Admitted.{admission_refusal}
 
 -- the first by the rules on linear locals, else the first by those on yields

@@ -9,15 +9,8 @@ use Rattle.civl_tree.specs.Numbering.{no_statement, sizes_of}
 use Rattle.civl_tree.specs.rules.Refusals.{first_of}
 use Rattle.civl_layers.specs.Rules.{Place, refusal_at, each_place, item_place, statement_places}
 use Rattle.civl_types.specs.Numbered.{IsNumbered}
+use Rattle.civl_types.proofs.Walking.{or_first, first_append}
 use Rattle.civl_walks.specs.First.{proc_first}
-
-abbrev pub or_first : {A : Type 0} → Option A → Option A → Option A
-or_first None second = second
-or_first (Some value) second = Some value
-
-pub first_append : {A : Type 0} (xs ys : List A) → first_of (xs ++ ys) ≡ or_first (first_of xs) (first_of ys)
-first_append [] ys = refl
-first_append (x ∷ xs) ys = refl
 
 -- ---- parts
 

@@ -3,7 +3,7 @@ ghost use Rattle.std.specs.Prelude.{◌≡◌, option_copied};
 ghost use Rattle.civl_yields.specs.Movers.{called_action, proc_action};
 
 use civl_tree::{Action, Name, Proc, Program};
-use civl_walks::{action_named, proc_named};
+use civl_types::names::{action_named, proc_named};
 
 /// The action that a procedure stands for in the programs above its layer.
 fn proc_action<'a>(program: &'a Program, proc: Option<&'a Proc>) -> Option<&'a Action>

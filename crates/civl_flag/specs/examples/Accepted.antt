@@ -14,7 +14,7 @@ use Rattle.civl_tree.specs.declared.stmt.Stmt as stmt
 use Rattle.civl_meaning.specs.Failing.{CanFail}
 use Rattle.civl_meaning.specs.Layers.{lowest, topmost}
 use Rattle.civl_meaning.specs.Preserves.{Preserves}
-use Rattle.civl_meaning.specs.examples.Written.{name, refines, proc, call}
+use Rattle.civl_firing.specs.examples.Written.{name, refines, proc, call}
 use Rattle.civl_meaning.specs.examples.Flag.{flag, setting, flag_is}
 use Rattle.civl_flag.specs.Conditions.{conditions_of}
 use Rattle.civl_flag.specs.Decide.{AllHold}

@@ -16,7 +16,7 @@ use Rattle.civl_tree.specs.declared.program.Program.{Program}
 use Rattle.civl_tree.specs.declared.stmt.Stmt as stmt
 use Rattle.civl_tree.specs.rules.Refusals.{BreaksNone}
 use Rattle.civl_meaning.specs.Preserves.{Preserves}
-use Rattle.civl_meaning.specs.examples.Written.{name, refines, proc, thread, call}
+use Rattle.civl_firing.specs.examples.Written.{name, refines, proc, thread, call}
 use Rattle.civl_meaning.specs.examples.Flag.{flag, setting}
 use Rattle.civl_flag.specs.FlagForm.{is_flag_form}
 use Rattle.civl_flag.specs.Conditions.{conditions_of}

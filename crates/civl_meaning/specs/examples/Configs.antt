@@ -3,7 +3,7 @@ use Rattle.std.specs.Prelude.{true, false, [], ◌∷◌}
 use Rattle.civl_meaning.specs.declared.config.State.TheVariants.{Before, Inside}
 use Rattle.civl_meaning.specs.Layers.{lowest, topmost}
 use Rattle.civl_meaning.specs.Config.{IsOf}
-use Rattle.civl_meaning.specs.examples.Written.{word, holding}
+use Rattle.civl_firing.specs.examples.Written.{word, holding}
 use Rattle.civl_meaning.specs.examples.Flag.{flag, flag_is, bare, running, set}
 
 -- after the action

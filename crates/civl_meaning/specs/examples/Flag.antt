@@ -21,14 +21,15 @@ use Rattle.civl_meaning.specs.declared.config.State.{State}
 use Rattle.civl_meaning.specs.declared.config.State.TheVariants.{Before, Inside, After}
 use Rattle.civl_meaning.specs.declared.config.Running.{Running}
 use Rattle.civl_meaning.specs.declared.config.Config.{Config}
-use Rattle.civl_meaning.specs.declared.config.Store.{Store}
+use Rattle.civl_firing.specs.declared.store.Store.{Store}
 use Rattle.civl_meaning.specs.declared.config.Stepped.TheVariants.{NoThread, Ended}
 use Rattle.civl_meaning.specs.Step.{start}
 use Rattle.civl_meaning.specs.Run.{run_of}
 use Rattle.civl_meaning.specs.Failing.{failing_thread, CanFail}
 use Rattle.civl_meaning.specs.Layers.{lowest, topmost}
 use Rattle.civl_meaning.specs.Preserves.{Preserves}
-use Rattle.civl_meaning.specs.examples.Written.{bool, named, name, global, update, action, refines, root, proc, thread, call, holding, moves_of}
+use Rattle.civl_firing.specs.examples.Written.{bool, named, name, global, update, action, refines, root, proc, thread, call, holding}
+use Rattle.civl_meaning.specs.examples.Moves.{moves_of}
 
 abbrev pub setting : List ℕ → ℕ → Expr → Action
 setting bytes layer gate = action bytes [] [] [] layer layer gate expr.True (update (codes "f") expr.True ∷ [])

@@ -26,7 +26,7 @@ use Rattle.civl_meaning.specs.declared.config.State.TheVariants.{Before, Inside,
 use Rattle.civl_meaning.specs.declared.config.Running.{Running}
 use Rattle.civl_meaning.specs.Frame.{frames_of}
 use Rattle.civl_meaning.specs.Layers.{lowest}
-use Rattle.civl_meaning.specs.examples.Written.{word, bool, named, name, lit, param, local, root, proc, thread, call}
+use Rattle.civl_firing.specs.examples.Written.{word, bool, named, name, lit, param, local, root, proc, thread, call}
 
 abbrev byte : Sort
 byte = sort.Word 8

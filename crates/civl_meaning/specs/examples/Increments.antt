@@ -39,7 +39,8 @@ use Rattle.civl_meaning.specs.Step.{start}
 use Rattle.civl_meaning.specs.Run.{run_of}
 use Rattle.civl_meaning.specs.Failing.{failing_thread}
 use Rattle.civl_meaning.specs.Layers.{lowest, topmost}
-use Rattle.civl_meaning.specs.examples.Written.{word, named, name, lit, global, param, local, update, action, refines, root, proc, thread, call, holding, moves_of}
+use Rattle.civl_firing.specs.examples.Written.{word, named, name, lit, global, param, local, update, action, refines, root, proc, thread, call, holding}
+use Rattle.civl_meaning.specs.examples.Moves.{moves_of}
 
 abbrev byte : Sort
 byte = sort.Word 8

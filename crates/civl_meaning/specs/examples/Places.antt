@@ -19,7 +19,7 @@ use Rattle.civl_tree.specs.declared.expr.Expr as expr
 use Rattle.civl_tree.specs.declared.stmt.Stmt.{Stmt}
 use Rattle.civl_tree.specs.declared.stmt.Stmt as stmt
 use Rattle.civl_meaning.specs.Places.{Spot, sizes_of, spot_at}
-use Rattle.civl_meaning.specs.examples.Written.{named, name, call}
+use Rattle.civl_firing.specs.examples.Written.{named, name, call}
 
 abbrev pub nested : List Stmt
 nested =

@@ -21,7 +21,8 @@ use Rattle.civl_meaning.specs.Run.{run_of}
 use Rattle.civl_meaning.specs.Layers.{lowest}
 use Rattle.civl_meaning.specs.Permissions.{pairwise_disjoint, of_params}
 use Rattle.civl_meaning.specs.Initial.{initial_permissions, IsInitial}
-use Rattle.civl_meaning.specs.examples.Written.{word, named, name, lit, param, update, action, root, proc, thread, call, holding, moves_of}
+use Rattle.civl_firing.specs.examples.Written.{word, named, name, lit, param, update, action, root, proc, thread, call, holding}
+use Rattle.civl_meaning.specs.examples.Moves.{moves_of}
 
 abbrev pool : Expr
 pool = name (codes "pool")

@@ -64,7 +64,7 @@ use Rattle.civl_meaning.specs.declared.config.Plain.{Plain}
 use Rattle.civl_meaning.specs.Meaning.{Meaning, Does, Runs, Missing, called}
 use Rattle.civl_meaning.specs.Layers.{program_at, lowest, topmost}
 use Rattle.civl_meaning.specs.Initial.{IsInitial}
-use Rattle.civl_meaning.specs.examples.Written.{word, bool, named, name, lit, global, param, local, update, refines, root, proc, thread, call, holding}
+use Rattle.civl_firing.specs.examples.Written.{word, bool, named, name, lit, global, param, local, update, refines, root, proc, thread, call, holding}
 
 abbrev tid : Sort
 tid = sort.Word 2

@@ -44,7 +44,8 @@ use Rattle.civl_meaning.specs.declared.config.Stepped.{Stepped}
 use Rattle.civl_meaning.specs.declared.config.Stepped.TheVariants.{Moved, Blocked, NoThread, Ended, Failing, BadChoices}
 use Rattle.civl_meaning.specs.Step.{step_of}
 use Rattle.civl_meaning.specs.Layers.{lowest}
-use Rattle.civl_meaning.specs.examples.Written.{word, bool, named, name, lit, global, param, choice, local, update, action, root, proc, thread, call, holding, by}
+use Rattle.civl_firing.specs.examples.Written.{word, bool, named, name, lit, global, param, choice, local, update, action, root, proc, thread, call, holding}
+use Rattle.civl_meaning.specs.examples.Moves.{by}
 
 abbrev byte : Sort
 byte = sort.Word 8

@@ -2,7 +2,7 @@
 use Rattle.std.specs.Prelude.{◌≡◌, true, false, [], ◌∷◌, Some, None}
 use Rattle.civl_meaning.specs.declared.config.Stepped.TheVariants.{Ended, Failing, NoThread}
 use Rattle.civl_meaning.specs.Layers.{lowest, topmost}
-use Rattle.civl_meaning.specs.examples.Written.{moves_of}
+use Rattle.civl_meaning.specs.examples.Moves.{moves_of}
 use Rattle.civl_meaning.specs.examples.Flag.{flag, gated, flag_is}
 use Rattle.civl_run.specs.Trace.{trace_of}
 

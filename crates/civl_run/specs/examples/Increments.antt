@@ -2,7 +2,8 @@
 use Rattle.std.specs.Prelude.{◌≡◌, [], ◌∷◌, Some, None}
 use Rattle.civl_meaning.specs.declared.config.Stepped.TheVariants as answer
 use Rattle.civl_meaning.specs.Layers.{lowest, topmost}
-use Rattle.civl_meaning.specs.examples.Written.{word, holding, moves_of}
+use Rattle.civl_firing.specs.examples.Written.{word, holding}
+use Rattle.civl_meaning.specs.examples.Moves.{moves_of}
 use Rattle.civl_meaning.specs.examples.Increments.{increments}
 use Rattle.civl_run.specs.Trace.{trace_of}
 

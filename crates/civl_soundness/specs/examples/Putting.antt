@@ -20,7 +20,8 @@ use Rattle.civl_meaning.specs.declared.config.Stepped.TheVariants.{Blocked, BadC
 use Rattle.civl_meaning.specs.Layers.{lowest}
 use Rattle.civl_meaning.specs.Step.{step_of}
 use Rattle.civl_meaning.specs.Config.{IsPlain, IsOf}
-use Rattle.civl_meaning.specs.examples.Written.{word, name, lit, global, choice, update, action, root, proc, thread, call, by, holding}
+use Rattle.civl_firing.specs.examples.Written.{word, name, lit, global, choice, update, action, root, proc, thread, call, holding}
+use Rattle.civl_meaning.specs.examples.Moves.{by}
 use Rattle.civl_meaning.specs.examples.Flag.{bare, running}
 use Rattle.civl_soundness.specs.Stepped.{Cause}
 

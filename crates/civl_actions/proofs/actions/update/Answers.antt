@@ -1,8 +1,8 @@
 use Rattle.std.proofs.Common.{◌≡◌, ◌∙◌, ap, sym, subst, arith, List, ℕ, ◌+◌}
 use Rattle.std.specs.Prelude.{slice_get, slice_set, Some}
 use Rattle.civl_tree.specs.rules.Scopes.{guard_scope}
-use Rattle.civl_meaning.specs.Scope.{global_names, param_names}
-use Rattle.civl_meaning.specs.Truth.{place_of}
+use Rattle.civl_firing.specs.Scope.{global_names, param_names}
+use Rattle.civl_firing.specs.Truth.{place_of}
 use Rattle.civl_terms.proofs.Growing.{grows_trans}
 use Rattle.civl_actions.specs.Steps.{AreUpdated}
 use Rattle.civl_actions.proofs.Building.{fits_stay}

@@ -1,6 +1,6 @@
 use Rattle.std.proofs.Common.{◌≡◌, List, ◌++◌, ◌∷◌, [], length, take, Bool, ◌+◌, arith}
 use Rattle.civl_tree.specs.declared.name.Name.{Name}
-use Rattle.civl_meaning.specs.Truth.{truth_of}
+use Rattle.civl_firing.specs.Truth.{truth_of}
 use Rattle.civl_flag.specs.Conditions.{assigned}
 use Rattle.civl_flag.proofs.Lists.{take_here}
 use Rattle.civl_flag.proofs.Tabling.{AreTabled-push}

@@ -1,5 +1,5 @@
 use Rattle.std.proofs.Common.{length, take}
-use Rattle.civl_meaning.specs.Truth.{truth_of}
+use Rattle.civl_firing.specs.Truth.{truth_of}
 use Rattle.civl_flag.specs.Conditions.{assigned}
 use Rattle.civl_flag.specs.Tables.{AreTabled}
 use Rattle.civl_flag.proofs.tables.all_next_values.Given as goal

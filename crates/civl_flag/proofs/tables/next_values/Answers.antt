@@ -1,7 +1,7 @@
 use Rattle.std.proofs.Common.{length, sym, ◌∙◌, subst, arith}
 use Rattle.std.proofs.lemmas.Bool.{false≢true}
-use Rattle.civl_meaning.specs.Table.{IsTabled}
-use Rattle.civl_meaning.specs.Truth.{truth_of}
+use Rattle.civl_firing.specs.Table.{IsTabled}
+use Rattle.civl_firing.specs.Truth.{truth_of}
 use Rattle.civl_tree.specs.declared.expr.Expr.{Expr}
 use Rattle.civl_flag.proofs.Tabling.{assigned-here, assigned-past, assigned-end}
 use Rattle.civl_flag.proofs.tables.next_values.Goals as goal

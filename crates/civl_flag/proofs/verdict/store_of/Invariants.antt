@@ -1,5 +1,5 @@
 use Rattle.std.proofs.Common.{◌≡◌, ◌++◌, ◌-◌}
-use Rattle.civl_meaning.specs.Table.{bits_from, store_at}
+use Rattle.civl_firing.specs.Table.{bits_from, store_at}
 use Rattle.civl_flag.proofs.verdict.store_of.Given as goal
 
 abbrev pub invariant-loop-place : goal.invariant-loop-place

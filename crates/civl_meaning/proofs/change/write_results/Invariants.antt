@@ -1,5 +1,5 @@
 use Rattle.std.proofs.Common.{◌≡◌, ◌≤◌, drop, length}
-use Rattle.civl_meaning.specs.Names.{names_of}
+use Rattle.civl_firing.specs.Names.{names_of}
 use Rattle.civl_meaning.specs.Change.{with_results}
 use Rattle.civl_meaning.proofs.change.write_results.Given as goal
 

@@ -1,5 +1,5 @@
 use Rattle.civl_tree.specs.declared.expr.Expr.{the_lemmas as of_expr}
-use Rattle.civl_meaning.specs.Fired.{gate_holds, fires, fired}
+use Rattle.civl_firing.specs.Fired.{gate_holds, fires, fired}
 use Rattle.civl_meaning.proofs.Placing.{placing}
 use Rattle.civl_tree.specs.declared.stmt.Stmt.{the_lemmas as of_stmt}
 use Rattle.civl_meaning.proofs.laws.steps.actions_and_spawns.Goals as goal

@@ -5,7 +5,7 @@ use Rattle.civl_meaning.proofs.Stores.{thirteen_is_initial}
 use Rattle.civl_meaning.proofs.Stores.{two_is_not}
 use Rattle.civl_tree.specs.declared.expr.Expr.{the_lemmas as of_expr}
 use Rattle.civl_tree.specs.declared.stmt.Stmt.{the_lemmas as of_stmt}
-use Rattle.civl_meaning.specs.Fired.{gate_holds, fires, fired}
+use Rattle.civl_firing.specs.Fired.{gate_holds, fires, fired}
 use Rattle.std.proofs.Common.{refl}
 use Rattle.civl_meaning.proofs.laws.stores.pool.Goals as goal
 

@@ -6,10 +6,11 @@ use Rattle.civl_meaning.specs.declared.config.Running.{Running}
 use Rattle.civl_meaning.specs.declared.config.Config.{Config}
 use Rattle.civl_meaning.specs.declared.config.Stepped.{Stepped}
 use Rattle.civl_meaning.specs.declared.config.Stepped.TheVariants.{Blocked}
-use Rattle.civl_meaning.specs.Fired.{gate_holds, fires, fired}
+use Rattle.civl_firing.specs.Fired.{gate_holds, fires, fired}
 use Rattle.civl_meaning.specs.Layers.{lowest}
 use Rattle.civl_meaning.specs.Step.{step_of}
-use Rattle.civl_meaning.specs.examples.Written.{by, name}
+use Rattle.civl_firing.specs.examples.Written.{name}
+use Rattle.civl_meaning.specs.examples.Moves.{by}
 use Rattle.civl_meaning.specs.examples.Flag.{bare, running}
 use Rattle.civl_soundness.specs.Stepped.{Cause, next_action}
 use Rattle.civl_soundness.specs.examples.Putting.{put_choice, put_nothing, before, choosing, WithoutChoice}

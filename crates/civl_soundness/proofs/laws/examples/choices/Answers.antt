@@ -5,11 +5,11 @@ use Rattle.civl_bits.specs.Value.{IsValue}
 use Rattle.civl_bits.specs.Word.{IsWord}
 use Rattle.civl_tree.specs.declared.expr.Expr.{the_lemmas as of_expr}
 use Rattle.civl_tree.specs.declared.stmt.Stmt.{the_lemmas as of_stmt}
-use Rattle.civl_meaning.specs.declared.config.Store.{Store}
-use Rattle.civl_meaning.specs.Fired.{gate_holds, fires, fired}
+use Rattle.civl_firing.specs.declared.store.Store.{Store}
+use Rattle.civl_firing.specs.Fired.{gate_holds, fires, fired}
 use Rattle.civl_meaning.specs.Layers.{lowest}
 use Rattle.civl_meaning.specs.Step.{step_of}
-use Rattle.civl_meaning.specs.examples.Written.{word, name, holding}
+use Rattle.civl_firing.specs.examples.Written.{word, name, holding}
 use Rattle.civl_soundness.specs.examples.Putting.{put_choice, before, choosing}
 use Rattle.civl_soundness.proofs.Plain.{choice_is_plain}
 use Rattle.civl_soundness.proofs.Before.{before_is_of}

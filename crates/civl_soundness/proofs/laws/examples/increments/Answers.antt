@@ -6,11 +6,12 @@ use Rattle.civl_tree.specs.declared.expr.Sort.TheVariants as sort
 use Rattle.civl_meaning.specs.declared.config.Config.{Config}
 use Rattle.civl_meaning.specs.Layers.{lowest}
 use Rattle.civl_meaning.specs.Step.{start}
-use Rattle.civl_meaning.specs.Stores.{IsStore}
+use Rattle.civl_firing.specs.Stores.{IsStore}
 use Rattle.civl_meaning.specs.Failing.{IsMove}
-use Rattle.civl_meaning.specs.examples.Written.{word, holding, by, moves_of}
+use Rattle.civl_firing.specs.examples.Written.{word, holding}
+use Rattle.civl_meaning.specs.examples.Moves.{by, moves_of}
 use Rattle.civl_meaning.specs.examples.Increments.{increments, low_middle, low_later}
-use Rattle.civl_meaning.proofs.Having.{no_sorts, more_sorts}
+use Rattle.civl_firing.proofs.Having.{no_sorts, more_sorts}
 use Rattle.civl_meaning.proofs.Runs.{runs_are_made, runs_join}
 use Rattle.civl_meaning.proofs.Schedules.{low_schedule_begins, low_schedule_goes_on}
 use Rattle.civl_soundness.proofs.Plain.{increments_are_plain}

@@ -3,11 +3,11 @@ use Rattle.std.proofs.lemmas.Bool.{false≢true}
 use Rattle.civl_tree.specs.declared.expr.Expr as expr
 use Rattle.civl_tree.specs.declared.expr.Expr.{the_lemmas as of_expr}
 use Rattle.civl_tree.specs.declared.stmt.Stmt.{the_lemmas as of_stmt}
-use Rattle.civl_meaning.specs.Fired.{gate_holds, fires, fired}
+use Rattle.civl_firing.specs.Fired.{gate_holds, fires, fired}
 use Rattle.civl_meaning.specs.Layers.{lowest}
-use Rattle.civl_meaning.specs.Stores.{IsStore}
+use Rattle.civl_firing.specs.Stores.{IsStore}
 use Rattle.civl_meaning.specs.Step.{step_of}
-use Rattle.civl_meaning.specs.examples.Written.{bool, holding}
+use Rattle.civl_firing.specs.examples.Written.{bool, holding}
 use Rattle.civl_soundness.specs.examples.Putting.{put_true, before, choosing}
 use Rattle.civl_soundness.proofs.Before.{before_is_of}
 use Rattle.civl_soundness.proofs.laws.examples.sorts.Goals as goal

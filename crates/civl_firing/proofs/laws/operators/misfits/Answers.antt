@@ -1,0 +1,5 @@
+use Rattle.civl_tree.specs.declared.expr.Expr.{the_lemmas as of_expr}
+use Rattle.civl_firing.proofs.laws.operators.misfits.Goals as goal
+
+pub returns : goal.returns
+returns c = simp (of_expr)

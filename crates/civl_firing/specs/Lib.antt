@@ -1,0 +1,12 @@
+pub mod Truth
+pub mod Table
+pub mod Stores
+pub mod Sorts
+pub mod Eval
+pub mod Scope
+pub mod Names
+pub mod Settings
+pub mod Asked
+pub mod Fired
+pub mod Agreement
+pub mod examples

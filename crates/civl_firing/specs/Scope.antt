@@ -1,0 +1,63 @@
+-- The scopes of a program's places: which names stand there, and for which values.
+use Rattle.std.specs.Prelude.{false, List, ◌++◌, map}
+use Rattle.civl_bits.specs.declared.value.Value.{Value}
+use Rattle.civl_tree.specs.declared.name.Name.{Name}
+use Rattle.civl_tree.specs.declared.action.Action.{Action}
+use Rattle.civl_tree.specs.declared.action.Choice.{Choice}
+use Rattle.civl_tree.specs.declared.action.Param.{Param}
+use Rattle.civl_tree.specs.declared.program.Global.{Global}
+use Rattle.civl_tree.specs.declared.program.Local.{Local}
+use Rattle.civl_tree.specs.declared.program.Proc.{Proc}
+use Rattle.civl_firing.specs.declared.store.Store.{Store}
+use Rattle.civl_firing.specs.declared.scope.Scope.{Scope}
+use Rattle.civl_values.specs.Values.{zero_of}
+
+abbrev pub global_names : List Global → List Name
+global_names globals = map (λ g. g.name) globals
+
+abbrev pub param_names : List Param → List Name
+param_names params = map (λ p. p.name) params
+
+abbrev pub choice_names : List Choice → List Name
+choice_names choices = map (λ c. c.name) choices
+
+abbrev pub local_names : List Local → List Name
+local_names locals = map (λ l. l.name) locals
+
+abbrev pub zeros_of_globals : List Global → List Value
+zeros_of_globals globals = map (λ g. zero_of g.sort) globals
+
+abbrev pub zeros_of_params : List Param → List Value
+zeros_of_params params = map (λ p. zero_of p.sort) params
+
+abbrev pub zeros_of_locals : List Local → List Value
+zeros_of_locals locals = map (λ l. zero_of l.sort) locals
+
+-- a place that gives `done` and `old(..)` no values of their own: `done` and `old(done)` are false, and `old(n)` is the
+-- value of n
+abbrev pub present : List Name → List Value → Scope
+present names values = record { names = names; values = values; old = values; done = false; old_done = false }
+
+-- `init` and the arguments of threads: the globals
+abbrev pub global_scope : List Global → Store → Scope
+global_scope globals store = present (global_names globals) store.values
+
+-- an action's gate and offers: the globals and the parameters; the outputs, which `old(..)` may name, are zeros
+abbrev pub gate_scope : List Global → Store → Action → List Value → Scope
+gate_scope globals store action inputs =
+    present (global_names globals ++ (param_names action.params ++ param_names action.outs))
+    (store.values ++ (inputs ++ zeros_of_params action.outs))
+
+-- an action's guard and updates: these and the choices
+abbrev pub guard_scope : List Global → Store → Action → List Value → List Value → Scope
+guard_scope globals store action inputs chosen =
+    present (global_names globals ++ (param_names action.params ++ (choice_names action.choices ++ param_names action.outs)))
+    (store.values ++ (inputs ++ (chosen ++ zeros_of_params action.outs)))
+
+-- the names of a procedure's frame
+abbrev pub frame_names : Proc → List Name
+frame_names proc = param_names proc.params ++ (param_names proc.outs ++ local_names proc.locals)
+
+-- a procedure's statements: its parameters, outputs and locals; the globals, which `old(..)` may name, are zeros
+abbrev pub frame_scope : List Global → Proc → List Value → Scope
+frame_scope globals proc locals = present (frame_names proc ++ global_names globals) (locals ++ zeros_of_globals globals)

@@ -1,7 +1,0 @@
-use Rattle.std.proofs.Common.{◌≡◌, take}
-use Rattle.civl_meaning.specs.Eval.{values_of}
-use Rattle.civl_meaning.specs.Scope.{frame_scope}
-use Rattle.civl_meaning.proofs.asking.gate_of_call.Given as goal
-
-abbrev pub invariant-loop-at : goal.invariant-loop-at
-invariant-loop-at l = take l.at l.inputs ≡ values_of (frame_scope l.globals l.proc l.locals) (take l.at l.args)

@@ -1,5 +1,0 @@
-use Rattle.civl_meaning.proofs.Soundness.{values_have_their_sorts}
-use Rattle.civl_meaning.proofs.laws.values_have_their_sorts.Goals as goal
-
-pub returns : goal.returns
-returns c = values_have_their_sorts

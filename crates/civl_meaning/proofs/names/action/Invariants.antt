@@ -1,6 +1,0 @@
-use Rattle.std.proofs.Common.{◌≡◌, ◌+◌, drop, map}
-use Rattle.civl_meaning.specs.Truth.{place_of}
-use Rattle.civl_meaning.proofs.names.action.Given as goal
-
-abbrev pub invariant-loop-known : goal.invariant-loop-known
-invariant-loop-known l = (l.at ≡ l.known-index) × (l.at + place_of (map (λ x. x.name) (drop l.at l.actions)) l.name ≡ place_of (map (λ x. x.name) l.actions) l.name)

@@ -1,6 +1,0 @@
-use Rattle.std.proofs.Common.{◌≡◌, ◌++◌, take}
-use Rattle.civl_meaning.specs.Scope.{zeros_of_params}
-use Rattle.civl_meaning.proofs.sorts.push_params.Given as goal
-
-abbrev pub invariant-loop-param : goal.invariant-loop-param
-invariant-loop-param l = l.values.items ≡ l.initial.values.items ++ zeros_of_params (take l.param-index l.params)
