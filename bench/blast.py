@@ -6,12 +6,12 @@ Usage: blast.py FOLDER        (a scratch folder, in which a program over the lib
 The program reads a line KIND COUNT, builds a chain of COUNT operations of this kind, blasts it and prints the graph's weight and the numbers of the variables, the clauses and the places. Each line that is printed: the kind and the count, these four numbers, the seconds by the clock and of the processor (the graph's building and weighing count too), and the greatest size of the process in megabytes.
 """
 import os
-import shutil
 import subprocess
 import sys
 import time
 
-HERE = os.path.dirname(os.path.abspath(__file__))
+import program
+
 CRATES = ["civl_tree", "civl_bits", "civl_values", "civl_folding", "civl_cnf", "civl_circuits", "civl_symbolic", "civl_terms", "civl_reach", "civl_rows", "civl_blast"]
 
 # How many of each weigh about 400,000: 64 a sum of 32 bits, 2,048 a product, 4,096 a division, 192 a shift, 2,432 a write of a row of 64 words, 129 a row of 64 bits that is read once (so each of its cells is an input) and 1 a `!` or `&&`.
@@ -20,21 +20,17 @@ COUNTS = {"sums": 6_245, "products": 195, "divisions": 97, "shifts": 2_080, "row
 PROGRAM = r"""//! Reads a kind of term and a count a line. Builds the term, blasts it, and prints the graph's weight and the variables and the clauses.
 #![tactic(auto)]
 
-ghost use Rattle.std.specs.Prelude.{◌≡◌, ℕ, ◌≤◌, ◌<◌, ◌^◌, length, Some, IsSome, IsTrue, IfSome};
-ghost use Rattle.civl_tree.specs.declared.expr.Sort.{Sort};
+ghost use Rattle.std.specs.Prelude.{◌≡◌, ◌≤◌, length, Some, IsSome, IsTrue, IfSome};
 ghost use Rattle.civl_tree.specs.declared.expr.Sort.TheVariants as sort;
 ghost use Rattle.civl_tree.specs.rules.Sorts.{two_sort};
-ghost use Rattle.civl_tree.specs.rules.StoreSize.{bits_of};
-ghost use Rattle.civl_values.specs.Weights.{one_weight, two_weight, set_weight};
 ghost use Rattle.civl_values.specs.Values.{is_sort};
-ghost use Rattle.civl_terms.specs.declared.node.Node.TheVariants.{Variable};
-ghost use Rattle.civl_terms.specs.Graphs.{sort_at, IsFree};
-ghost use Rattle.civl_terms.specs.Weights.{own_weight, graph_weight};
-ghost use Rattle.civl_rows.specs.Cells.{NumbersBelow};
+
+mod measuring;
 
 use civl_blast::blast;
-use civl_terms::{Id, Node, Terms};
+use civl_terms::{Id, Terms};
 use civl_tree::{One, Sort, Two};
+use crate::measuring::{has_sort, measure};
 use std::alloc::Global;
 use std::io;
 
@@ -48,160 +44,10 @@ const BIT: Sort = Sort::Word(1);
 
 const BITS: Sort = Sort::Row(6, 1);
 
-/// The bits of a sort that the program uses.
-fn bits(sort: Sort) -> Option<u32>
-    ensures is { IfSome result (λ b. b ≡ bits_of sort) }
-    ensures few { IfSome result (λ b. b ≤ 2048) }
-{
-    match sort {
-        Sort::Bool => Some(1),
-        Sort::Word(width) => {
-            if width > 32 {
-                return None;
-            }
-            Some(width)
-        }
-        Sort::Row(index, width) => {
-            if index == 6 && width == 1 {
-                return Some(64);
-            }
-            if index != 6 || width != 32 {
-                return None;
-            }
-            Some(2048)
-        }
-    }
-}
-
-fn weight_of_two(op: Two, bits: u32) -> u32
-    requires { bits ≤ 2048 }
-    ensures { result ≡ two_weight op bits }
-{
-    match op {
-        Two::Add | Two::Sub | Two::Lt | Two::Le | Two::Slt | Two::Sle => 2 * bits,
-        Two::Mul => 2 * bits * bits,
-        Two::BitAnd | Two::BitOr | Two::BitXor | Two::Eq | Two::Ne => bits,
-        Two::Shl | Two::Shr | Two::Sar => 6 * bits,
-        Two::And | Two::Or | Two::Implies => 1,
-        Two::Udiv | Two::Urem => 4 * bits * bits,
-    }
-}
-
-fn weight_of_one(op: One, bits: u32) -> u32
-    requires { bits ≤ 2048 }
-    ensures { result ≡ one_weight op bits }
-{
-    match op {
-        One::Not => 1,
-        One::Flip => bits,
-        One::Minus => 2 * bits,
-    }
-}
-
-fn weight_of_set(row: Sort) -> Option<u32>
-    ensures { IfSome result (λ w. w ≡ set_weight (Some row)) }
-{
-    match row {
-        Sort::Row(index, width) => {
-            if index != 6 || width != 32 {
-                return None;
-            }
-            Some(2432)
-        }
-        _ => Some(0),
-    }
-}
-
-/// The own weight of a node.
-fn weight_at(terms: &Terms, at: Id) -> Option<u32>
-    requires { at < length terms.now }
-    ensures { IfSome result (λ w. w ≡ own_weight terms.now at) }
-{
-    match terms.node(at) {
-        Node::Constant(_) => Some(0),
-        Node::Variable(_, sort) => {
-            let own = bits(*sort)?;
-            Some(own)
-        }
-        Node::One(op, a) => {
-            let bits = bits(terms.sort(*a))?;
-            Some(weight_of_one(*op, bits))
-        }
-        Node::Two(op, a, _) => {
-            let bits = bits(terms.sort(*a))?;
-            Some(weight_of_two(*op, bits))
-        }
-        Node::Pick(_, a, _) => {
-            let own = bits(terms.sort(*a))?;
-            Some(own)
-        }
-        Node::Get(row, _) => {
-            let own = bits(terms.sort(*row))?;
-            Some(own)
-        }
-        Node::Set(row, _, _) => {
-            let own = weight_of_set(terms.sort(*row))?;
-            Some(own)
-        }
-        Node::Fill(_, _) | Node::Slice(_, _, _) | Node::Widen(_, _) | Node::Join(_, _) => Some(1),
-    }
-}
-
-/// Whether a node is no variable with a large number.
-fn is_small(node: &Node) -> bool
-    ensures { IsTrue result → (k : ℕ) (s : Sort) → node.now ≡ Variable k s → k < 2 ^ 31 }
-{
-    match node {
-        Node::Variable(number, _) => *number < 2147483648,
-        _ => true,
-    }
-}
-
-/// The weight of a graph whose variables have small numbers.
-fn measure(terms: &Terms) -> Option<u32>
-    ensures weight { IfSome result (λ w. graph_weight terms.now ≡ w) }
-    ensures numbers { IsSome result → NumbersBelow (2 ^ 31) terms.now }
-{
-    let mut total: u32 = 0;
-    for at in 0..terms.len() {
-        if !is_small(terms.node(at)) {
-            return None;
-        }
-        let own = weight_at(terms, at)?;
-        total = total.checked_add(own)?;
-    }
-    Some(total)
-}
-
-/// Whether a node is no variable with this number and another sort.
-fn agrees(node: &Node, number: u32, sort: Sort) -> bool
-    ensures { IsTrue result → (t : Sort) → node.now ≡ Variable number t → t ≡ sort }
-{
-    match node {
-        Node::Variable(other, found) => *other != number || *found == sort,
-        _ => true,
-    }
-}
-
-fn is_free(terms: &Terms, number: u32, sort: Sort) -> bool
-    ensures { IsTrue result → IsFree terms.now number sort }
-{
-    for at in 0..terms.len() {
-        if !agrees(terms.node(at), number, sort) {
-            return false;
-        }
-    }
-    true
-}
-
 fn variable(terms: &mut Terms, number: u32, sort: Sort) -> Option<Id>
     requires { IsTrue (is_sort sort) }
 {
-    let free = is_free(terms, number, sort);
-    if !free {
-        return None;
-    }
-    terms.variable(number, sort).ok()
+    crate::measuring::variable(terms, number, sort).ok()?
 }
 
 /// Variables of one sort, with numbers from this one on.
@@ -216,16 +62,6 @@ fn variables(alloc: Global, terms: &mut Terms, first: u32, sort: Sort) -> Option
         ids.push(id).ok()?;
     }
     Some(ids)
-}
-
-fn has_sort(terms: &Terms, id: Id, sort: Sort) -> bool
-    ensures within { IsTrue result → id < length terms.now }
-    ensures sort { IsTrue result → sort_at terms.now id ≡ Some sort }
-{
-    if id >= terms.len() {
-        return false;
-    }
-    terms.sort(id) == sort
 }
 
 fn two(terms: &mut Terms, op: Two, sort: Sort, a: Id, b: Id) -> Option<Id>
@@ -358,44 +194,6 @@ fn main(rt: HostRuntime) -> io::Result<()> {
 }
 """
 
-MEASURE_INVARIANTS = r"""use Rattle.std.specs.Prelude.{slice_get}
-use Rattle.std.proofs.Common.{◌≡◌, ℕ, ◌<◌, ◌^◌, Some}
-use Rattle.civl_tree.specs.declared.expr.Sort.{Sort}
-use Rattle.civl_terms.specs.declared.node.Node.TheVariants.{Variable}
-use Rattle.civl_terms.specs.Weights.{first_weight}
-use Rattle.civl_timing.proofs.measure.Given as goal
-
-abbrev pub invariant-loop-at : goal.invariant-loop-at
-invariant-loop-at l = record {
-  total : l.total ≡ first_weight l.terms l.at;
-  numbers : (i k : ℕ) (s : Sort) → i < l.at → slice_get l.terms i ≡ Some (Variable k s) → k < 2 ^ 31;
-}
-"""
-
-MEASURE_ANSWERS = r"""use Rattle.std.proofs.Common.{◌∙◌, sym, ap, arith}
-use Rattle.std.proofs.lemmas.Option.{slice_get_within}
-use Rattle.civl_terms.specs.declared.node.Node.TheVariants.{Variable}
-use Rattle.civl_terms.specs.Weights.{first_weight, graph_weight}
-use Rattle.civl_timing.proofs.measure.Goals as goal
-
-pub returns-clause-weight : goal.returns-clause-weight
-unfolding graph_weight
-returns-clause-weight c = ap (first_weight c.args.terms.now) (omega (arith, c.loop-at-test.false, c.len-at-end.ensures.is, c.loop-at.auto.at-end)) ∙ sym c.loop-at.invariant.total
-
-pub returns-clause-numbers : goal.returns-clause-numbers
-returns-clause-numbers c = λ t i k s e. c.loop-at.invariant.numbers i k s (omega (arith, slice_get_within c.args.terms.now i (Variable k s) e, c.loop-at-test.false, c.len-at-end.ensures.is)) e
-"""
-
-FREE_INVARIANTS = r"""use Rattle.std.specs.Prelude.{slice_get}
-use Rattle.std.proofs.Common.{◌≡◌, ℕ, ◌<◌, Some}
-use Rattle.civl_tree.specs.declared.expr.Sort.{Sort}
-use Rattle.civl_terms.specs.declared.node.Node.TheVariants.{Variable}
-use Rattle.civl_timing.proofs.is_free.Given as goal
-
-abbrev pub invariant-loop-at : goal.invariant-loop-at
-invariant-loop-at l = (i : ℕ) (t : Sort) → i < l.at → slice_get l.terms i ≡ Some (Variable l.number t) → t ≡ l.sort
-"""
-
 VARIABLES_INVARIANTS = r"""use Rattle.std.proofs.Common.{◌≡◌, length}
 use Rattle.civl_timing.proofs.variables.Given as goal
 
@@ -411,42 +209,26 @@ pub blast-requires-clause-light : goal.blast-requires-clause-light
 blast-requires-clause-light c = omega (arith, terms_weigh_less c.build.new.terms c.in_ok-id.id (c.if-not-is_bool.ensures.within refl), c.in_ok-weight.ensures.weight, c.if-weight-gt1600000.false)
 """
 
+TESTS = os.path.join(program.CRATES, "civl_tests")
+
+
+def shared(path):
+    """A file of civl_tests, as the program's own."""
+    with open(os.path.join(TESTS, path)) as file:
+        return file.read().replace("civl_tests", "civl_timing")
+
+
 FILES = {
     "src/main.rt": PROGRAM,
-    "proofs/measure/Invariants.antt": MEASURE_INVARIANTS,
-    "proofs/measure/Answers.antt": MEASURE_ANSWERS,
-    "proofs/is_free/Invariants.antt": FREE_INVARIANTS,
     "proofs/variables/Invariants.antt": VARIABLES_INVARIANTS,
     "proofs/answer/Answers.antt": ANSWER_ANSWERS,
-    "stdin": "",
+    **{path: shared(path) for path in (
+        "src/measuring.rt",
+        "proofs/measuring/measure/Invariants.antt",
+        "proofs/measuring/measure/Answers.antt",
+        "proofs/measuring/is_free/Invariants.antt",
+    )},
 }
-
-
-def write(path, text):
-    os.makedirs(os.path.dirname(path), exist_ok=True)
-    with open(path, "w") as file:
-        file.write(text)
-
-
-def crate_list():
-    """The lines of crates.txt for the crates that are copied, and one for the program."""
-    with open(os.path.join(HERE, "..", "crates.txt")) as file:
-        lines = [line for line in file if line.split(":")[0] in CRATES]
-    return "".join(lines) + "civl_timing: " + " ".join(CRATES) + "\n"
-
-
-def built(folder):
-    """The program, which is built where it isn't there."""
-    crate = os.path.join(folder, "crates", "civl_timing")
-    binary = os.path.join(crate, "out", "civl_timing")
-    if not os.path.exists(binary):
-        for name in CRATES:
-            shutil.copytree(os.path.join(HERE, "..", "crates", name), os.path.join(folder, "crates", name), ignore=shutil.ignore_patterns("out"))
-        write(os.path.join(folder, "crates.txt"), crate_list())
-        for path, text in FILES.items():
-            write(os.path.join(crate, path), text)
-        subprocess.run(["rt", "run"], cwd=crate, stdin=subprocess.DEVNULL, check=True)
-    return binary
 
 
 def timed(binary, line):
@@ -464,7 +246,7 @@ def timed(binary, line):
 def main():
     if len(sys.argv) != 2:
         sys.exit(__doc__)
-    binary = built(sys.argv[1])
+    binary = program.built(sys.argv[1], "civl_timing", CRATES, FILES)
     for kind, count in COUNTS.items():
         text, seconds, busy, size = timed(binary, f"{kind} {count}\n")
         print(f"{kind} {count}: {text}, {seconds:.2f} s, {busy:.2f} s of the processor, {size} MB", flush=True)

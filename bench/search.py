@@ -5,16 +5,14 @@ Usage: search.py FOLDER        (a scratch folder, in which a program over the li
 
 The program reads a clause set a line: the budget, the number of variables, and the clauses as in DIMACS. Each line that is printed: what the clause set is, its variables and clauses, the seconds of the search, and its outcome with the number of clauses of its log.
 """
-import os
 import random
-import shutil
 import subprocess
 import sys
 import time
 
-HERE = os.path.dirname(os.path.abspath(__file__))
+import program
+
 CRATES = ["civl_cnf", "civl_rup", "civl_cdcl"]
-LIST = "civl_cnf: smallvec\ncivl_rup: civl_cnf\ncivl_cdcl: civl_cnf civl_rup\ncivl_search: civl_cnf civl_cdcl\n"
 BUDGET = 1_000_000
 
 PROGRAM = r"""//! Reads clause sets, one a line: the budget, the number of variables, and the clauses as in DIMACS. Prints the outcome of each search, with the number of clauses of its log.
@@ -120,26 +118,11 @@ returns c = λ t. subst (IsBelow c.args.variables) (take_all c.loop-lit.lit-inde
 """
 
 
-def write(path, text):
-    os.makedirs(os.path.dirname(path), exist_ok=True)
-    with open(path, "w") as file:
-        file.write(text)
-
-
-def built(folder):
-    """The program, which is built where it isn't there."""
-    crate = os.path.join(folder, "crates", "civl_search")
-    binary = os.path.join(crate, "out", "civl_search")
-    if not os.path.exists(binary):
-        for name in CRATES:
-            shutil.copytree(os.path.join(HERE, "..", "crates", name), os.path.join(folder, "crates", name), ignore=shutil.ignore_patterns("out"))
-        write(os.path.join(folder, "crates.txt"), LIST)
-        write(os.path.join(crate, "src", "main.rt"), PROGRAM)
-        write(os.path.join(crate, "proofs", "is_below", "Invariants.antt"), INVARIANTS)
-        write(os.path.join(crate, "proofs", "is_below", "Answers.antt"), ANSWERS)
-        write(os.path.join(crate, "stdin"), "")
-        subprocess.run(["rt", "run"], cwd=crate, stdin=subprocess.DEVNULL, check=True)
-    return binary
+FILES = {
+    "src/main.rt": PROGRAM,
+    "proofs/is_below/Invariants.antt": INVARIANTS,
+    "proofs/is_below/Answers.antt": ANSWERS,
+}
 
 
 def pigeons(holes):
@@ -223,7 +206,7 @@ SETS = {
 def main():
     if len(sys.argv) != 2:
         sys.exit(__doc__)
-    binary = built(sys.argv[1])
+    binary = program.built(sys.argv[1], "civl_search", CRATES, FILES)
     for name, (variables, clauses) in SETS.items():
         words = [BUDGET, variables]
         for clause in clauses:

@@ -6,6 +6,10 @@ mod codes;
 #[cfg(test)]
 mod devices;
 #[cfg(test)]
+mod instances;
+#[cfg(test)]
+mod measuring;
+#[cfg(test)]
 mod replays;
 #[cfg(test)]
 mod rows;
@@ -13,5 +17,7 @@ mod rows;
 mod schedules;
 #[cfg(test)]
 mod slips;
+#[cfg(test)]
+mod terms;
 #[cfg(test)]
 mod texts;

@@ -5,7 +5,7 @@ use crate::texts::run;
 use civl_bits::Value;
 use civl_command::Status;
 use civl_lex::tokens;
-use civl_meaning::{Move, Plain, Stepped, Store, failing, start, step};
+use civl_meaning::{Move, Plain, Stepped, Store, copy_config, failing, same, start, step};
 use civl_parser::parse;
 use civl_tree::List;
 use std::alloc::Global;
@@ -34,7 +34,7 @@ fn plain(alloc: Global, bodies: bool) -> Result<Plain, Fail> {
 }
 
 /// Whether the moves of these threads run from the store in which the flag is set to a configuration in which this
-/// thread is the first that fails, and to none that fails before.
+/// thread is the first that fails, and to none that fails before. So it is in a copy of the configuration.
 fn fails_after(alloc: Global, plain: &Plain, moves: &[u32], wanted: u32) -> Result<bool, Fail> {
     let store = Store {
         values: List::from_vec([Value::Bool(true)].to_vec(alloc)?),
@@ -53,7 +53,13 @@ fn fails_after(alloc: Global, plain: &Plain, moves: &[u32], wanted: u32) -> Resu
             return Ok(false);
         }
     }
-    Ok(config.threads.len() == 2 && failing(&config, plain) == Some(wanted))
+    let copy = copy_config(alloc, &config)?;
+    Ok(
+        config.threads.len() == 2
+            && failing(&config, plain) == Some(wanted)
+            && same(&copy, &config)
+            && failing(&copy, plain) == Some(wanted),
+    )
 }
 
 /// Whether `check` accepts the program.
