@@ -78,8 +78,31 @@ def at_all_limits():
     return "".join(parts) + moves
 
 
+def bracketed(names):
+    """One conjunction of the names, in balanced brackets."""
+    if len(names) == 1:
+        return names[0]
+    half = len(names) // 2
+    return "(%s && %s)" % (bracketed(names[:half]), bracketed(names[half:]))
+
+
+def many_names():
+    """15,000 globals, and an expression of 40,000 of the last hundred of them: a name is looked up from the first on."""
+    globals_ = "".join("global g%d : bool layers 0 to 1;\n" % number for number in range(15_000))
+    return HEADER + globals_ + "init " + bracketed(["g%d" % (14_999 - number % 100) for number in range(40_000)]) + ";\nschedule\n"
+
+
+def many_calls():
+    """9,000 procedures, and 30,000 calls of the last fifty of them."""
+    procs = "".join("proc P%d() -> () root { }\n" % number for number in range(9_000))
+    calls = "".join("call P%d() -> ();\n" % (8_999 - number % 50) for number in range(30_000))
+    return HEADER + "init true;\n" + procs + "proc Main() -> () root {\n" + calls + "}\nschedule\n"
+
+
 SCRIPTS = {
     "a program at all limits": at_all_limits(),
+    "many names, looked up late": many_names(),
+    "many procedures, called late": many_calls(),
     "moves": filled(HEADER + FLAG + "thread DoSet();\nschedule f = false; ", "move 0 ();\n", ""),
     "moves of a loop": filled(HEADER + FLAG + "proc Main() -> () root { while true { call DoSet() -> (); } }\nthread Main();\nschedule f = false; ", "move 0 ();\n", ""),
 }
