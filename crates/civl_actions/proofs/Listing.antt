@@ -16,7 +16,7 @@ use Rattle.civl_tree.specs.declared.action.Param.{Param}
 use Rattle.civl_tree.specs.declared.action.Update.{Update}
 use Rattle.civl_tree.specs.declared.program.Global.{Global}
 use Rattle.civl_tree.specs.declared.program.Program.{Program}
-use Rattle.civl_tree.specs.rules.Names.{same_name, has_name}
+use Rattle.civl_tree.specs.rules.Names.{same_name, has_name, global_names, param_names}
 use Rattle.civl_tree.specs.rules.Scopes.{Binding, sort_in, bind_globals, bind_params, guard_scope}
 use Rattle.civl_tree.specs.rules.Sorts.{sort_of}
 use Rattle.civl_values.specs.Values.{zero_of, is_sort, sort_of_value}
@@ -26,7 +26,6 @@ use Rattle.civl_firing.specs.declared.scope.Scope.{Scope as Meant}
 use Rattle.civl_firing.specs.Eval.{value_of}
 use Rattle.civl_firing.specs.Fired.{updated}
 use Rattle.civl_firing.specs.Truth.{place_of}
-use Rattle.civl_firing.specs.Scope.{global_names, param_names}
 use Rattle.civl_terms.specs.declared.node.Node.{Node}
 use Rattle.civl_terms.specs.Graphs.{value_at, sort_at, Fits}
 use Rattle.civl_terms.specs.Building.{Grows, Built}

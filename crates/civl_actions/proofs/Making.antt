@@ -15,7 +15,8 @@ use Rattle.civl_tree.specs.rules.Scopes.{Scope as Sorts, Binding, sort_in, bind_
 use Rattle.civl_values.specs.Values.{is_true}
 use Rattle.civl_firing.specs.declared.scope.Scope.{Scope as Meant}
 use Rattle.civl_firing.specs.Eval.{value_of}
-use Rattle.civl_firing.specs.Scope.{global_names, param_names, present, zeros_of_params, guard_scope as guard_meant}
+use Rattle.civl_firing.specs.Scope.{present_values, zeros_of_params, guard_values}
+use Rattle.civl_tree.specs.rules.Names.{global_names, param_names}
 use Rattle.civl_firing.specs.Fired.{gate_holds, guard_holds, store_after, outs_after, updated}
 use Rattle.civl_firing.specs.Truth.{place_of}
 use Rattle.civl_terms.specs.declared.node.Node.{Node}
@@ -86,7 +87,7 @@ module _ (ns : List Node) (sc : Scope) (program : Program) (a : Action) (choices
       ∙ ap (λ (vs : List Value). values_at env ns globals ++ vs) (map-append (value_at env ns) inputs (chosen ++ zeros)
       ∙ ap (λ (vs : List Value). values_at env ns inputs ++ vs) (map-append (value_at env ns) chosen zeros ∙ ap (λ (vs : List Value). values_at env ns chosen ++ vs) (p.zero_values env f)))
 
-  pub scope_meant : (env : ℕ → Value) → Fits env ns → meant env ns sc ≡ present (all_names program a choices) (values_at env ns globals ++ (values_at env ns inputs ++ (values_at env ns chosen ++ zeros_of_params a.outs)))
+  pub scope_meant : (env : ℕ → Value) → Fits env ns → meant env ns sc ≡ present_values (all_names program a choices) (values_at env ns globals ++ (values_at env ns inputs ++ (values_at env ns chosen ++ zeros_of_params a.outs)))
   scope_meant env f =
       let vs : map (value_at env ns) sc.values.now ≡ values_at env ns globals ++ (values_at env ns inputs ++ (values_at env ns chosen ++ zeros_of_params a.outs)) = ap (map (value_at env ns)) m.values ∙ values_joined env f in
       let os : map (value_at env ns) sc.old.now ≡ values_at env ns globals ++ (values_at env ns inputs ++ (values_at env ns chosen ++ zeros_of_params a.outs)) = ap (map (value_at env ns)) m.old ∙ values_joined env f in
@@ -144,7 +145,7 @@ module _ (ns : List Node) (sc : Scope) (program : Program) (a : Action) (k : Kep
   pub guard_asks : HasTyping ns sc a.guard
   guard_asks = (guard_scope program a, guard_fits, guard_typed program a k)
 
-  guard_meaning : (env : ℕ → Value) → Fits env ns → meant env ns sc ≡ guard_meant program.globals (store_at env ns globals) a (values_at env ns inputs) (values_at env ns chosen)
+  guard_meaning : (env : ℕ → Value) → Fits env ns → meant env ns sc ≡ guard_values program.globals (store_at env ns globals) a (values_at env ns inputs) (values_at env ns chosen)
   guard_meaning env f = scope_meant ns sc program a a.choices globals inputs chosen zeros nay p m env f
 
   pub change_is : (mid new : List Node) (made : Instance) → IsGraph new → Grows ns mid → Means ns mid sc a.guard made.guard → Grows mid new → AreUpdated mid new sc program a (length a.updates) globals zeros made.globals made.outs → IsChange ns new program a globals inputs chosen made

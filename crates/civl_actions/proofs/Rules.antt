@@ -13,7 +13,6 @@ use Rattle.civl_tree.specs.declared.action.Action.{Action}
 use Rattle.civl_tree.specs.declared.action.Param.{Param}
 use Rattle.civl_tree.specs.declared.action.Update.{Update}
 use Rattle.civl_tree.specs.declared.program.Program.{Program}
-use Rattle.civl_tree.specs.Numbering.{action_item, no_statement}
 use Rattle.civl_tree.specs.rules.Names.{same_name, has_name, any_twice, global_names, param_names, names_in_action}
 use Rattle.civl_tree.specs.rules.Scopes.{gate_scope, guard_scope}
 use Rattle.civl_tree.specs.rules.Sorts.{sort_of}
@@ -23,12 +22,11 @@ use Rattle.civl_tree.specs.rules.Width.{sort_width_fits, param_width, action_wid
 use Rattle.civl_tree.specs.rules.Index.{sort_index, action_index}
 use Rattle.civl_tree.specs.rules.Sorted.{any_missorted}
 use Rattle.civl_tree.specs.rules.Twice.{declared_twice}
-use Rattle.civl_tree.specs.rules.Places.{Code, E10, E20, E21, E22, action_breaks}
-use Rattle.civl_tree.specs.rules.Refusals.{BreaksNone}
-use Rattle.civl_tree.specs.rules.Broken.{InAction, IsTried}
+use Rattle.civl_tree.specs.rules.Rules.{Keeps}
+use Rattle.civl_tree.specs.rules.Typing.{typing_rules, twice_rule, width_rule, sort_rule, index_rule}
+use Rattle.civl_tree.proofs.Kept.{action_kept, twice_among, width_among, sort_among, index_among}
 use Rattle.civl_values.specs.Values.{is_sort}
 use Rattle.civl_values.proofs.Sorting.{same_sort-true}
-use Rattle.civl_firing.proofs.Unbroken.{no_rule_broken}
 use Rattle.civl_actions.specs.Scopes.{IsTyped}
 
 -- ---- lists of which none passes
@@ -51,27 +49,18 @@ any_all p P f (x ∷ xs) e = let o = or_parts (p x) (list_any p xs) e in All-con
 
 -- ---- the rules for an action
 
-not_broken : (b : Bool) → (b ≡ true → ⊥) → b ≡ false
-not_broken true n = absurd (n refl)
-not_broken false n = refl
-
-action_keeps : (program : Program) → BreaksNone program → (i : ℕ) (a : Action) → slice_get program.actions i ≡ Some a → (code : Code) → IsTried code → action_breaks code program i a ≡ false
-action_keeps program none i a at code tried =
-    not_broken (action_breaks code program i a) (λ b. no_rule_broken program none code (action_item program i) no_statement tried (InAction i a at refl refl b))
-
 pub record Kept (program : Program) (a : Action) : Type 0 where
   pub sorted : any_missorted (action_uses program a) ≡ false
   pub widths : action_width program a ≡ false
   pub indices : action_index program a ≡ false
   pub names : declared_twice program (names_in_action a) ≡ false
 
-pub kept : (program : Program) → BreaksNone program → (i : ℕ) (a : Action) → slice_get program.actions i ≡ Some a → Kept program a
-unfolding action_breaks
+pub kept : (program : Program) → Keeps typing_rules program → (i : ℕ) (a : Action) → slice_get program.actions i ≡ Some a → Kept program a
 kept program none i a at = record {
-  sorted = action_keeps program none i a at E21 tt;
-  widths = action_keeps program none i a at E20 tt;
-  indices = action_keeps program none i a at E22 tt;
-  names = (or_parts _ _ (or_parts _ _ (action_keeps program none i a at E10 tt)).1).0;
+  sorted = action_kept typing_rules program none sort_rule sort_among i a at;
+  widths = action_kept typing_rules program none width_rule width_among i a at;
+  indices = action_kept typing_rules program none index_rule index_among i a at;
+  names = (or_parts _ _ (or_parts _ _ (action_kept typing_rules program none twice_rule twice_among i a at)).1).0;
 }
 
 -- ---- its expressions

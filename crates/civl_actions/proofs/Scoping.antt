@@ -12,10 +12,10 @@ use Rattle.civl_tree.specs.declared.action.Choice.{Choice}
 use Rattle.civl_tree.specs.declared.action.Param.{Param}
 use Rattle.civl_tree.specs.declared.program.Global.{Global}
 use Rattle.civl_tree.specs.declared.program.Program.{Program}
-use Rattle.civl_tree.specs.rules.Names.{same_name, has_name}
+use Rattle.civl_tree.specs.rules.Names.{same_name, has_name, global_names, param_names}
 use Rattle.civl_tree.specs.rules.Scopes.{Binding, sort_in, bind_globals, bind_params, bind_choices}
 use Rattle.civl_firing.specs.Truth.{place_of}
-use Rattle.civl_firing.specs.Scope.{global_names, param_names, choice_names}
+use Rattle.civl_firing.specs.Scope.{choice_names}
 use Rattle.civl_terms.specs.declared.node.Node.{Node}
 use Rattle.civl_terms.specs.Graphs.{sort_at}
 use Rattle.civl_actions.specs.Scopes.{StandsAt, AreOf}

@@ -1,4 +1,4 @@
--- How the terms of an action are made: those of the outputs before the updates, and each update.
+-- For private functions alone: how the terms of an action are made, those of the outputs before the updates and each update.
 use Rattle.std.specs.Prelude.{◌≡◌, ℕ, false, ◌+◌, ◌≤◌, List, map, slice_get, take, Some}
 use Rattle.civl_bits.specs.declared.value.Value.{Value}
 use Rattle.civl_tree.specs.declared.action.Action.{Action}
@@ -9,7 +9,8 @@ use Rattle.civl_tree.specs.declared.expr.Sort.TheVariants.{Bool as Truth}
 use Rattle.civl_tree.specs.rules.Scopes.{gate_scope, guard_scope}
 use Rattle.civl_bits.specs.declared.value.Value.TheVariants as value
 use Rattle.civl_values.specs.Weights.{weight_of}
-use Rattle.civl_firing.specs.Scope.{global_names, param_names, zeros_of_params}
+use Rattle.civl_firing.specs.Scope.{zeros_of_params}
+use Rattle.civl_tree.specs.rules.Names.{global_names, param_names}
 use Rattle.civl_firing.specs.Fired.{updated, gate_holds, guard_holds, store_after, outs_after}
 use Rattle.civl_terms.specs.declared.node.Node.{Node}
 use Rattle.civl_terms.specs.Graphs.{value_at, sort_at, Fits}

@@ -1,10 +1,12 @@
 // The terms of actions.
 ghost use Rattle.std.specs.Prelude.{◌≡◌, ◌<◌, [], ◌++◌, ℕ, All, IsTrue, length, map, slice_get, slice_set, take, IfOk, OnOk, IfSome};
-ghost use Rattle.civl_tree.specs.rules.Refusals.{BreaksNone};
+ghost use Rattle.civl_tree.specs.rules.Rules.{Keeps};
+ghost use Rattle.civl_tree.specs.rules.Typing.{typing_rules};
 ghost use Rattle.civl_tree.specs.rules.Scopes.{gate_scope, guard_scope};
 ghost use Rattle.civl_values.specs.Values.{is_sort};
 ghost use Rattle.civl_firing.specs.Names.{names_of};
-ghost use Rattle.civl_firing.specs.Scope.{global_names, param_names, choice_names};
+ghost use Rattle.civl_firing.specs.Scope.{choice_names};
+ghost use Rattle.civl_tree.specs.rules.Names.{global_names, param_names};
 ghost use Rattle.civl_terms.specs.Building.{Grows};
 ghost use Rattle.civl_actions.specs.Scopes.{AreOf, names_in, ScopeFits};
 ghost use Rattle.civl_actions.specs.Actions.{IsInstance};
@@ -131,7 +133,7 @@ fn update(
     globals: &mut Vec<Id>,
     outs: &mut Vec<Id>,
 ) -> Result<(), Memory>
-    requires rules { BreaksNone program.now }
+    requires rules { Keeps typing_rules program.now }
     requires action { IsActionOf program.now action.now }
     requires scope { ScopeFits terms.old scope.now (guard_scope program.now action.now) }
     requires globals { AreOf terms.old globals.old.items (map (λ g. g.sort) program.now.globals) }
@@ -167,7 +169,7 @@ fn gate(
     zeros: &[Id],
     no: Id,
 ) -> Result<Id, Memory>
-    requires rules { BreaksNone program.now }
+    requires rules { Keeps typing_rules program.now }
     requires action { IsActionOf program.now action.now }
     requires terms { Prepared terms.old program.now action.now [] globals.now inputs.now [] zeros.now no }
     ensures gate { IfOk result (λ id. IsGate terms.old terms.new program.now action.now globals.now inputs.now id) }
@@ -195,7 +197,7 @@ fn change(
     no: Id,
     gate: Id,
 ) -> Result<Instance, Memory>
-    requires rules { BreaksNone program.now }
+    requires rules { Keeps typing_rules program.now }
     requires action { IsActionOf program.now action.now }
     requires terms { Prepared terms.old program.now action.now action.now.choices globals.now inputs.now choices.now zeros.items no }
     ensures change { IfOk result (λ i. IsChange terms.old terms.new program.now action.now globals.now inputs.now choices.now i) }
@@ -234,7 +236,7 @@ fn of_action(
     inputs: &[Id],
     choices: &[Id],
 ) -> Result<Instance, Memory>
-    requires rules { BreaksNone program.now }
+    requires rules { Keeps typing_rules program.now }
     requires action { IsActionOf program.now action.now }
     requires globals { AreOf terms.old globals.now (map (λ g. g.sort) program.now.globals) }
     requires inputs { AreOf terms.old inputs.now (map (λ p. p.sort) action.now.params) }
@@ -276,7 +278,7 @@ pub fn instance(
     inputs: &List<Id>,
     choices: &List<Id>,
 ) -> Result<Instance, Memory>
-    requires rules { BreaksNone program.now }
+    requires rules { Keeps typing_rules program.now }
     requires action { action < length program.now.actions }
     requires globals { AreOf terms.old globals.now (map (λ g. g.sort) program.now.globals) }
     requires inputs { IfSome (slice_get program.now.actions action) (λ a. AreOf terms.old inputs.now (map (λ p. p.sort) a.params)) }

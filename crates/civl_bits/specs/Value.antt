@@ -1,16 +1,9 @@
--- Values: what each is by its sort, and which are the same.
+-- Values: which there are, and which are the same. Sorts are those of a program's text (civl_tree).
 use Rattle.std.specs.Prelude.{Bool, false, not, if◌then◌else◌}
 use Rattle.civl_bits.specs.Word.{IsWord, same_word}
 use Rattle.civl_bits.specs.Row.{IsRow, same_row}
 use Rattle.civl_bits.specs.declared.value.Value.{Value}
 use Rattle.civl_bits.specs.declared.value.Value.TheVariants as value
-use Rattle.civl_bits.specs.declared.value.Sort.{Sort}
-use Rattle.civl_bits.specs.declared.value.Sort.TheVariants as sort
-
-abbrev pub sort_of : Value → Sort
-sort_of (value.Bool b) = sort.Bool
-sort_of (value.Word a) = sort.Word a.0
-sort_of (value.Row r) = sort.Row r.index r.width
 
 abbrev pub IsValue : Value → Type 0
 IsValue (value.Bool b) = Unit {0}

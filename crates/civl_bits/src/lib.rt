@@ -12,5 +12,5 @@ mod value;
 mod word;
 
 pub use row::Row;
-pub use value::{Sort, Value};
+pub use value::Value;
 pub use word::Word;

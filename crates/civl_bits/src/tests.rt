@@ -1,7 +1,7 @@
 // What the operations give, against tables that were worked out from the standard's definitions by bits.
 ghost use Rattle.std.specs.Prelude.{◌≡◌};
 
-use super::{Row, Sort, Value, Word};
+use super::{Row, Value, Word};
 use std::process::Abort;
 
 fn word(rt: &impl Abort, width: u32, value: u32) -> Word
@@ -352,9 +352,6 @@ fn cells_of_rows(rt: HostRuntime) {
         }
         assert_ne!(rt; row, Row::fill(index, first));
         assert_eq!(rt; row.set(ones, first), Row::fill(index, first));
-        assert_eq!(rt; Value::Row(row).sort(), Sort::Row(index, 5));
     }
-    assert_eq!(rt; Value::Word(word(&rt, 7, 1)).sort(), Sort::Word(7));
-    assert_eq!(rt; Value::Bool(false).sort(), Sort::Bool);
     assert_ne!(rt; Value::Word(word(&rt, 7, 1)), Value::Word(word(&rt, 8, 1)));
 }

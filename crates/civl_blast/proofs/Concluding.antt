@@ -18,7 +18,7 @@ use Rattle.civl_reach.specs.Reaching.{Reaches, is_plain, IsRowless}
 use Rattle.civl_reach.specs.Marks.{marked, IsMarking}
 use Rattle.civl_rows.specs.Cells.{cells_in}
 use Rattle.civl_blast.specs.declared.blasted.Place.{Place}
-use Rattle.civl_blast.specs.Standing.{cell_bits, Reads, HasPlaces, StandsFor, GivesValues, IsSmall}
+use Rattle.civl_blast.specs.Standing.{cell_bits, ShowAll, HasPlaces, StandsFor, GivesValues, IsSmall}
 use Rattle.civl_blast.specs.Steps.{input_bits, inputs_before, places_before, IsCircuit}
 use Rattle.civl_blast.proofs.Reading.{marked_within, values_read, values_are_read, values_fit}
 use Rattle.civl_blast.proofs.Weighing.{inputs_next, inputs_less}
@@ -77,16 +77,16 @@ stands {ns} {id} {inputs} {marks} {gates} {output} set places graph rowless m ci
           let shows = values_show ns marks env (id + 1) plain (λ i k s h mark e. fits i k s e) in
           let w = circuit.extends.some v (All-nil (SatisfiesClause v)) in
           let shows_w = inputs_kept ns marks v w.0 env (id + 1) (λ x h. w.1 x (omega (arith, ei))) shows in
-          let P : List Place → Type 0 = λ ps. Reads w.0 ps env in
+          let P : List Place → Type 0 = λ ps. ShowAll w.0 ps env in
           (w.0, w.2, subst P (sym ep) (places_from_inputs ns marks w.0 env (id + 1) plain shows_w));
       one = λ env fits v w hv hw rv rw_.
-          let P : (ℕ → Bool) → List Place → Type 0 = λ u ps. Reads u ps env in
+          let P : (ℕ → Bool) → List Place → Type 0 = λ u ps. ShowAll u ps env in
           let shows_v = inputs_from_places graph rowless m v env fits (subst (P v) ep rv) in
           let shows_w = inputs_from_places graph rowless m w env fits (subst (P w) ep rw_) in
           let same = circuit.extends.one v w hv hw (λ x h. inputs_agree ns marks v w env (id + 1) shows_v shows_w x (omega (arith, ei))) in
           λ x h. same x (omega (arith, size));
       is = λ env fits v hv rv.
-          let P : List Place → Type 0 = λ ps. Reads v ps env in
+          let P : List Place → Type 0 = λ ps. ShowAll v ps env in
           circuit.is v env hv (inputs_from_places graph rowless m v env fits (subst P ep rv));
     }
 
@@ -95,7 +95,7 @@ gives_values {ns} {id} {marks} places graph distinct rowless m ep v =
     let env : ℕ → Value = values_read ns marks v (id + 1) in
     let plain = all_plain graph rowless m (id + 1) in
     let shows = values_are_read ns marks v graph distinct (id + 1) plain in
-    let P : List Place → Type 0 = λ ps. Reads v ps env in
+    let P : List Place → Type 0 = λ ps. ShowAll v ps env in
     (env, values_fit ns marks v graph distinct (id + 1) (omega (arith, m.size)) plain, subst P (sym ep) (places_from_inputs ns marks v env (id + 1) plain shows))
 
 pub small : {ns : List Node} {id inputs : ℕ} {marks : List Bool} {gates : ClauseSet} {output : Literal} (set : ClauseSet) → IsCircuit ns id marks inputs gates output → set ≡ record { variables = gates.variables; clauses = gates.clauses ++ (output ∷ []) ∷ [] } → IsSmall set (2 * term_weight ns id + 2)

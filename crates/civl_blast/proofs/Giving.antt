@@ -23,7 +23,7 @@ use Rattle.civl_rows.specs.Cells as cells
 use Rattle.civl_rows.specs.declared.flat.Cell.{Cell}
 use Rattle.civl_rows.proofs.Growth.{node_stays}
 use Rattle.civl_blast.specs.declared.blasted.Place.{Place}
-use Rattle.civl_blast.specs.Standing.{cell_bits, Reads, HasPlaces, NamesCells, GivesValues}
+use Rattle.civl_blast.specs.Standing.{cell_bits, ShowAll, HasPlaces, NamesCells, GivesValues}
 use Rattle.civl_blast.specs.Renaming.{place_of_cell}
 use Rattle.civl_blast.proofs.Laying.{variable_plain}
 use Rattle.civl_blast.proofs.Renaming.{env_with, env_new, IsOther, entry_or_other, place_of_entry, first_same, celled}
@@ -59,7 +59,7 @@ entries_once {ns} h p q d e x y v w = h.numbers p d x ∙ ap (λ n. next_number 
 
 -- ---- any bits give values
 
-reads_again : (v : ℕ → Bool) (es : List Cell) (env other : ℕ → Value) (places : List Place) → ((p : ℕ) (q : Place) → slice_get places p ≡ Some q → cell_of (other (place_of_cell es q).variable) (place_of_cell es q).cell ≡ cell_of (env q.variable) q.cell) → Reads v places env → Reads v (map (place_of_cell es) places) other
+reads_again : (v : ℕ → Bool) (es : List Cell) (env other : ℕ → Value) (places : List Place) → ((p : ℕ) (q : Place) → slice_get places p ≡ Some q → cell_of (other (place_of_cell es q).variable) (place_of_cell es q).cell ≡ cell_of (env q.variable) q.cell) → ShowAll v places env → ShowAll v (map (place_of_cell es) places) other
 reads_again v es env other [] each h = All-nil (λ p. Shows v p.first (cell_of (other p.variable) p.cell))
 reads_again v es env other (q ∷ qs) each h =
     let Shown : Place → Type 0 = λ p. Shows v p.first (cell_of (env p.variable) p.cell) in

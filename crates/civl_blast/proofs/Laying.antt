@@ -22,7 +22,7 @@ use Rattle.civl_terms.proofs.Nodes.{sort_of_node}
 use Rattle.civl_reach.specs.Reaching.{Reaches, is_plain, IsRowless}
 use Rattle.civl_reach.specs.Marks.{marked, IsMarking}
 use Rattle.civl_blast.specs.declared.blasted.Place.{Place}
-use Rattle.civl_blast.specs.Standing.{Reads}
+use Rattle.civl_blast.specs.Standing.{ShowAll}
 use Rattle.civl_rows.specs.Cells.{cell_of}
 use Rattle.civl_blast.specs.Steps.{input_bits, input_place, inputs_before, places_before, TakesPlain, ShowsInput, ShowsInputs}
 use Rattle.civl_blast.proofs.Weighing.{inputs_next, inputs_less}
@@ -88,7 +88,7 @@ place_at ns marks (suc n) i k s h mark e =
     ]
 
 -- the places' bits show the inputs
-pub inputs_from_places : {ns : List Node} {id : ℕ} {marks : List Bool} → IsGraph ns → IsRowless ns id → IsMarking ns id 0 marks → (v : ℕ → Bool) (env : ℕ → Value) → Fits env ns → Reads v (places_before ns marks (id + 1)) env → ShowsInputs v ns marks (id + 1) env
+pub inputs_from_places : {ns : List Node} {id : ℕ} {marks : List Bool} → IsGraph ns → IsRowless ns id → IsMarking ns id 0 marks → (v : ℕ → Bool) (env : ℕ → Value) → Fits env ns → ShowAll v (places_before ns marks (id + 1)) env → ShowsInputs v ns marks (id + 1) env
 inputs_from_places {ns} {id} {marks} graph rowless m v env fits reads i h mark k s e =
     let has = fits i k s e in
     let q = place_at ns marks (id + 1) i k s h mark e in
@@ -126,7 +126,7 @@ places_all Q ns marks (suc n) h =
 abbrev pub ArePlain : List Node → List Bool → ℕ → Type 0
 ArePlain ns marks n = (i k : ℕ) (s : Sort) → i < n → IsTrue (marked marks i) → slice_get ns i ≡ Some (Variable k s) → IsTrue (is_plain (Some s))
 
-pub places_from_inputs : (ns : List Node) (marks : List Bool) (v : ℕ → Bool) (env : ℕ → Value) (n : ℕ) → ArePlain ns marks n → ShowsInputs v ns marks n env → Reads v (places_before ns marks n) env
+pub places_from_inputs : (ns : List Node) (marks : List Bool) (v : ℕ → Bool) (env : ℕ → Value) (n : ℕ) → ArePlain ns marks n → ShowsInputs v ns marks n env → ShowAll v (places_before ns marks n) env
 places_from_inputs ns marks v env n plain shows = places_all (λ p. Shows v p.first (cell_of (env p.variable) p.cell)) ns marks n (λ i k s h mark e.
     let here = shows i h mark k s e in
     let Q : Value → Type 0 = λ x. Shows v (inputs_before ns marks i) x in

@@ -18,7 +18,7 @@ use Rattle.civl_rows.specs.Cells as cells
 use Rattle.civl_rows.specs.declared.flat.Cell.{Cell}
 use Rattle.civl_rows.proofs.Numbering.{next_is_above}
 use Rattle.civl_blast.specs.declared.blasted.Place.{Place}
-use Rattle.civl_blast.specs.Standing.{Reads, StandsFor}
+use Rattle.civl_blast.specs.Standing.{ShowAll, StandsFor}
 use Rattle.civl_blast.specs.Renaming.{place_of_cell, CountFrom, CountUp}
 
 -- ---- the values of the variables that stand for cells
@@ -188,7 +188,7 @@ cell_same (e ∷ es) env q =
           ∙ sym (ap (λ x. cell_of x q.cell) (cond-false (nat_eq e.number q.variable) (cell_of (env e.variable) e.cell) (env_with es env q.variable) (ne_eqb e.number q.variable n)))
     ]
 
-reads_flat : (v : ℕ → Bool) (es : List Cell) (env : ℕ → Value) (places : List Place) → Reads v (map (place_of_cell es) places) env → Reads v places (env_with es env)
+reads_flat : (v : ℕ → Bool) (es : List Cell) (env : ℕ → Value) (places : List Place) → ShowAll v (map (place_of_cell es) places) env → ShowAll v places (env_with es env)
 reads_flat v es env [] h = All-nil (λ p. Shows v p.first (cell_of (env_with es env p.variable) p.cell))
 reads_flat v es env (q ∷ qs) h =
     let head = All-head (λ p. Shows v p.first (cell_of (env p.variable) p.cell)) (place_of_cell es q) (map (place_of_cell es) qs) h in
@@ -197,7 +197,7 @@ reads_flat v es env (q ∷ qs) h =
     let Q : ℕ → Type 0 = λ f. Shows v f (cell_of (env (place_of_cell es q).variable) (place_of_cell es q).cell) in
     All-cons (λ p. Shows v p.first (cell_of (env_with es env p.variable) p.cell)) q qs (subst P (cell_same es env q) (subst Q (first_same es q) head)) (reads_flat v es env qs tail)
 
-reads_cells : (v : ℕ → Bool) (es : List Cell) (env : ℕ → Value) (places : List Place) → Reads v places (env_with es env) → Reads v (map (place_of_cell es) places) env
+reads_cells : (v : ℕ → Bool) (es : List Cell) (env : ℕ → Value) (places : List Place) → ShowAll v places (env_with es env) → ShowAll v (map (place_of_cell es) places) env
 reads_cells v es env [] h = All-nil (λ p. Shows v p.first (cell_of (env p.variable) p.cell))
 reads_cells v es env (q ∷ qs) h =
     let head = All-head (λ p. Shows v p.first (cell_of (env_with es env p.variable) p.cell)) q qs h in

@@ -7,7 +7,7 @@ use Rattle.civl_bits.specs.declared.value.Value.{Value}
 use Rattle.civl_symbolic.specs.Symbolic.{Shows}
 use Rattle.civl_rows.specs.Cells.{cell_of}
 use Rattle.civl_blast.specs.declared.blasted.Place.{Place}
-use Rattle.civl_blast.specs.Standing.{Reads}
+use Rattle.civl_blast.specs.Standing.{ShowAll}
 use Rattle.civl_cnf.specs.Literal.{truth_of}
 use Rattle.civl_cnf.specs.ClauseSet.{Satisfies}
 use Rattle.civl_cnf.proofs.Satisfying.{all_true, Satisfies-from_all_true, all_true-from_Satisfies}
@@ -36,7 +36,7 @@ satisfiable_where_true ns id set places gives s = (
       (w.0, subst (Satisfies w.0) (sym s.clauses) (Satisfies-from_all_true w.0 (s.gates ++ (s.output ∷ []) ∷ []) all)),
 )
 
-same_reads : (v : ℕ → Bool) (env other : ℕ → Value) (places : List Place) → All (λ (p : Place). cell_of (env p.variable) p.cell ≡ cell_of (other p.variable) p.cell) places → Reads v places env → Reads v places other
+same_reads : (v : ℕ → Bool) (env other : ℕ → Value) (places : List Place) → All (λ (p : Place). cell_of (env p.variable) p.cell ≡ cell_of (other p.variable) p.cell) places → ShowAll v places env → ShowAll v places other
 same_reads v env other [] same h = All-nil (λ p. Shows v p.first (cell_of (other p.variable) p.cell))
 same_reads v env other (q ∷ qs) same h =
     let Same : Place → Type 0 = λ p. cell_of (env p.variable) p.cell ≡ cell_of (other p.variable) p.cell in

@@ -6,12 +6,12 @@ use Rattle.civl_cnf.specs.ClauseSet.{ClauseSet, Satisfies}
 use Rattle.civl_terms.specs.declared.node.Node.{Node}
 use Rattle.civl_terms.specs.Graphs.{Fits, value_at}
 use Rattle.civl_blast.specs.declared.blasted.Place.{Place}
-use Rattle.civl_blast.specs.Standing.{GivesValues, StandsFor, Reads}
+use Rattle.civl_blast.specs.Standing.{GivesValues, StandsFor, ShowAll}
 use Rattle.civl_rows.specs.Cells.{cell_of}
 
 -- bits that make the clauses true give values, through the places, that make the term true
 abbrev pub BitsGiveValues : Type 0
-BitsGiveValues = (ns : List Node) (id : ℕ) (set : ClauseSet) (places : List Place) → GivesValues ns places → StandsFor ns id set places → (v : ℕ → Bool) → Satisfies v set.clauses → (env : ℕ → Value) × Fits env ns × Reads v places env × IsTrue (is_true (value_at env ns id))
+BitsGiveValues = (ns : List Node) (id : ℕ) (set : ClauseSet) (places : List Place) → GivesValues ns places → StandsFor ns id set places → (v : ℕ → Bool) → Satisfies v set.clauses → (env : ℕ → Value) × Fits env ns × ShowAll v places env × IsTrue (is_true (value_at env ns id))
 
 -- a term has one truth value at values that agree on the cells with places: no other cell tells
 abbrev pub PlacesDecide : Type 0

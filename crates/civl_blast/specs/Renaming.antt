@@ -1,4 +1,4 @@
--- Places of cells, where variables stand for cells.
+-- For private functions alone: places of cells, where variables stand for cells.
 use Rattle.std.specs.Prelude.{◌≡◌, ℕ, ◌+◌, List, [], ◌∷◌, slice_get, Some, nat_eq, if◌then◌else◌}
 use Rattle.civl_rows.specs.declared.flat.Cell.{Cell}
 use Rattle.civl_blast.specs.declared.blasted.Place.{Place}

@@ -16,8 +16,8 @@ use Rattle.civl_rows.specs.Cells.{cell_of, cells_in}
 use Rattle.civl_blast.specs.declared.blasted.Place.{Place}
 
 -- at each place stand the bits of the cell of the variable's value
-abbrev pub Reads : (ℕ → Bool) → List Place → (ℕ → Value) → Type 0
-Reads v places env = All (λ p. Shows v p.first (cell_of (env p.variable) p.cell)) places
+abbrev pub ShowAll : (ℕ → Bool) → List Place → (ℕ → Value) → Type 0
+ShowAll v places env = All (λ p. Shows v p.first (cell_of (env p.variable) p.cell)) places
 
 -- the bits of each cell of a value of this sort
 abbrev pub cell_bits : Sort → ℕ
@@ -39,13 +39,13 @@ pub record StandsFor (ns : List Node) (id : ℕ) (set : ClauseSet) (places : Lis
   pub gates : List (List Literal)
   pub output : Literal
   pub clauses : set.clauses ≡ gates ++ (output ∷ []) ∷ []
-  pub some : (env : ℕ → Value) → Fits env ns → (v : ℕ → Bool) × Satisfies v gates × Reads v places env
-  pub one : (env : ℕ → Value) → Fits env ns → (v w : ℕ → Bool) → Satisfies v gates → Satisfies w gates → Reads v places env → Reads w places env → Agree set.variables v w
-  pub is : (env : ℕ → Value) → Fits env ns → (v : ℕ → Bool) → Satisfies v gates → Reads v places env → truth_of v output ≡ is_true (value_at env ns id)
+  pub some : (env : ℕ → Value) → Fits env ns → (v : ℕ → Bool) × Satisfies v gates × ShowAll v places env
+  pub one : (env : ℕ → Value) → Fits env ns → (v w : ℕ → Bool) → Satisfies v gates → Satisfies w gates → ShowAll v places env → ShowAll w places env → Agree set.variables v w
+  pub is : (env : ℕ → Value) → Fits env ns → (v : ℕ → Bool) → Satisfies v gates → ShowAll v places env → truth_of v output ≡ is_true (value_at env ns id)
 
 -- bits give values: any bits are at each place those of some values
 abbrev pub GivesValues : List Node → List Place → Type 0
-GivesValues ns places = (v : ℕ → Bool) → (env : ℕ → Value) × Fits env ns × Reads v places env
+GivesValues ns places = (v : ℕ → Bool) → (env : ℕ → Value) × Fits env ns × ShowAll v places env
 
 -- at most so many variables, and eight clauses for each, and two more
 pub record IsSmall (set : ClauseSet) (most : ℕ) : Type 0 where

@@ -1,4 +1,4 @@
--- How a term's nodes are gone over, the first ones first.
+-- For private functions alone: how a term's nodes are gone over, the first ones first.
 use Rattle.std.specs.Prelude.{◌≡◌, ℕ, zero, suc, ◌+◌, ◌*◌, ◌<◌, ◌≤◌, List, [], ◌∷◌, ◌++◌, length, get_or, slice_get, Bool, true, false, Option, None, Some, IsTrue}
 use Rattle.civl_bits.specs.declared.value.Value.{Value}
 use Rattle.civl_tree.specs.declared.expr.Sort.{Sort}

@@ -77,6 +77,10 @@ fn gates_of(
 /// Clauses that stand for a boolean term that reaches no row.
 ///
 /// It uses at most two variables for each unit of the term's weight, and two more.
+///
+/// # Errors
+///
+/// For want of memory.
 pub fn blast_flat(alloc: Global, terms: &Terms, id: Id) -> Result<Blasted, Memory>
     requires within { id < length terms.now }
     requires truth { sort_at terms.now id ≡ Some sort.Bool }

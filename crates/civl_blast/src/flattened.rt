@@ -54,6 +54,10 @@ fn places_of_cells(alloc: Global, cells: &[Cell], places: &[Place]) -> Result<Ve
 /// The term weighs at most 1,600,000, and the graph's variables have numbers below 2^31. It uses at most four variables for each unit of the term's weight, and two more. The graph grows by a term without rows that has the same value, also where memory is wanting.
 ///
 /// Each place is that of a cell of one of the graph's variables. A cell on which the term doesn't stand once its constants are folded may have no place; then its value doesn't matter to the term (`laws`).
+///
+/// # Errors
+///
+/// For want of memory. The nodes that the graph had stay, also then.
 pub fn blast(alloc: Global, terms: &mut Terms, id: Id) -> Result<Blasted, Memory>
     requires within { id < length terms.old }
     requires truth { sort_at terms.old id ≡ Some sort.Bool }

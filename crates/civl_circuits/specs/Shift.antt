@@ -1,4 +1,4 @@
--- Shifts in either direction.
+-- For private functions alone: shifts in either direction.
 use Rattle.std.specs.Prelude.{ℕ, ◌-◌, List, ◌++◌, length, take, drop, replicate}
 use Rattle.civl_bits.specs.Word.{left_shift_at, right_shift_at}
 use Rattle.civl_cnf.specs.Literal.{Literal}

@@ -12,6 +12,10 @@ use civl_cnf::{Gates, Lit, Memory};
 use std::alloc::Global;
 
 /// The sum of two words and a bit, not cut: its top bit is the carry (a ripple-carry adder). It takes two variables for each bit of the words.
+///
+/// # Errors
+///
+/// For want of memory. The clauses that the gates then have still extend the old ones in exactly one way.
 #[tactic(auto, using(crate::proofs::Words::extending))]
 pub fn add_with_carry(
     gates: &mut Gates,
@@ -41,6 +45,10 @@ pub fn add_with_carry(
 }
 
 /// The sum of two words modulo 2 to their width. It takes two variables for each bit.
+///
+/// # Errors
+///
+/// For want of memory. The clauses that the gates then have still extend the old ones in exactly one way.
 #[tactic(auto, using(crate::proofs::Words::extending))]
 pub fn add(
     gates: &mut Gates,
@@ -64,6 +72,10 @@ pub fn add(
 }
 
 /// The difference of two words modulo 2 to their width, by adding the opposite bits and 1. It takes two variables for each bit.
+///
+/// # Errors
+///
+/// For want of memory. The clauses that the gates then have still extend the old ones in exactly one way.
 #[tactic(auto, using(crate::proofs::Words::extending))]
 pub fn subtract(
     gates: &mut Gates,
@@ -88,6 +100,10 @@ pub fn subtract(
 }
 
 /// The negative of a word modulo 2 to its width. It takes two variables for each bit.
+///
+/// # Errors
+///
+/// For want of memory. The clauses that the gates then have still extend the old ones in exactly one way.
 #[tactic(auto, using(crate::proofs::Words::extending))]
 pub fn negate(gates: &mut Gates, alloc: Global, one: Lit, a: &[Lit]) -> Result<Vec<Lit>, Memory>
     requires room { gates.old.variables + 2 * length a.now ≤ 2 ^ 30 }

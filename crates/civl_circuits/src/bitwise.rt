@@ -11,6 +11,10 @@ use civl_cnf::{Gates, Lit, Memory};
 use std::alloc::Global;
 
 /// The word whose bits are 1 where both are. It takes as many variables as the words have bits.
+///
+/// # Errors
+///
+/// For want of memory. The clauses that the gates then have still extend the old ones in exactly one way.
 #[tactic(auto, using(crate::proofs::Words::extending))]
 pub fn bitwise_and(
     gates: &mut Gates,
@@ -35,6 +39,10 @@ pub fn bitwise_and(
 }
 
 /// The word whose bits are 1 where one of them is. It takes as many variables as the words have bits.
+///
+/// # Errors
+///
+/// For want of memory. The clauses that the gates then have still extend the old ones in exactly one way.
 #[tactic(auto, using(crate::proofs::Words::extending))]
 pub fn bitwise_or(
     gates: &mut Gates,
@@ -59,6 +67,10 @@ pub fn bitwise_or(
 }
 
 /// The word whose bits are 1 where exactly one of them is. It takes as many variables as the words have bits.
+///
+/// # Errors
+///
+/// For want of memory. The clauses that the gates then have still extend the old ones in exactly one way.
 #[tactic(auto, using(crate::proofs::Words::extending))]
 pub fn bitwise_xor(
     gates: &mut Gates,
@@ -83,6 +95,10 @@ pub fn bitwise_xor(
 }
 
 /// The word of the opposite bits: `not` of each literal, with no variable.
+///
+/// # Errors
+///
+/// For want of memory.
 pub fn complement(alloc: Global, a: &[Lit]) -> Result<Vec<Lit>, Memory>
     ensures word { IfOk result (λ word. word.items ≡ map opposite a.now) }
     ensures value { IfOk result (λ word. (v : ℕ → Bool) → number v word.items ≡ complement_at (length a.now) (number v a.now)) }

@@ -9,6 +9,10 @@ use civl_cnf::{Gates, Lit, Memory};
 use std::alloc::Global;
 
 /// The first word where `c` is true, and the second elsewhere. It takes as many variables as the words have bits.
+///
+/// # Errors
+///
+/// For want of memory. The clauses that the gates then have still extend the old ones in exactly one way.
 #[tactic(auto, using(crate::proofs::Words::extending))]
 pub fn choose(
     gates: &mut Gates,

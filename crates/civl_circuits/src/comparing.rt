@@ -11,6 +11,10 @@ use civl_cnf::{Gates, Lit, Memory};
 use std::alloc::Global;
 
 /// Whether the first word is less: their difference has no carry. It takes two variables for each bit.
+///
+/// # Errors
+///
+/// For want of memory. The clauses that the gates then have still extend the old ones in exactly one way.
 #[tactic(auto, using(crate::proofs::Words::extending))]
 pub fn less(gates: &mut Gates, alloc: Global, one: Lit, a: &[Lit], b: &[Lit]) -> Result<Lit, Memory>
     requires room { gates.old.variables + 2 * length a.now ≤ 2 ^ 30 }
@@ -29,6 +33,10 @@ pub fn less(gates: &mut Gates, alloc: Global, one: Lit, a: &[Lit], b: &[Lit]) ->
 }
 
 /// Whether the first word is less or the same. It takes two variables for each bit.
+///
+/// # Errors
+///
+/// For want of memory. The clauses that the gates then have still extend the old ones in exactly one way.
 #[tactic(auto, using(crate::proofs::Words::extending))]
 pub fn less_or_equal(
     gates: &mut Gates,
@@ -63,6 +71,10 @@ fn with_top_flipped(alloc: Global, a: &[Lit]) -> Result<Vec<Lit>, Memory>
 }
 
 /// Whether the first word is less by two's complement. It takes two variables for each bit. The words have a bit at least.
+///
+/// # Errors
+///
+/// For want of memory. The clauses that the gates then have still extend the old ones in exactly one way.
 #[tactic(auto, using(crate::proofs::Words::extending))]
 pub fn signed_less(
     gates: &mut Gates,
@@ -88,6 +100,10 @@ pub fn signed_less(
 }
 
 /// Whether the first word is less or the same by two's complement. It takes two variables for each bit. The words have a bit at least.
+///
+/// # Errors
+///
+/// For want of memory. The clauses that the gates then have still extend the old ones in exactly one way.
 #[tactic(auto, using(crate::proofs::Words::extending))]
 pub fn signed_less_or_equal(
     gates: &mut Gates,

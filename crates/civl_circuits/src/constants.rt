@@ -6,6 +6,10 @@ use civl_cnf::{Clause, Cnf, Gates, Lit, Memory};
 use std::alloc::Global;
 
 /// The clause set that circuits grow from: so many variables of which nothing is said, at most 2^30, and a literal of one more that is always true.
+///
+/// # Errors
+///
+/// For want of memory.
 pub fn start(alloc: Global, inputs: u32) -> Result<(Gates, Lit), Memory>
     requires { inputs ≤ 2 ^ 30 }
     ensures { IfOk result (λ start. IsStart inputs start.0 start.1) }

@@ -60,6 +60,10 @@ fn divide_step(
 }
 
 /// The quotient of two words, rounded down, and the remainder, by restoring division; by 0 the quotient has all bits, and the remainder is the first word. It takes three variables for each pair of bits, and two more for each bit.
+///
+/// # Errors
+///
+/// For want of memory. The clauses that the gates then have still extend the old ones in exactly one way.
 #[tactic(auto, using(crate::proofs::Words::extending))]
 pub fn divide(
     gates: &mut Gates,

@@ -7,6 +7,10 @@ ghost use Rattle.civl_circuits.specs.Circuits.{number, IsOne, MakesBit};
 use civl_cnf::{Gates, Lit, Memory};
 
 /// Whether two words are the same. It takes two variables for each bit.
+///
+/// # Errors
+///
+/// For want of memory. The clauses that the gates then have still extend the old ones in exactly one way.
 #[tactic(auto, using(crate::proofs::Words::extending))]
 pub fn equal(gates: &mut Gates, one: Lit, a: &[Lit], b: &[Lit]) -> Result<Lit, Memory>
     requires room { gates.old.variables + 2 * length a.now ≤ 2 ^ 30 }
@@ -27,6 +31,10 @@ pub fn equal(gates: &mut Gates, one: Lit, a: &[Lit], b: &[Lit]) -> Result<Lit, M
 }
 
 /// Whether a word is 0. It takes a variable for each bit.
+///
+/// # Errors
+///
+/// For want of memory. The clauses that the gates then have still extend the old ones in exactly one way.
 #[tactic(auto, using(crate::proofs::Words::extending))]
 pub fn is_zero(gates: &mut Gates, one: Lit, a: &[Lit]) -> Result<Lit, Memory>
     requires room { gates.old.variables + length a.now ≤ 2 ^ 30 }

@@ -6,6 +6,10 @@ ghost use Rattle.civl_cnf.specs.Gates.{Extends, IsGate, xor};
 use civl_cnf::{Gates, Lit, Memory};
 
 /// A literal that is true where one of the two is. It takes one variable.
+///
+/// # Errors
+///
+/// For want of memory. The clauses that the gates then have still extend the old ones in exactly one way.
 pub fn or(gates: &mut Gates, a: Lit, b: Lit) -> Result<Lit, Memory>
     requires room { gates.old.variables ≤ 2 ^ 30 }
     requires a { a.variable < gates.old.variables }
@@ -21,6 +25,10 @@ pub fn or(gates: &mut Gates, a: Lit, b: Lit) -> Result<Lit, Memory>
 }
 
 /// A literal that is true where `a` is false or `b` is true. It takes one variable.
+///
+/// # Errors
+///
+/// For want of memory. The clauses that the gates then have still extend the old ones in exactly one way.
 pub fn implies(gates: &mut Gates, a: Lit, b: Lit) -> Result<Lit, Memory>
     requires room { gates.old.variables ≤ 2 ^ 30 }
     requires a { a.variable < gates.old.variables }
@@ -35,6 +43,10 @@ pub fn implies(gates: &mut Gates, a: Lit, b: Lit) -> Result<Lit, Memory>
 }
 
 /// A literal that is true where the two have one truth value. It takes one variable.
+///
+/// # Errors
+///
+/// For want of memory. The clauses that the gates then have still extend the old ones in exactly one way.
 pub fn iff(gates: &mut Gates, a: Lit, b: Lit) -> Result<Lit, Memory>
     requires room { gates.old.variables ≤ 2 ^ 30 }
     requires a { a.variable < gates.old.variables }

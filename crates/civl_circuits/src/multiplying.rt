@@ -42,6 +42,10 @@ fn add_moved(
 }
 
 /// The product of two words modulo 2 to their width, by shifts and sums. It takes three variables for each pair of bits.
+///
+/// # Errors
+///
+/// For want of memory. The clauses that the gates then have still extend the old ones in exactly one way.
 #[tactic(auto, using(crate::proofs::Words::extending))]
 pub fn multiply(
     gates: &mut Gates,

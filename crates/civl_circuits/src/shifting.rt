@@ -20,6 +20,10 @@ pub(crate) enum Direction {
 }
 
 /// The word where the bit is true, else 0. It takes as many variables as the word has bits.
+///
+/// # Errors
+///
+/// For want of memory. The clauses that the gates then have still extend the old ones in exactly one way.
 #[tactic(auto, using(crate::proofs::Words::extending))]
 pub fn mask(gates: &mut Gates, alloc: Global, c: Lit, a: &[Lit]) -> Result<Vec<Lit>, Memory>
     requires room { gates.old.variables + length a.now ≤ 2 ^ 30 }
@@ -145,6 +149,10 @@ fn shift(
 }
 
 /// The word moved up by the number of another of the same width, at most 32 bits; 0 from the width on. It takes at most seven variables for each bit.
+///
+/// # Errors
+///
+/// For want of memory. The clauses that the gates then have still extend the old ones in exactly one way.
 #[tactic(auto, using(crate::proofs::Words::extending))]
 pub fn shift_left(
     gates: &mut Gates,
@@ -168,6 +176,10 @@ pub fn shift_left(
 }
 
 /// The word moved down by the number of another of the same width, at most 32 bits; 0 from the width on. It takes at most seven variables for each bit.
+///
+/// # Errors
+///
+/// For want of memory. The clauses that the gates then have still extend the old ones in exactly one way.
 #[tactic(auto, using(crate::proofs::Words::extending))]
 pub fn shift_right(
     gates: &mut Gates,
@@ -191,6 +203,10 @@ pub fn shift_right(
 }
 
 /// The word moved down by the number of another of the same width, 1 to 32 bits, with copies of the top bit above. It takes at most nine variables for each bit.
+///
+/// # Errors
+///
+/// For want of memory. The clauses that the gates then have still extend the old ones in exactly one way.
 #[tactic(auto, using(crate::proofs::Words::extending))]
 pub fn arithmetic_shift_right(
     gates: &mut Gates,

@@ -20,6 +20,10 @@ pub(crate) fn repeated(alloc: Global, lit: Lit, count: usize) -> Result<Vec<Lit>
 }
 
 /// The word of so many bits that is always this number, cut to the width. `one` is a literal that is always true.
+///
+/// # Errors
+///
+/// For want of memory.
 pub fn constant(alloc: Global, one: Lit, width: u32, value: u32) -> Result<Vec<Lit>, Memory>
     ensures { IfOk result (λ word. IsConstantWord one word.items width (value % 2 ^ width)) }
 {
@@ -41,6 +45,10 @@ fn digit(one: Lit, zero: Lit, number: u32) -> Lit
 }
 
 /// The bits `high` down to `low`, with no variable; `high` is below the width.
+///
+/// # Errors
+///
+/// For want of memory.
 pub fn slice(alloc: Global, a: &[Lit], high: usize, low: usize) -> Result<Vec<Lit>, Memory>
     requires order { low ≤ high }
     requires within { high < length a.now }
@@ -53,6 +61,10 @@ pub fn slice(alloc: Global, a: &[Lit], high: usize, low: usize) -> Result<Vec<Li
 }
 
 /// The word with zeros above, up to `width` bits, with no variable. `one` is a literal that is always true.
+///
+/// # Errors
+///
+/// For want of memory.
 pub fn widen(alloc: Global, one: Lit, a: &[Lit], width: usize) -> Result<Vec<Lit>, Memory>
     requires { length a.now ≤ width }
     ensures word { IfOk result (λ word. word.items ≡ a.now ++ replicate (width - length a.now) (opposite one)) }
@@ -64,6 +76,10 @@ pub fn widen(alloc: Global, one: Lit, a: &[Lit], width: usize) -> Result<Vec<Lit
 }
 
 /// The bits of the first word above those of the second, with no variable.
+///
+/// # Errors
+///
+/// For want of memory.
 pub fn join(alloc: Global, high: &[Lit], low: &[Lit]) -> Result<Vec<Lit>, Memory>
     ensures word { IfOk result (λ word. word.items ≡ low.now ++ high.now) }
     ensures value { IfOk result (λ word. (v : ℕ → Bool) → number v word.items ≡ concatenation_at (length low.now) (number v high.now) (number v low.now)) }

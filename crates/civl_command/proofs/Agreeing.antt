@@ -1,17 +1,16 @@
 -- An input calls for one outcome, but for the values that violate a condition.
-use Rattle.std.proofs.Common.{◌≡◌, ℕ, ◌<◌, ◌≤◌, ◌⊎◌, inl, inr, List, [], ◌∷◌, ◌++◌, length, refl, sym, ap, ap₂, ◌∙◌, subst, arith, Result, Ok, Err}
-use Rattle.std.specs.Prelude.{Option, Some}
+use Rattle.std.proofs.Common.{◌≡◌, ℕ, ◌≤◌, inl, inr, List, [], ◌∷◌, ◌++◌, length, refl, sym, ap, ap₂, ◌∙◌, subst, arith, Result, Ok, Err}
+use Rattle.std.specs.Prelude.{Some}
 use Rattle.civl_tree.specs.declared.program.Program.{Program}
 use Rattle.civl_tree.specs.declared.refusal.Refusal.{Refusal}
 use Rattle.civl_tree.specs.declared.script.Script.{Script}
-use Rattle.civl_tree.specs.rules.Refusals.{first_of}
+use Rattle.civl_tree.specs.rules.Rules.{first_of}
 use Rattle.civl_meaning.specs.declared.config.Plain.{Plain}
 use Rattle.civl_firing.specs.declared.store.Store.{Store}
 use Rattle.civl_meaning.specs.declared.config.Move.{Move}
 use Rattle.civl_meaning.specs.Layers.{lowest, topmost}
 use Rattle.civl_run.specs.Trace.{trace_of}
 use Rattle.civl_run.specs.declared.trace.Trace.{Trace}
-use Rattle.civl_script.specs.declared.schedule.Schedule.{Schedule}
 use Rattle.civl_script.specs.declared.schedule.Schedule.TheVariants.{Fits, Wrong}
 use Rattle.civl_script.proofs.Only.{one_schedule}
 use Rattle.civl_flag.specs.Conditions.{conditions_of}
@@ -23,8 +22,9 @@ use Rattle.civl_flag.specs.declared.condition.Verdict.{Verdict}
 use Rattle.civl_flag.specs.declared.condition.Verdict.TheVariants.{Accepted, Rejected as RejectedBy, NoInitial}
 use Rattle.civl_command.specs.Report.{accepted_text, rejected_heading}
 use Rattle.civl_command.specs.Rules.{static_refusal, IsLawful}
-use Rattle.civl_command.specs.Texts.{IsReading, IsScriptReading}
-use Rattle.civl_command.specs.Outcome.{Outcome, TooLong, Unread, Untaken, Broken, Judged, Printed, Misfit, Ran, Checks, Runs, RunsBy, ChecksRead, PrintsRead, RunsRead, Finds, FindsBy, CallsFor, status_of, heading_of, limit}
+use Rattle.civl_command.specs.Texts.{IsScriptReading}
+use Rattle.civl_command.specs.Outcome.{Outcome, TooLong, Unread, Untaken, Broken, Judged, Printed, Misfit, Ran, Checks, Runs, RunsBy, ChecksRead, PrintsRead, RunsRead, Finds, FindsBy, limit}
+use Rattle.civl_command.specs.Laws.{AreAlike, EachInputIsAnsweredOnce}
 use Rattle.civl_command.specs.declared.reader.Fault.{Fault}
 use Rattle.civl_command.specs.declared.words.Command.{Command}
 use Rattle.civl_command.specs.declared.words.Command.TheVariants.{Check, Fmt, RunLow, RunTop}
@@ -58,12 +58,7 @@ one_first program (x ∷ b1) [] a1 a2 c1 c2 e h1 h2 n1 n2 =
 one_first program (x ∷ b1) (y ∷ b2) a1 a2 c1 c2 e h1 h2 n1 n2 =
     let rest : b1 ++ c1 ∷ a1 ≡ b2 ++ c2 ∷ a2 = cc in one_first program b1 b2 a1 a2 c1 c2 rest h1.1 h2.1 n1 n2
 
--- two outcomes have one status, and reports that begin with one line
-pub record Agree (first second : Outcome) : Type 0 where
-  pub status : status_of first ≡ status_of second
-  pub heading : heading_of first ≡ heading_of second
-
-verdicts_agree : (program : Program) (first second : Verdict) → IsRight program first → IsRight program second → Agree (Judged program first) (Judged program second)
+verdicts_agree : (program : Program) (first second : Verdict) → IsRight program first → IsRight program second → AreAlike (Judged program first) (Judged program second)
 verdicts_agree program (Accepted m) (Accepted n) a b = record { status = refl; heading = ap accepted_text (a.2 ∙ sym b.2) }
 verdicts_agree program (Accepted m) (RejectedBy counter) a b = absurd (not_all program counter a.1 b.1)
 verdicts_agree program (Accepted m) NoInitial a b = absurd (b a.0.0 a.0.1)
@@ -78,13 +73,13 @@ verdicts_agree program NoInitial (Accepted n) a b = absurd (a b.0.0 b.0.1)
 verdicts_agree program NoInitial (RejectedBy counter) a b = absurd (a b.0.0 b.0.1)
 verdicts_agree program NoInitial NoInitial a b = record { status = refl; heading = refl }
 
-same_agree : {first second : Outcome} → first ≡ second → Agree first second
-same_agree {first} e = subst (λ (o : Outcome). Agree first o) e (record { status = refl; heading = refl })
+same_agree : {first second : Outcome} → first ≡ second → AreAlike first second
+same_agree {first} e = subst (λ (o : Outcome). AreAlike first o) e (record { status = refl; heading = refl })
 
 judged_agree : (program judged other : Program) (verdict found : Verdict) → judged ≡ program → other ≡ program
-    → Agree (Judged program verdict) (Judged program found) → Agree (Judged judged verdict) (Judged other found)
+    → AreAlike (Judged program verdict) (Judged program found) → AreAlike (Judged judged verdict) (Judged other found)
 judged_agree program judged other verdict found is other_is agree =
-    subst (λ (p : Program). Agree (Judged p verdict) (Judged other found)) (sym is) (subst (λ (q : Program). Agree (Judged program verdict) (Judged q found)) (sym other_is) agree)
+    subst (λ (p : Program). AreAlike (Judged p verdict) (Judged other found)) (sym is) (subst (λ (q : Program). AreAlike (Judged program verdict) (Judged q found)) (sym other_is) agree)
 
 -- ---- refusals and schedules
 
@@ -115,7 +110,7 @@ one_trace plain script first second a b =
 
 -- ---- what is found of a program and of a script
 
-one_check : (program : Program) (first second : Outcome) → Checks program first → Checks program second → Agree first second
+one_check : (program : Program) (first second : Outcome) → Checks program first → Checks program second → AreAlike first second
 one_check program TooLong second a b = absurd a
 one_check program (Unread fault) second a b = absurd a
 one_check program (Printed printed) second a b = absurd a
@@ -146,7 +141,7 @@ one_check program (Judged judged verdict) (Printed printed2) a b = absurd b
 one_check program (Judged judged verdict) (Misfit number2) a b = absurd b
 one_check program (Judged judged verdict) (Ran ran2 trace2) a b = absurd b
 
-one_run : (plain_of : Program → Plain) (script : Script) (first second : Outcome) → Runs plain_of script first → Runs plain_of script second → Agree first second
+one_run : (plain_of : Program → Plain) (script : Script) (first second : Outcome) → Runs plain_of script first → Runs plain_of script second → AreAlike first second
 one_run plain_of script TooLong second a b = absurd a
 one_run plain_of script (Unread fault) second a b = absurd a
 one_run plain_of script Untaken second a b = absurd a
@@ -179,26 +174,26 @@ one_run plain_of script (Ran ran trace) (Ran ran2 trace2) a b = same_agree (ap�
 
 -- ---- what is found of an input
 
-both_same : (first second third : Outcome) → first ≡ third → second ≡ third → Agree first second
+both_same : (first second third : Outcome) → first ≡ third → second ≡ third → AreAlike first second
 both_same first second third a b = same_agree (a ∙ sym b)
 
-check_read : (reading : Result Program Fault) (first second : Outcome) → ChecksRead reading first → ChecksRead reading second → Agree first second
+check_read : (reading : Result Program Fault) (first second : Outcome) → ChecksRead reading first → ChecksRead reading second → AreAlike first second
 check_read (Ok program) first second a b = one_check program first second a b
 check_read (Err fault) first second a b = both_same first second (Unread fault) a b
 
-print_read : (reading : Result Program Fault) (first second : Outcome) → PrintsRead reading first → PrintsRead reading second → Agree first second
+print_read : (reading : Result Program Fault) (first second : Outcome) → PrintsRead reading first → PrintsRead reading second → AreAlike first second
 print_read (Ok program) first second a b = both_same first second (Printed program) a b
 print_read (Err fault) first second a b = both_same first second (Unread fault) a b
 
-run_read : (plain_of : Program → Plain) (reading : Result Script Fault) (first second : Outcome) → RunsRead plain_of reading first → RunsRead plain_of reading second → Agree first second
+run_read : (plain_of : Program → Plain) (reading : Result Script Fault) (first second : Outcome) → RunsRead plain_of reading first → RunsRead plain_of reading second → AreAlike first second
 run_read plain_of (Ok script) first second a b = one_run plain_of script first second a b
 run_read plain_of (Err fault) first second a b = both_same first second (Unread fault) a b
 
-run_found : (plain_of : Program → Plain) (input : List ℕ) (first second : Outcome) → Finds IsScriptReading (RunsRead plain_of) input first → Finds IsScriptReading (RunsRead plain_of) input second → Agree first second
+run_found : (plain_of : Program → Plain) (input : List ℕ) (first second : Outcome) → Finds IsScriptReading (RunsRead plain_of) input first → Finds IsScriptReading (RunsRead plain_of) input second → AreAlike first second
 run_found plain_of input first second a b =
     run_read plain_of b.reading first second (subst (λ (r : Result Script Fault). RunsRead plain_of r first) (one_script_reading input a.reading b.reading a.read b.read) a.says) b.says
 
-one_found : (command : Command) (input : List ℕ) (first second : Outcome) → FindsBy command input first → FindsBy command input second → Agree first second
+one_found : (command : Command) (input : List ℕ) (first second : Outcome) → FindsBy command input first → FindsBy command input second → AreAlike first second
 one_found Check input first second a b =
     check_read b.reading first second (subst (λ (r : Result Program Fault). ChecksRead r first) (one_reading input a.reading b.reading a.read b.read) a.says) b.says
 one_found Fmt input first second a b =
@@ -212,7 +207,7 @@ found_short Fmt input outcome h = h.short
 found_short RunLow input outcome h = h.short
 found_short RunTop input outcome h = h.short
 
-pub one_outcome : (command : Command) (input : List ℕ) (first second : Outcome) → CallsFor command input first → CallsFor command input second → Agree first second
+pub one_outcome : EachInputIsAnsweredOnce
 one_outcome command input first second (inl a) (inl b) = both_same first second TooLong a.0 b.0
 one_outcome command input first second (inl a) (inr b) = absurd (omega (arith, a.1, found_short command input second b))
 one_outcome command input first second (inr a) (inl b) = absurd (omega (arith, b.1, found_short command input first a))

@@ -1,12 +1,8 @@
 -- From what is found of a program or a script to what is found of its text, and from there to what was read.
-use Rattle.std.proofs.Common.{◌≡◌, ℕ, ◌<◌, ◌≤◌, ◌⊎◌, inl, inr, List, length, refl, sym, subst, Result, Ok, Err}
-use Rattle.civl_tree.specs.declared.program.Program.{Program}
-use Rattle.civl_tree.specs.declared.script.Script.{Script}
-use Rattle.civl_meaning.specs.declared.config.Plain.{Plain}
+use Rattle.std.proofs.Common.{◌≡◌, ℕ, ◌≤◌, ◌⊎◌, inl, inr, List, length, refl, sym, subst, Result}
 use Rattle.civl_command.specs.Words.{words_of}
-use Rattle.civl_command.specs.Texts.{IsReading, IsScriptReading}
-use Rattle.civl_command.specs.Outcome.{Outcome, TooLong, Unread, Checks, Runs, ChecksRead, PrintsRead, RunsRead, Finds, FindsBy, status_of, report_of, limit}
-use Rattle.civl_command.specs.Judge.{ReadState, ReadsPast, ReadsText, Reads, WantsMemory, Answers, JudgesInput, Judges}
+use Rattle.civl_command.specs.Outcome.{Outcome, TooLong, Finds, FindsBy, status_of, report_of, limit}
+use Rattle.civl_command.specs.Judge.{ReadState, ReadsPast, ReadsText, WantsMemory, Answers, Judges}
 use Rattle.civl_command.specs.declared.reader.Fault.{Fault}
 use Rattle.civl_command.specs.declared.status.Status.{Status}
 use Rattle.civl_command.specs.declared.words.Command.{Command}

@@ -1,28 +1,36 @@
 -- What a lawful program is, and that a text spells a program whose parts have numbers.
-use Rattle.std.proofs.Common.{◌≡◌, ℕ, ◌+◌, ◌<◌, ◌≤◌, ◌^◌, List, [], ◌∷◌, ◌++◌, length, refl, ap, ◌∙◌, sym, arith}
-use Rattle.std.specs.Prelude.{Option, None, Some}
+use Rattle.std.proofs.Common.{ℕ, ◌+◌, ◌<◌, ◌≤◌, ◌^◌, List, ◌++◌, length, arith}
+use Rattle.std.specs.Prelude.{Option}
 use Rattle.civl_tree.specs.declared.program.Program.{Program}
 use Rattle.civl_tree.specs.declared.refusal.Refusal.{Refusal}
+use Rattle.civl_tree.specs.declared.refusal.Refused.{Refused}
+use Rattle.civl_tree.specs.declared.refusal.Refused.TheVariants.{At, Memory}
 use Rattle.civl_tree.specs.declared.script.Script.{Script}
-use Rattle.civl_tree.specs.rules.Refusals.{refusals, refusal_of, first_of}
-use Rattle.civl_types.proofs.Walking.{or_first, first_append}
-use Rattle.civl_types.specs.Numbered.{IsNumbered}
-use Rattle.civl_layers.specs.Rules.{refusals_by, Keeps}
-use Rattle.civl_layers.proofs.Finding.{none_first}
-use Rattle.civl_layers.proofs.Kept.{both_empty}
-use Rattle.civl_layers.specs.Layered.{layer_rules, layer_refusal}
-use Rattle.civl_verify.specs.Admitted.{admission_rules, admission_refusal}
+use Rattle.civl_tree.specs.Numbered.{IsNumbered}
+use Rattle.civl_tree.specs.rules.Rules.{refusal_by, Keeps}
+use Rattle.civl_tree.specs.rules.Typing.{typing_rules}
+use Rattle.civl_types.specs.Checked.{IsCause}
+use Rattle.civl_layers.specs.LayerRules.{layer_rules}
+use Rattle.civl_layers.specs.Layered.{IsAt}
+use Rattle.civl_verify.specs.Admitted.{admission_rules}
+use Rattle.civl_verify.proofs.Admitting.{keeps_both, keeps_first, keeps_second, cause_of_first, cause_of_second}
 use Rattle.civl_flag.specs.Verdicts.{IsFlagProgram}
-use Rattle.civl_command.specs.Rules.{static_refusals, static_refusal, IsLawful, IsTaken}
+use Rattle.civl_command.specs.Rules.{static_refusal, IsLawful, IsTaken}
 use Rattle.civl_script.proofs.Counting.{text_numbers, script_numbers, script_counts}
 use Rattle.civl_command.specs.Texts.{SpellsProgram, SpellsScript}
 use Rattle.civl_command.specs.Outcome.{limit}
 
 pub taken_is_flag : (program : Program) → IsTaken program → IsNumbered program → IsFlagProgram program
 taken_is_flag program taken numbered =
-    let types = both_empty (refusals program) (refusals_by layer_rules program ++ refusals_by admission_rules program) taken.rules in
-    let layers = both_empty (refusals_by layer_rules program) (refusals_by admission_rules program) types.1 in
-    record { form = taken.form; rules = record { rules = types.0; layers = layers.0; numbered = numbered } }
+    let rest = keeps_second typing_rules (layer_rules ++ admission_rules) program taken.rules in
+    record {
+      form = taken.form;
+      rules = record {
+        rules = keeps_first typing_rules (layer_rules ++ admission_rules) program taken.rules;
+        layers = keeps_first layer_rules admission_rules program rest;
+        numbered = numbered;
+      };
+    }
 
 pub text_numbered : (bytes : List ℕ) (program : Program) → SpellsProgram bytes program → length bytes ≤ limit → IsNumbered program
 text_numbered bytes program h short = text_numbers bytes h.spells.tokens program h.spells.has h.spells.spelled short
@@ -34,17 +42,25 @@ script_numbered bytes script h short = script_numbers bytes h.spells.tokens scri
 pub script_few : (bytes : List ℕ) (script : Script) → SpellsScript bytes script → length bytes ≤ limit → length script.program.threads + length script.moves + 1 < 2 ^ 32
 script_few bytes script h short = omega (arith, script_counts bytes h.spells.tokens script h.spells.has h.spells.spelled, short)
 
--- ---- the first rule that is broken, stage by stage
+-- a program that keeps the rules of each stage keeps all
+pub lawful : (program : Program) → Keeps typing_rules program → Keeps layer_rules program → Keeps admission_rules program → IsLawful program
+lawful program types layers admission = keeps_both typing_rules (layer_rules ++ admission_rules) program types (keeps_both layer_rules admission_rules program layers admission)
 
-later : {A : Type 0} (xs ys : List A) → first_of xs ≡ None → first_of (xs ++ ys) ≡ first_of ys
-later xs ys h = first_append xs ys ∙ ap (λ o. or_first o (first_of ys)) h
+-- ---- a program that isn't lawful, stage by stage
 
-module _ (program : Program) where
-  pub at_admission : (refusal : Option Refusal) → refusal_of program ≡ None → layer_refusal program ≡ None → admission_refusal program ≡ refusal → static_refusal program ≡ refusal
-  at_admission refusal names layers h =
-      later (refusals program) (refusals_by layer_rules program ++ refusals_by admission_rules program) names
-      ∙ later (refusals_by layer_rules program) (refusals_by admission_rules program) layers
-      ∙ h
+cause_at : (wanted : Option Refusal) (refused : Refused) → IsAt wanted refused → IsCause wanted refused
+cause_at wanted (At refusal) e = e
+cause_at wanted Memory e = absurd e
 
-  pub lawful : refusal_of program ≡ None → layer_refusal program ≡ None → admission_refusal program ≡ None → IsLawful program
-  lawful names layers admission = none_first (static_refusals program) (at_admission None names layers admission)
+pub by_types : (program : Program) (refused : Refused) → IsCause (refusal_by typing_rules program) refused → IsCause (static_refusal program) refused
+by_types program refused e = cause_of_first typing_rules (layer_rules ++ admission_rules) program refused e
+
+pub by_layers : (program : Program) (refused : Refused) → Keeps typing_rules program → IsAt (refusal_by layer_rules program) refused → IsCause (static_refusal program) refused
+by_layers program refused types e =
+    cause_of_second typing_rules (layer_rules ++ admission_rules) program refused types
+    (cause_of_first layer_rules admission_rules program refused (cause_at (refusal_by layer_rules program) refused e))
+
+pub by_admission : (program : Program) (refused : Refused) → Keeps typing_rules program → Keeps layer_rules program → IsCause (refusal_by admission_rules program) refused → IsCause (static_refusal program) refused
+by_admission program refused types layers e =
+    cause_of_second typing_rules (layer_rules ++ admission_rules) program refused types
+    (cause_of_second layer_rules admission_rules program refused layers e)

@@ -1,5 +1,6 @@
 pub mod Lawful
 pub mod Agreeing
+pub mod Answering
 pub mod Values
 pub mod Promising
 pub mod Reading

@@ -1,6 +1,6 @@
 -- From what each status says of the source and the sink, whatever they tell, to what is promised where they tell their
 -- bytes.
-use Rattle.std.proofs.Common.{◌≡◌, ◌≢◌, ℕ, ◌+◌, ◌<◌, ◌≤◌, ◌⊎◌, inl, inr, List, [], ◌∷◌, ◌++◌, length, length-append, append-nil, refl, sym, ap, ◌∙◌, subst, arith, Result, Ok, Err}
+use Rattle.std.proofs.Common.{◌≡◌, ℕ, ◌<◌, ◌≤◌, ◌⊎◌, inl, inr, List, [], ◌++◌, length, length-append, append-nil, refl, sym, ap, ◌∙◌, subst, arith, Result, Ok, Err}
 use Rattle.std.specs.Prelude.{Option, None, Some, slice_index_or}
 use Rattle.std.specs.Io.KnownBytes.{Appends, Consumes, IsAtEnd}
 use Rattle.civl_outside.specs.Count.{Rose, Stayed}
@@ -10,12 +10,12 @@ use Rattle.civl_meaning.specs.declared.config.Plain.{Plain}
 use Rattle.civl_meaning.specs.Layers.{lowest, topmost}
 use Rattle.civl_run.specs.declared.trace.Trace.{Trace}
 use Rattle.civl_flag.specs.declared.condition.Counter.{Counter}
-use Rattle.civl_flag.specs.declared.condition.Verdict.{Verdict}
 use Rattle.civl_flag.specs.declared.condition.Verdict.TheVariants.{Accepted, Rejected as RejectedBy, NoInitial}
 use Rattle.civl_flag.proofs.Accepting.{accepted_is_preserved}
-use Rattle.civl_command.specs.Words.{words_of}
+use Rattle.civl_command.specs.Words.{words_of, AreTaken}
 use Rattle.civl_command.specs.Texts.{IsReading, IsScriptReading, SpellsProgram}
-use Rattle.civl_command.specs.Outcome.{Outcome, TooLong, Unread, Untaken, Broken, Judged, Printed, Misfit, Ran, Checks, Runs, ChecksRead, PrintsRead, RunsRead, Finds, FindsBy, CallsFor, status_of, report_of, limit}
+use Rattle.civl_command.specs.Outcome.{Outcome, TooLong, Unread, Untaken, Broken, Judged, Printed, Misfit, Ran, Checks, Runs, ChecksRead, PrintsRead, RunsRead, FindsBy, CallsFor, status_of, report_of, limit}
+use Rattle.civl_command.specs.Status.{code_of}
 use Rattle.civl_command.specs.Judge.{ReadState, WriteState, Reads, ReadsAll, JudgesInput, Fails, Judges, Explains}
 use Rattle.civl_command.specs.Promises.{Writes, ReadsAndWrites, Accepts, AcceptsRightly, Rejects, RejectsRightly, PrintsRightly, Replays, ReplaysRightly, RefusesRightly, Carries, AnswersAs, IsComplete}
 use Rattle.civl_command.specs.declared.reader.Fault.{Fault}
@@ -52,6 +52,55 @@ all_found command before after input outcome told reads =
     let taken = subst (λ (left : Option (List ℕ)). Consumes left after.left reads.0) told reads.1.taken in
     let whole = consumed input reads.0 after.left taken reads.1.at_end in
     record { finds = subst (λ (bytes : List ℕ). FindsBy command bytes outcome) whole.0 reads.2; read = whole.1 }
+
+-- ---- what the ends keep
+
+-- no outcome fails
+outcome_code : (outcome : Outcome) → code_of (status_of outcome) ≤ 3
+outcome_code TooLong = omega arith
+outcome_code (Unread fault) = omega arith
+outcome_code Untaken = omega arith
+outcome_code (Broken refusal) = omega arith
+outcome_code (Judged program (Accepted count)) = omega arith
+outcome_code (Judged program (RejectedBy counter)) = omega arith
+outcome_code (Judged program NoInitial) = omega arith
+outcome_code (Printed program) = omega arith
+outcome_code (Misfit number) = omega arith
+outcome_code (Ran program trace) = omega arith
+
+no_outcome : (status : Status) (outcome : Outcome) → 3 < code_of status → status ≡ status_of outcome → ⊥
+no_outcome status outcome high is = let code = ap code_of is in omega (arith, outcome_code outcome, code)
+
+-- a failed read and want of memory are told by the status alone
+silent_failure : (words : List (List ℕ)) (before after : ReadState) (status : Status) (report : List ℕ) → Fails words before after status report
+    → (status ≡ ReadFault) ⊎ (status ≡ Memory) → report ≡ []
+silent_failure words before after Done report f is = absurd f
+silent_failure words before after Rejected report f is = absurd f
+silent_failure words before after Undecided report f is = absurd f
+silent_failure words before after Refused report f is = absurd f
+silent_failure words before after ReadFault report f is = f.2
+silent_failure words before after WriteFault report f is = absurd f
+silent_failure words before after Usage report f (inl is) = cc
+silent_failure words before after Usage report f (inr is) = cc
+silent_failure words before after Memory report f is = f.1
+
+pub silent : (words : List (List ℕ)) (before after : ReadState) (status : Status) (report : List ℕ) → Judges words before after status report
+    → (status ≡ ReadFault) ⊎ (status ≡ Memory) → report ≡ []
+silent words before after status report (inl h) (inl is) =
+    let code = ap code_of is in absurd (no_outcome status h.outcome (omega (arith, code)) h.status_is)
+silent words before after status report (inl h) (inr is) =
+    let code = ap code_of is in absurd (no_outcome status h.outcome (omega (arith, code)) h.status_is)
+silent words before after status report (inr f) is = silent_failure words before after status report f is
+
+pub loud : (WriteFault ≡ ReadFault) ⊎ (WriteFault ≡ Memory) → ⊥
+loud (inl is) = cc
+loud (inr is) = cc
+
+-- on Usage the words are no command's
+pub usage_untaken : (words : List (List ℕ)) (before after : ReadState) (sink sink_after : WriteState) → Explains words before after sink sink_after Usage → AreTaken words → ⊥
+usage_untaken words before after sink sink_after (inl (report, inl h, grown)) = λ taken. no_outcome Usage h.outcome (omega arith) h.status_is
+usage_untaken words before after sink sink_after (inl (report, inr f, grown)) = f.0
+usage_untaken words before after sink sink_after (inr h) = let is = h.0 in absurd cc
 
 -- ---- each answer
 
@@ -315,18 +364,20 @@ module _ (words : List (List ℕ)) (before after : ReadState) (sink sink_after :
   refuses_by (inr h) input told = let is = h.0 in absurd cc
 
   module _ (command : Command) (input : List ℕ) (outcome : Outcome) (words_are : words ≡ words_of command) (told : before.left ≡ Some input) (calls : CallsFor command input outcome) (stayed : Stayed before.faults after.faults) where
-    judged : (status : Status) (report : List ℕ) → Appends sink.bytes sink_after.bytes report → JudgesInput words before after status report → AnswersAs after sink sink_after status outcome ⊎ (status ≡ Memory)
+    judged : (status : Status) (report : List ℕ) → Appends sink.bytes sink_after.bytes report → JudgesInput words before after status report → AnswersAs command input after sink sink_after status outcome ⊎ (status ≡ Memory)
     judged status report grown h =
         let reads = subst (λ (c : Command). Reads c before after h.outcome) (one_command words h.command command h.words_are words_are) h.reads in
-        let agree = one_outcome command input h.outcome outcome (called command before after sink sink_after input report told grown h.outcome reads) calls in
+        let found = called command before after sink sink_after input report told grown h.outcome reads in
+        let agree = one_outcome command input h.outcome outcome found calls in
         inl (record {
           status_is = h.status_is ∙ agree.status;
           found = h.outcome;
+          calls = found;
           heading = agree.heading;
           carries = carried command before after sink sink_after input report told grown h.outcome reads h.report_is;
         })
 
-    failed : (status : Status) (report : List ℕ) → Fails words before after status report → AnswersAs after sink sink_after status outcome ⊎ (status ≡ Memory)
+    failed : (status : Status) (report : List ℕ) → Fails words before after status report → AnswersAs command input after sink sink_after status outcome ⊎ (status ≡ Memory)
     failed Done report f = absurd f
     failed Rejected report f = absurd f
     failed Undecided report f = absurd f
@@ -336,7 +387,7 @@ module _ (words : List (List ℕ)) (before after : ReadState) (sink sink_after :
     failed Usage report f = absurd (f.0 (command, words_are))
     failed Memory report f = inr refl
 
-    answered : (status : Status) (report : List ℕ) → Appends sink.bytes sink_after.bytes report → Judges words before after status report → AnswersAs after sink sink_after status outcome ⊎ (status ≡ Memory)
+    answered : (status : Status) (report : List ℕ) → Appends sink.bytes sink_after.bytes report → Judges words before after status report → AnswersAs command input after sink sink_after status outcome ⊎ (status ≡ Memory)
     answered status report grown (inl h) = judged status report grown h
     answered status report grown (inr f) = failed status report f
 

@@ -1,21 +1,25 @@
--- What the tokens of a text and the parser's answer say of what the text spells; and that a text is read in one way.
-use Rattle.std.proofs.Common.{◌≡◌, ◌⊎◌, inl, inr, ℕ, List, refl, sym, ap, ◌∙◌, subst, Result, Ok, Err}
+-- What the tokens of a text and the parser's answer say of what the text spells; and that each text is read in one way.
+use Rattle.std.proofs.Common.{◌≡◌, ◌⊎◌, inl, inr, ℕ, List, length, refl, sym, ap, ◌∙◌, subst, Result, Ok, Err}
 use Rattle.civl_tree.specs.Token.{Token}
 use Rattle.civl_tree.specs.SpellingDomain.{HasSpelling, ScriptHasSpelling}
 use Rattle.civl_tree.specs.SpellingProgram.{spell_program}
 use Rattle.civl_tree.specs.SpellingScript.{spell_script}
 use Rattle.civl_tree.specs.declared.program.Program.{Program}
 use Rattle.civl_tree.specs.declared.script.Script.{Script}
-use Rattle.civl_lex.specs.Text.{HasTokens, NoTokenAt}
+use Rattle.civl_lex.specs.Spells.{Spells}
+use Rattle.civl_lex.specs.Text.{HasTokens, NoTokenAt, IsLexedAs}
 use Rattle.civl_lex.proofs.Texts.{answer_once}
+use Rattle.civl_lex.proofs.Readings.{some_answer}
 use Rattle.civl_phrases.specs.Bracket.{IsShallow}
-use Rattle.civl_phrases.specs.Exact.{IsRead, IsRight}
+use Rattle.civl_phrases.specs.Reader.{Reader}
+use Rattle.civl_phrases.specs.Phrase.{AtEnd, IsReader}
+use Rattle.civl_phrases.specs.Exact.{IsRead, IsRight, placed}
 use Rattle.civl_phrases.specs.declared.halt.Stop.{Stop}
 use Rattle.civl_phrases.specs.declared.halt.Stop.TheVariants as stops
 use Rattle.civl_phrases.proofs.Exactly.{is_exact}
 use Rattle.civl_parser.proofs.OfPrograms.{program_text_is}
 use Rattle.civl_parser.proofs.OfScripts.{script_text_is}
-use Rattle.civl_command.specs.Texts.{Spells, SpellsOnly, IsShallowText, IsReadAs, IsReading, IsScriptReading, bracket_limit}
+use Rattle.civl_command.specs.Texts.{IsShallowText, IsReadAs, IsReading, IsScriptReading, bracket_limit}
 use Rattle.civl_command.specs.declared.reader.Fault.{Fault}
 use Rattle.civl_command.specs.declared.reader.Fault.TheVariants as faults
 
@@ -126,3 +130,41 @@ one_reading bytes x y a b = one_read spell_program HasSpelling one_parse bytes x
 -- and as a script
 pub one_script_reading : (bytes : List ℕ) (x y : Result Script Fault) → IsScriptReading bytes x → IsScriptReading bytes y → x ≡ y
 one_script_reading bytes x y a b = one_read spell_script ScriptHasSpelling one_script_parse bytes x y a b
+
+-- ---- some reading
+
+-- the parser's answer to these tokens
+record Answered {A : Type 0} (spell : A → List Token) (fits : A → Type 0) (tokens : List Token) : Type 0 where
+  answer : Result A Stop
+  right : IsRight bracket_limit spell fits tokens answer
+
+answered : {A : Type 0} {spell : A → List Token} {fits : A → Type 0} {r : Reader A} → IsReader bracket_limit bracket_limit AtEnd spell fits r → (tokens : List Token) → Answered spell fits tokens
+answered {r} p tokens = record { answer = placed (length tokens) (r tokens); right = (is_exact p tokens).0 }
+
+same_value : {A : Type 0} (x y : A) → ◌≡◌ {A = Result A Stop} (Ok x) (Ok y) → x ≡ y
+same_value x y e = cc
+
+module _ {A : Type 0} (spell : A → List Token) (fits : A → Type 0) (one : IsOneParse spell fits) (some : (tokens : List Token) → Answered spell fits tokens) (bytes : List ℕ) where
+  of_answer : (tokens : List Token) (answer : Result A Stop) → HasTokens bytes tokens → IsRight bracket_limit spell fits tokens answer → (x : Result A Fault) × IsReadAs spell fits bytes x
+  of_answer tokens (Ok value) has right = (
+    Ok value,
+    reading spell fits bytes tokens (λ other h. ok_ok other tokens (answer_once bytes (Ok other) (Ok tokens) h has)) value has right
+        (λ other h. same_value other value (one tokens (Ok other) (Ok value) h right)),
+  )
+  of_answer tokens (Err (stops.NotHere place)) has right = (Err (faults.NotHere place), record { tokens = tokens; has = has; stops = right })
+  of_answer tokens (Err (stops.Deep place)) has right = (Err (faults.Deep place), record { tokens = tokens; has = has; sinks = right })
+
+  of_text : (x : Result (List Token) ℕ) → IsLexedAs bytes x → (x : Result A Fault) × IsReadAs spell fits bytes x
+  of_text (Ok tokens) has = let a = some tokens in of_answer tokens a.answer has a.right
+  of_text (Err place) none = (untold place, none)
+
+  some_read : (x : Result A Fault) × IsReadAs spell fits bytes x
+  some_read = let x = some_answer bytes in of_text x.0 x.1
+
+-- each text is read as a program, or has a first fault
+pub some_reading : (bytes : List ℕ) → (x : Result Program Fault) × IsReading bytes x
+some_reading bytes = some_read spell_program HasSpelling one_parse (answered (program_text_is bracket_limit)) bytes
+
+-- and as a script
+pub some_script_reading : (bytes : List ℕ) → (x : Result Script Fault) × IsScriptReading bytes x
+some_script_reading bytes = some_read spell_script ScriptHasSpelling one_script_parse (answered (script_text_is bracket_limit)) bytes

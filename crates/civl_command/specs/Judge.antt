@@ -8,7 +8,7 @@ use Rattle.civl_command.specs.Outcome.{Outcome, TooLong, FindsBy, status_of, rep
 use Rattle.civl_command.specs.Report.{line, bytes_of}
 use Rattle.civl_command.specs.declared.judge.Judged.{Judged}
 use Rattle.civl_command.specs.declared.status.Status.{Status}
-use Rattle.civl_command.specs.declared.status.Status.TheVariants.{Done, Rejected, Undecided, Refused, ReadFault, WriteFault, Usage, Memory}
+use Rattle.civl_command.specs.declared.status.Status.TheVariants.{ReadFault, WriteFault, Usage, Memory}
 use Rattle.civl_command.specs.declared.words.Command.{Command}
 
 -- a source before or after a call: the bytes still to come, where it tells them, and how often it failed

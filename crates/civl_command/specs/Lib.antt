@@ -8,3 +8,4 @@ pub mod Replay
 pub mod Outcome
 pub mod Judge
 pub mod Promises
+pub mod Laws

@@ -13,7 +13,6 @@ use Rattle.civl_meaning.specs.Layers.{lowest, topmost}
 use Rattle.civl_run.specs.Trace.{trace_of}
 use Rattle.civl_run.specs.declared.trace.Trace.{Trace}
 use Rattle.civl_script.specs.Schedules.{IsSchedule}
-use Rattle.civl_script.specs.declared.schedule.Schedule.{Schedule}
 use Rattle.civl_script.specs.declared.schedule.Schedule.TheVariants.{Fits, Wrong}
 use Rattle.civl_flag.specs.FlagForm.{is_flag_form}
 use Rattle.civl_flag.specs.Verdicts.{IsRight}

@@ -1,10 +1,9 @@
 -- What `command` promises where the source tells the bytes still to come and the sink those that it took.
-use Rattle.std.specs.Prelude.{◌≡◌, ◌≢◌, ℕ, ◌⊎◌, List, [], ◌++◌, Option, Some}
+use Rattle.std.specs.Prelude.{◌≡◌, ◌≢◌, ℕ, ◌⊎◌, List, [], ◌++◌, Some}
 use Rattle.civl_outside.specs.Count.{Stayed}
 use Rattle.civl_tree.specs.declared.program.Program.{Program}
 use Rattle.civl_tree.specs.declared.script.Script.{Script}
 use Rattle.civl_meaning.specs.declared.config.Plain.{Plain}
-use Rattle.civl_meaning.specs.Layers.{lowest, topmost}
 use Rattle.civl_meaning.specs.Preserves.{Preserves}
 use Rattle.civl_run.specs.declared.trace.Trace.{Trace}
 use Rattle.civl_flag.specs.Verdicts.{IsRight}
@@ -88,10 +87,12 @@ RefusesRightly words before after sink sink_after =
     (command : Command) × (words ≡ words_of command)
     × (outcome : Outcome) × CallsFor command input outcome × (status_of outcome ≡ Refused) × Carries after sink sink_after outcome
 
--- the status and the report are those of the outcome; only the values that violate a condition may be others
-pub record AnswersAs (after : ReadState) (sink sink_after : WriteState) (status : Status) (outcome : Outcome) : Type 0 where
+-- the status is that of the outcome, and the report is that of an outcome for which the input calls; only in the values that
+-- violate a condition may the two differ
+pub record AnswersAs (command : Command) (input : List ℕ) (after : ReadState) (sink sink_after : WriteState) (status : Status) (outcome : Outcome) : Type 0 where
   pub status_is : status ≡ status_of outcome
   pub found : Outcome
+  pub calls : CallsFor command input found
   pub heading : heading_of found ≡ heading_of outcome
   pub carries : Carries after sink sink_after found
 
@@ -101,4 +102,4 @@ abbrev pub IsComplete : List (List ℕ) → ReadState → ReadState → WriteSta
 IsComplete words before after sink sink_after status =
     (command : Command) (input : List ℕ) (outcome : Outcome) → words ≡ words_of command → before.left ≡ Some input → CallsFor command input outcome →
     Stayed before.faults after.faults → Stayed sink.faults sink_after.faults → Stayed sink.stalls sink_after.stalls →
-    AnswersAs after sink sink_after status outcome ⊎ (status ≡ Memory)
+    AnswersAs command input after sink sink_after status outcome ⊎ (status ≡ Memory)

@@ -1,4 +1,4 @@
--- What reading a text gives.
+-- What reading a text gives, in the clauses of private functions.
 use Rattle.std.specs.Prelude.{ℕ, List, ⊤, Ok, Err}
 use Rattle.civl_tree.specs.Token.{Token}
 use Rattle.civl_tree.specs.SpellingDomain.{HasSpelling, ScriptHasSpelling}

@@ -1,4 +1,4 @@
--- The plain programs on which a schedule is replayed.
+-- The plain programs on which a schedule is replayed, in the clauses of private functions.
 use Rattle.civl_tree.specs.declared.program.Program.{Program}
 use Rattle.civl_meaning.specs.declared.config.Plain.{Plain}
 use Rattle.civl_meaning.specs.Layers.{lowest, topmost}

@@ -1,11 +1,12 @@
 -- What a text spells, and how it is read: as a program, or as a script.
-use Rattle.std.specs.Prelude.{◌≡◌, ℕ, List, Result, Ok, Err}
+use Rattle.std.specs.Prelude.{ℕ, List, Result, Ok, Err}
 use Rattle.civl_tree.specs.Token.{Token}
 use Rattle.civl_tree.specs.SpellingDomain.{HasSpelling, ScriptHasSpelling}
 use Rattle.civl_tree.specs.SpellingProgram.{spell_program}
 use Rattle.civl_tree.specs.SpellingScript.{spell_script}
 use Rattle.civl_tree.specs.declared.program.Program.{Program}
 use Rattle.civl_tree.specs.declared.script.Script.{Script}
+use Rattle.civl_lex.specs.Spells.{SpellsOnly}
 use Rattle.civl_lex.specs.Text.{HasTokens, NoTokenAt}
 use Rattle.civl_phrases.specs.Bracket.{IsShallow}
 use Rattle.civl_phrases.specs.Exact.{IsNotHere, IsDeep}
@@ -13,17 +14,6 @@ use Rattle.civl_command.specs.declared.reader.Fault.{Fault}
 use Rattle.civl_command.specs.declared.reader.Fault.TheVariants.{NoToken, NotHere, Deep}
 
 -- ---- texts, where `spell` gives the tokens of a value, and `fits` says which values have a spelling
-
--- The bytes spell the value: they have tokens, and these are its spelling.
-pub record Spells {A : Type 0} (spell : A → List Token) (fits : A → Type 0) (bytes : List ℕ) (value : A) : Type 0 where
-  pub tokens : List Token
-  pub has : HasTokens bytes tokens
-  pub spelled : fits value × (tokens ≡ spell value)
-
--- The bytes spell this value and no other.
-pub record SpellsOnly {A : Type 0} (spell : A → List Token) (fits : A → Type 0) (bytes : List ℕ) (value : A) : Type 0 where
-  pub spells : Spells spell fits bytes value
-  pub only : (other : A) → Spells spell fits bytes other → other ≡ value
 
 -- how many brackets may be unclosed at once
 abbrev pub bracket_limit : ℕ

@@ -1,6 +1,6 @@
 // Programs that keep all static rules.
 ghost use Rattle.std.specs.Prelude.{◌≡◌, IfOk, IfErr};
-ghost use Rattle.civl_types.specs.Numbered.{IsNumbered};
+ghost use Rattle.civl_tree.specs.Numbered.{IsNumbered};
 ghost use Rattle.civl_types.specs.Checked.{IsCause};
 ghost use Rattle.civl_command.specs.Rules.{static_refusal, IsLawful};
 

@@ -1,12 +1,13 @@
 // What the words and the input call for.
 ghost use Rattle.std.specs.Prelude.{◌≡◌, ◌≤◌, length, map, string_bytes, IsTrue};
-ghost use Rattle.civl_types.specs.Numbered.{IsNumbered};
+ghost use Rattle.civl_tree.specs.Numbered.{IsNumbered};
 ghost use Rattle.civl_flag.specs.FlagForm.{is_flag_form};
 ghost use Rattle.civl_command.specs.Rules.{IsLawful};
 ghost use Rattle.civl_command.specs.Texts.{IsReading, IsScriptReading};
 ghost use Rattle.civl_command.specs.Replay.{plain_for};
 ghost use Rattle.civl_command.specs.Outcome.{Unread, Untaken, Broken, Printed, Checks, ChecksRead, PrintsRead, RunsRead, Finds, FindsBy, verdict_status, limit};
 ghost use Rattle.civl_command.specs.Judge.{reading, IsJudged, Judges};
+ghost use Rattle.civl_command.specs.Words.{AreTaken};
 ghost use Rattle.civl_command.specs.Report.{bytes_of};
 
 use crate::admission::admitted;
@@ -213,10 +214,11 @@ fn judge_text(alloc: Global, command: Command, bytes: &[u8]) -> Judged
 /// What the words and the input call for. The input is read where the words are a command's, and then to its end or
 /// to one byte past the limit.
 pub(crate) fn judge<S: Source>(alloc: Global, words: &Vec<String>, source: &mut S) -> Judged
-    ensures { Judges (map string_bytes words.now.items)
+    ensures judges { Judges (map string_bytes words.now.items)
         (reading (S.left source.old) (S.faults source.old))
         (reading (S.left source.new) (S.faults source.new))
         result.status (bytes_of result.report) }
+    ensures unread { (AreTaken (map string_bytes words.now.items) → ⊥) → source.new ≡ source.old }
 {
     let Some(command) = command_of(words) else {
         return Judged {

@@ -9,6 +9,7 @@
 
 mod admission;
 mod judge;
+pub mod laws;
 mod reader;
 mod replay;
 mod report;
@@ -16,8 +17,5 @@ mod status;
 mod top;
 mod words;
 
-pub use reader::Fault;
-pub use replay::End;
 pub use status::Status;
 pub use top::command;
-pub use words::Command;

@@ -8,7 +8,7 @@ use std::alloc::Global;
 
 /// Why a text is no program, or no script: the first fault in it.
 #[derive(Clone, Copy, Debug, Drop)]
-pub enum Fault {
+pub(crate) enum Fault {
     /// No token begins at this byte.
     NoToken(usize),
     /// This token can't stand where it does.

@@ -1,6 +1,6 @@
 // Schedules of scripts.
 ghost use Rattle.std.specs.Prelude.{◌≡◌, ◌+◌, ◌<◌, ◌^◌, length, IfOk};
-ghost use Rattle.civl_types.specs.Numbered.{IsNumbered};
+ghost use Rattle.civl_tree.specs.Numbered.{IsNumbered};
 ghost use Rattle.civl_run.specs.Trace.{trace_of};
 ghost use Rattle.civl_command.specs.Replay.{plain_for};
 ghost use Rattle.civl_command.specs.Rules.{IsLawful};
@@ -21,7 +21,7 @@ use std::alloc::Global;
 
 /// The end of the chain of layers whose program is run.
 #[derive(Clone, Copy)]
-pub enum End {
+pub(crate) enum End {
     Low,
     Top,
 }

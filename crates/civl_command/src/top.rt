@@ -1,7 +1,7 @@
 // The top call.
-ghost use Rattle.std.specs.Prelude.{◌≡◌, map, string_bytes};
+ghost use Rattle.std.specs.Prelude.{◌≡◌, ◌⊎◌, map, string_bytes};
 ghost use Rattle.civl_meaning.specs.Layers.{lowest, topmost};
-ghost use Rattle.civl_command.specs.Words.{words_of};
+ghost use Rattle.civl_command.specs.Words.{words_of, AreTaken};
 ghost use Rattle.civl_command.specs.Judge.{reading, writing, Explains};
 ghost use Rattle.civl_command.specs.Promises.{AcceptsRightly, PrintsRightly, ReplaysRightly, RejectsRightly, RefusesRightly, IsComplete};
 
@@ -18,12 +18,14 @@ fn respond<S: Source, K: Sink>(
     source: &mut S,
     sink: &mut K,
 ) -> Status
-    ensures { Explains (map string_bytes words.now.items)
+    ensures explains { Explains (map string_bytes words.now.items)
         (reading (S.left source.old) (S.faults source.old))
         (reading (S.left source.new) (S.faults source.new))
         (writing (K.written sink.old) (K.faults sink.old) (K.stalls sink.old))
         (writing (K.written sink.new) (K.faults sink.new) (K.stalls sink.new))
         result }
+    ensures unread { (AreTaken (map string_bytes words.now.items) → ⊥) → source.new ≡ source.old }
+    ensures unwritten { (result ≡ Status.ReadFault) ⊎ (result ≡ Status.Memory) → sink.new ≡ sink.old }
 {
     let judged = judge(alloc, words, source);
     match write_all(sink, judged.report.as_slice()) {
@@ -36,12 +38,23 @@ fn respond<S: Source, K: Sink>(
 /// Does what the words after the program's name say: reads the input from the source, and writes one report to the
 /// sink.
 ///
-/// The words are `check`, `fmt`, `run low` or `run top`; every other list of words is [`Status::Usage`], and nothing is read.
-/// Under `check` the program that the input spells is judged, under `fmt` its canonical text is written, and under `run` the
-/// schedule of a script is replayed on its lowest or its topmost program. The whole input is read before anything is written,
-/// up to 1,048,576 bytes and one more. The report is made whole before its first
-/// byte is written, so on [`Status::ReadFault`] and [`Status::Memory`] nothing is written, and on
-/// [`Status::WriteFault`] a first part of the report.
+/// The words are `check`, `fmt`, `run low` or `run top`. Under `check` the program that the input spells is judged, under `fmt`
+/// its canonical text is written, and under `run` the schedule of a script is replayed on its lowest or its topmost program.
+/// The whole input is read before anything is written, up to 1,048,576 bytes and one more, and the report is made whole before
+/// its first byte is written.
+///
+/// # Answers
+///
+/// - [`Status::Done`]: the program is accepted, it was printed, or the schedule was replayed.
+/// - [`Status::Rejected`]: a condition of the program doesn't hold.
+/// - [`Status::Refused`]: the input is too long, or is no program or script; its program breaks a static rule, or `check` doesn't
+///   take it; no store is initial, or what a script says doesn't fit its program.
+/// - [`Status::Usage`]: the words are no command. Nothing is read, and the line on usage is written.
+/// - [`Status::ReadFault`]: the source failed. Nothing is written.
+/// - [`Status::WriteFault`]: the sink failed, or took nothing more. A first part of the report is written.
+/// - [`Status::Memory`]: memory is wanting. Nothing is written.
+///
+/// [`Status::Undecided`] is no answer so far.
 pub fn command<S: Source, K: Sink>(
     alloc: Global,
     words: &Vec<String>,
@@ -55,6 +68,12 @@ pub fn command<S: Source, K: Sink>(
         (writing (K.written sink.old) (K.faults sink.old) (K.stalls sink.old))
         (writing (K.written sink.new) (K.faults sink.new) (K.stalls sink.new))
         result }
+
+    // Words that are no command leave the source as it is, even where the usage line can't be written; and a failed read and
+    // want of memory leave the sink.
+    ensures unread { (AreTaken (map string_bytes words.now.items) → ⊥) → source.new ≡ source.old }
+    ensures unread_usage { result ≡ Status.Usage → source.new ≡ source.old }
+    ensures unwritten { (result ≡ Status.ReadFault) ⊎ (result ≡ Status.Memory) → sink.new ≡ sink.old }
 
     // Where the source tells its bytes: what the statuses on a text say of the whole input.
     ensures accepted { result ≡ Status.Done → map string_bytes words.now.items ≡ words_of Command.Check → AcceptsRightly

@@ -4,7 +4,7 @@ ghost use Rattle.civl_command.specs.Words.{FindsCommand};
 
 /// A command that is built.
 #[derive(Clone, Copy)]
-pub enum Command {
+pub(crate) enum Command {
     /// `check`: the verdict on a program.
     Check,
     /// `fmt`: the canonical text of a program.

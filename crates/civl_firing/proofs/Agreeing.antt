@@ -15,7 +15,7 @@ use Rattle.civl_tree.specs.declared.expr.Expr.TheOpen as expr
 use Rattle.civl_firing.specs.Truth.{place_of, truth_of, truth_step, one_truth, two_truth}
 use Rattle.civl_values.specs.Operators.{nothing, one_value, two_value}
 use Rattle.civl_firing.specs.Eval.{value_of, value_step}
-use Rattle.civl_firing.specs.Scope.{present}
+use Rattle.civl_firing.specs.Scope.{present_values}
 use Rattle.civl_firing.specs.Agreement.{is_negation, is_and_or, logical_step, is_logical, Agrees, TruthIsValue}
 
 -- a name's value in the one list and in the other
@@ -44,7 +44,7 @@ two_agree _ la lb v w t u p h k = absurd (false≢true p)
 
 layer_agrees : {S : Type 0} (names : List Name) (store : List Bool) (y : expr.Expr-F S) (v : S → Expr) → ((x : S) → Agrees names store (v x)) →
     IsTrue (logical_step (map-Expr Expr Bool is_logical (map-Expr S Expr v y))) →
-    value_step (present names (map (λ b. value.Bool b) store)) (map-Expr Expr Value (value_of (present names (map (λ b. value.Bool b) store))) (map-Expr S Expr v y)) ≡ value.Bool (truth_step names store (map-Expr Expr Bool (truth_of names store) (map-Expr S Expr v y)))
+    value_step (present_values names (map (λ b. value.Bool b) store)) (map-Expr Expr Value (value_of (present_values names (map (λ b. value.Bool b) store))) (map-Expr S Expr v y)) ≡ value.Bool (truth_step names store (map-Expr Expr Bool (truth_of names store) (map-Expr S Expr v y)))
 layer_agrees names store (expr.Name n) v h p = look_same store (place_of names n)
 layer_agrees names store expr.True v h p = refl
 layer_agrees names store expr.False v h p = refl
@@ -55,7 +55,7 @@ layer_agrees names store _ v h p = absurd (false≢true p)
 pub truth_is_value : TruthIsValue
 truth_is_value names store e =
     ind-Expr (Agrees names store) (λ x y q p.
-    let scope = present names (map (λ b. value.Bool b) store) in
+    let scope = present_values names (map (λ b. value.Bool b) store) in
     let values = λ (d : expr.Expr-F Expr). value_step scope (map-Expr Expr Value (value_of scope) d) in
     let truths = λ (d : expr.Expr-F Expr). value.Bool (truth_step names store (map-Expr Expr Bool (truth_of names store) d)) in
     let logical = sym (fold-roll-Expr Bool logical_step x) ∙ p in

@@ -5,5 +5,4 @@ pub mod Fitting
 pub mod Joining
 pub mod Soundness
 pub mod Having
-pub mod Unbroken
 pub mod Finding

@@ -12,7 +12,7 @@ use Rattle.civl_tree.specs.declared.expr.Expr.TheFolds.{fold-Expr}
 use Rattle.civl_tree.specs.declared.expr.Expr.TheOpen as expr
 use Rattle.civl_firing.specs.Truth.{truth_of}
 use Rattle.civl_firing.specs.Eval.{value_of}
-use Rattle.civl_firing.specs.Scope.{present}
+use Rattle.civl_firing.specs.Scope.{present_values}
 
 abbrev pub is_negation : One → Bool
 is_negation Not = true
@@ -37,7 +37,7 @@ abbrev pub is_logical : Expr → Bool
 is_logical = fold-Expr Bool logical_step
 
 abbrev pub Agrees : List Name → List Bool → Expr → Type 0
-Agrees names store e = IsTrue (is_logical e) → value_of (present names (map (λ b. value.Bool b) store)) e ≡ value.Bool (truth_of names store e)
+Agrees names store e = IsTrue (is_logical e) → value_of (present_values names (map (λ b. value.Bool b) store)) e ≡ value.Bool (truth_of names store e)
 
 abbrev pub TruthIsValue : Type 0
 TruthIsValue = (names : List Name) (store : List Bool) (e : Expr) → Agrees names store e

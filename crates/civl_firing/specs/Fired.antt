@@ -13,15 +13,16 @@ use Rattle.civl_firing.specs.declared.scope.Scope.{Scope}
 use Rattle.civl_firing.specs.Truth.{place_of}
 use Rattle.civl_values.specs.Values.{is_true, are_of}
 use Rattle.civl_firing.specs.Eval.{value_of}
-use Rattle.civl_firing.specs.Scope.{global_names, param_names, zeros_of_params, gate_scope, guard_scope}
+use Rattle.civl_firing.specs.Scope.{zeros_of_params, gate_values, guard_values}
+use Rattle.civl_tree.specs.rules.Names.{global_names, param_names}
 
 -- the value of the gate
 unfoldable pub gate_holds : List Global → Store → Action → List Value → Bool
-gate_holds globals store action inputs = is_true (value_of (gate_scope globals store action inputs) action.gate)
+gate_holds globals store action inputs = is_true (value_of (gate_values globals store action inputs) action.gate)
 
 -- the values that are offered for the choices
 abbrev pub offers : List Global → Store → Action → List Value → List Value
-offers globals store action inputs = map (λ c. value_of (gate_scope globals store action inputs) c.offer) action.choices
+offers globals store action inputs = map (λ c. value_of (gate_values globals store action inputs) c.offer) action.choices
 
 -- whether the choices have the number and the sorts of the action's
 abbrev pub choices_fit : Action → List Value → Bool
@@ -29,7 +30,7 @@ choices_fit action chosen = are_of chosen (map (λ c. c.sort) action.choices)
 
 -- the value of the guard
 abbrev pub guard_holds : List Global → Store → Action → List Value → List Value → Bool
-guard_holds globals store action inputs chosen = is_true (value_of (guard_scope globals store action inputs chosen) action.guard)
+guard_holds globals store action inputs chosen = is_true (value_of (guard_values globals store action inputs chosen) action.guard)
 
 -- the values of these names, with each updated one replaced by its update's value in the scope, which stays
 abbrev pub updated : List Name → List Value → Scope → List Update → List Value
@@ -39,12 +40,12 @@ updated names values scope (u ∷ us) = updated names (slice_set values (place_o
 -- the store in which all updated globals are replaced at once
 abbrev pub store_after : List Global → Store → Action → List Value → List Value → Store
 store_after globals store action inputs chosen =
-    record { values = updated (global_names globals) store.values (guard_scope globals store action inputs chosen) action.updates }
+    record { values = updated (global_names globals) store.values (guard_values globals store action inputs chosen) action.updates }
 
 -- the outputs, which are what the updates give them
 abbrev pub outs_after : List Global → Store → Action → List Value → List Value → List Value
 outs_after globals store action inputs chosen =
-    updated (param_names action.outs) (zeros_of_params action.outs) (guard_scope globals store action inputs chosen) action.updates
+    updated (param_names action.outs) (zeros_of_params action.outs) (guard_values globals store action inputs chosen) action.updates
 
 -- the transition: nothing where the guard is false, and else the store and the outputs
 unfoldable pub fires : List Global → Store → Action → List Value → List Value → Option (Store × List Value)

@@ -1,4 +1,5 @@
--- The scopes of a program's places: which names stand there, and for which values.
+-- The values of the names at a program's places: which names stand there, and for which values. The sorts of the names
+-- there are the scopes of civl_tree's rules.
 use Rattle.std.specs.Prelude.{false, List, ◌++◌, map}
 use Rattle.civl_bits.specs.declared.value.Value.{Value}
 use Rattle.civl_tree.specs.declared.name.Name.{Name}
@@ -8,15 +9,10 @@ use Rattle.civl_tree.specs.declared.action.Param.{Param}
 use Rattle.civl_tree.specs.declared.program.Global.{Global}
 use Rattle.civl_tree.specs.declared.program.Local.{Local}
 use Rattle.civl_tree.specs.declared.program.Proc.{Proc}
+use Rattle.civl_tree.specs.rules.Names.{global_names, param_names, names_in_proc}
 use Rattle.civl_firing.specs.declared.store.Store.{Store}
 use Rattle.civl_firing.specs.declared.scope.Scope.{Scope}
 use Rattle.civl_values.specs.Values.{zero_of}
-
-abbrev pub global_names : List Global → List Name
-global_names globals = map (λ g. g.name) globals
-
-abbrev pub param_names : List Param → List Name
-param_names params = map (λ p. p.name) params
 
 abbrev pub choice_names : List Choice → List Name
 choice_names choices = map (λ c. c.name) choices
@@ -35,29 +31,25 @@ zeros_of_locals locals = map (λ l. zero_of l.sort) locals
 
 -- a place that gives `done` and `old(..)` no values of their own: `done` and `old(done)` are false, and `old(n)` is the
 -- value of n
-abbrev pub present : List Name → List Value → Scope
-present names values = record { names = names; values = values; old = values; done = false; old_done = false }
+abbrev pub present_values : List Name → List Value → Scope
+present_values names values = record { names = names; values = values; old = values; done = false; old_done = false }
 
 -- `init` and the arguments of threads: the globals
-abbrev pub global_scope : List Global → Store → Scope
-global_scope globals store = present (global_names globals) store.values
+abbrev pub global_values : List Global → Store → Scope
+global_values globals store = present_values (global_names globals) store.values
 
 -- an action's gate and offers: the globals and the parameters; the outputs, which `old(..)` may name, are zeros
-abbrev pub gate_scope : List Global → Store → Action → List Value → Scope
-gate_scope globals store action inputs =
-    present (global_names globals ++ (param_names action.params ++ param_names action.outs))
+abbrev pub gate_values : List Global → Store → Action → List Value → Scope
+gate_values globals store action inputs =
+    present_values (global_names globals ++ (param_names action.params ++ param_names action.outs))
     (store.values ++ (inputs ++ zeros_of_params action.outs))
 
 -- an action's guard and updates: these and the choices
-abbrev pub guard_scope : List Global → Store → Action → List Value → List Value → Scope
-guard_scope globals store action inputs chosen =
-    present (global_names globals ++ (param_names action.params ++ (choice_names action.choices ++ param_names action.outs)))
+abbrev pub guard_values : List Global → Store → Action → List Value → List Value → Scope
+guard_values globals store action inputs chosen =
+    present_values (global_names globals ++ (param_names action.params ++ (choice_names action.choices ++ param_names action.outs)))
     (store.values ++ (inputs ++ (chosen ++ zeros_of_params action.outs)))
 
--- the names of a procedure's frame
-abbrev pub frame_names : Proc → List Name
-frame_names proc = param_names proc.params ++ (param_names proc.outs ++ local_names proc.locals)
-
 -- a procedure's statements: its parameters, outputs and locals; the globals, which `old(..)` may name, are zeros
-abbrev pub frame_scope : List Global → Proc → List Value → Scope
-frame_scope globals proc locals = present (frame_names proc ++ global_names globals) (locals ++ zeros_of_globals globals)
+abbrev pub frame_values : List Global → Proc → List Value → Scope
+frame_values globals proc locals = present_values (names_in_proc proc ++ global_names globals) (locals ++ zeros_of_globals globals)

@@ -2,7 +2,7 @@
 ghost use Rattle.std.specs.Prelude.{◌≡◌, ◌++◌, slice_index_or};
 ghost use Rattle.civl_values.specs.Operators.{nothing};
 ghost use Rattle.civl_firing.specs.Eval.{values_of};
-ghost use Rattle.civl_firing.specs.Scope.{gate_scope, frame_scope, zeros_of_params, zeros_of_globals};
+ghost use Rattle.civl_firing.specs.Scope.{gate_values, frame_values, zeros_of_params, zeros_of_globals};
 ghost use Rattle.civl_firing.specs.Settings.{scope_in};
 ghost use Rattle.civl_firing.specs.Asked.{asked_values, scope_asked};
 ghost use Rattle.civl_firing.specs.Fired.{gate_holds};
@@ -78,7 +78,7 @@ fn at_call<'a>(
     locals: &'a [Value],
     args: &'a [Expr],
 ) -> Asked<'a>
-    ensures { scope_asked result ≡ gate_scope globals.now store.now action.now (inputs.now ++ values_of (frame_scope globals.now proc.now locals.now) args.now) }
+    ensures { scope_asked result ≡ gate_values globals.now store.now action.now (inputs.now ++ values_of (frame_values globals.now proc.now locals.now) args.now) }
 {
     Asked {
         gate: Setting {
@@ -112,7 +112,7 @@ pub fn gate_of_call(
     locals: &[Value],
     args: &[Expr],
 ) -> bool
-    ensures { result ≡ gate_holds globals.now store.now action.now (values_of (frame_scope globals.now proc.now locals.now) args.now) }
+    ensures { result ≡ gate_holds globals.now store.now action.now (values_of (frame_values globals.now proc.now locals.now) args.now) }
 {
     let mut inputs = [Value::Bool(false); 32];
     let count = args.len().min(32);

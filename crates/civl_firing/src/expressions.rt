@@ -64,6 +64,10 @@ pub fn holds<B: Bindings>(bindings: &B, expr: &Expr) -> bool
 }
 
 /// The values of some expressions.
+///
+/// # Errors
+///
+/// For want of memory.
 pub fn values<B: Bindings>(
     alloc: Global,
     bindings: &B,

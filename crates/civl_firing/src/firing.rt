@@ -1,7 +1,7 @@
 //! What comes of an action, and its parts: the gate, the choices, the transition and the writing of a value.
 ghost use Rattle.std.specs.Prelude.{◌≡◌, ◌<◌, length, map, slice_get, slice_set, IfOk, IfSome};
 ghost use Rattle.civl_values.specs.Values.{are_of};
-ghost use Rattle.civl_firing.specs.Scope.{global_names, param_names};
+ghost use Rattle.civl_tree.specs.rules.Names.{global_names, param_names};
 ghost use Rattle.civl_firing.specs.Names.{names_of};
 ghost use Rattle.civl_firing.specs.Settings.{scope_in};
 ghost use Rattle.civl_firing.specs.Fired.{gate_holds, guard_holds, choices_fit, updated, store_after, outs_after, fires, fired_by, fired};
@@ -140,6 +140,10 @@ fn moved(
 }
 
 /// What comes of an action whose gate is true.
+///
+/// # Errors
+///
+/// For want of memory.
 #[tactic(auto, unfolding(crate::specs::Fired::fires))]
 pub fn transition(
     alloc: Alloc,

@@ -2,7 +2,8 @@
 ghost use Rattle.std.specs.Prelude.{◌≡◌, ◌++◌, ◌≤◌, length, map};
 ghost use Rattle.std.specs.Str.{bytes_eq};
 ghost use Rattle.civl_firing.specs.Truth.{place_of};
-ghost use Rattle.civl_firing.specs.Scope.{global_names, param_names, choice_names, local_names};
+ghost use Rattle.civl_firing.specs.Scope.{choice_names, local_names};
+ghost use Rattle.civl_tree.specs.rules.Names.{global_names, param_names};
 ghost use Rattle.civl_firing.specs.Names.{names_of};
 
 use civl_tree::{Action, Choice, Global, Local, Name, Param, Proc};

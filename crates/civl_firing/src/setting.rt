@@ -5,7 +5,7 @@ ghost use Rattle.civl_values.specs.Operators.{nothing};
 ghost use Rattle.civl_firing.specs.Eval.{look};
 ghost use Rattle.civl_firing.specs.Names.{names_of};
 ghost use Rattle.civl_firing.specs.Settings.{values_in, scope_in};
-ghost use Rattle.civl_firing.specs.Scope.{zeros_of_params, zeros_of_globals, global_scope, gate_scope, guard_scope, frame_scope};
+ghost use Rattle.civl_firing.specs.Scope.{zeros_of_params, zeros_of_globals, global_values, gate_values, guard_values, frame_values};
 
 use crate::names::{Names, place};
 use crate::scope::Scope;
@@ -161,7 +161,7 @@ impl Bindings for Setting<'_> {
 /// `init` and the arguments of threads.
 #[tactic(auto, using(crate::proofs::Joining::appending))]
 pub fn at_start<'a>(globals: &'a [Global], store: &'a Store) -> Setting<'a>
-    ensures { scope_in result ≡ global_scope globals.now store.now }
+    ensures { scope_in result ≡ global_values globals.now store.now }
 {
     Setting {
         names: Names {
@@ -187,7 +187,7 @@ pub(crate) fn at_gate<'a>(
     action: &'a Action,
     inputs: &'a [Value],
 ) -> Setting<'a>
-    ensures { scope_in result ≡ gate_scope globals.now store.now action.now inputs.now }
+    ensures { scope_in result ≡ gate_values globals.now store.now action.now inputs.now }
 {
     Setting {
         names: Names {
@@ -214,7 +214,7 @@ pub(crate) fn at_guard<'a>(
     inputs: &'a [Value],
     chosen: &'a [Value],
 ) -> Setting<'a>
-    ensures { scope_in result ≡ guard_scope globals.now store.now action.now inputs.now chosen.now }
+    ensures { scope_in result ≡ guard_values globals.now store.now action.now inputs.now chosen.now }
 {
     Setting {
         names: Names {
@@ -235,7 +235,7 @@ pub(crate) fn at_guard<'a>(
 /// A procedure's statements.
 #[tactic(auto, using(crate::proofs::Joining::appending))]
 pub fn in_frame<'a>(globals: &'a [Global], proc: &'a Proc, locals: &'a [Value]) -> Setting<'a>
-    ensures { scope_in result ≡ frame_scope globals.now proc.now locals.now }
+    ensures { scope_in result ≡ frame_values globals.now proc.now locals.now }
 {
     Setting {
         names: Names {

@@ -7,6 +7,10 @@ use civl_tree::{Local, Memory, Param};
 use civl_values::zero;
 
 /// Puts the zeros of parameters or outputs behind some values.
+///
+/// # Errors
+///
+/// For want of memory.
 pub fn push_params(values: &mut Vec<Value>, params: &[Param]) -> Result<(), Memory>
     ensures { OnOk result (values.new.items ≡ values.old.items ++ zeros_of_params params.now) }
 {
@@ -17,6 +21,10 @@ pub fn push_params(values: &mut Vec<Value>, params: &[Param]) -> Result<(), Memo
 }
 
 /// Puts the zeros of locals behind some values.
+///
+/// # Errors
+///
+/// For want of memory.
 pub fn push_locals(values: &mut Vec<Value>, locals: &[Local]) -> Result<(), Memory>
     ensures { OnOk result (values.new.items ≡ values.old.items ++ zeros_of_locals locals.now) }
 {

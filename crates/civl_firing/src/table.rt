@@ -91,6 +91,10 @@ fn table(alloc: Global, expr: &Expr, names: &List<Name>, size: usize) -> Result<
 
 /// The values of an expression in all stores of the names, the store with the number j at place j: its first name has
 /// the lowest bit of j. There are at most 10 names, so at most 1,024 stores.
+///
+/// # Errors
+///
+/// For want of memory.
 pub fn truth_table(alloc: Global, expr: &Expr, names: &List<Name>) -> Result<Vec<bool>, Memory>
     requires { length names.now ≤ 10 }
     ensures { IfOk result (λ t. IsTabled (length names.now) (λ store. truth_of names.now store expr.now) t.items) }

@@ -5,18 +5,16 @@ use Rattle.civl_bits.specs.Value.{IsValue}
 use Rattle.civl_bits.specs.declared.value.Value.TheVariants as value
 use Rattle.civl_tree.specs.declared.expr.Expr.{the_lemmas as of_expr}
 use Rattle.civl_tree.specs.declared.stmt.Stmt.{the_lemmas as of_stmt}
-use Rattle.civl_tree.specs.rules.Places.{header_breaks, global_breaks, init_breaks, invariant_breaks, action_breaks, proc_breaks, stmt_breaks, thread_breaks}
-use Rattle.civl_tree.specs.rules.Refusals.{numbers_where, broken_statements, each_from, global_refusals, invariant_refusals, action_refusals, proc_refusals, thread_refusals, refusals_of, refusals, BreaksNone}
+use Rattle.civl_tree.specs.rules.Rules.{numbers_where, each_place, places_of, Keeps}
+use Rattle.civl_tree.specs.rules.Typing.{typing_rules}
 use Rattle.civl_tree.proofs.Layers.{layers}
 use Rattle.std.specs.Prelude.{codes}
 use Rattle.civl_tree.specs.declared.stmt.Stmt.{Stmt}
 use Rattle.civl_tree.specs.declared.stmt.Stmt as stmt
 use Rattle.civl_tree.specs.declared.program.Proc.{Proc}
 use Rattle.civl_tree.specs.Numbering.{sizes_of}
-use Rattle.civl_types.specs.Numbered.{IsNumbered}
-use Rattle.civl_layers.specs.Rules.{Keeps, each_place}
-use Rattle.civl_layers.specs.Places.{global_breaks as layers_of_globals, invariant_breaks as layers_of_invariants, action_breaks as layers_of_actions, proc_breaks as layers_of_procs, stmt_breaks as layers_of_stmts, thread_breaks as layers_of_threads}
-use Rattle.civl_layers.specs.Layered.{IsLayered, layer_rules}
+use Rattle.civl_tree.specs.Numbered.{IsNumbered}
+use Rattle.civl_layers.specs.LayerRules.{layer_rules}
 use Rattle.civl_meaning.specs.declared.config.State.TheVariants.{Inside}
 use Rattle.civl_firing.specs.Fired.{gate_holds}
 use Rattle.civl_meaning.specs.Failing.{IsMove, CanFail}
@@ -34,12 +32,12 @@ use Rattle.civl_flag.specs.declared.condition.Part.TheVariants.{Gate, Invariant,
 use Rattle.civl_flag.specs.examples.Accepted.{both_gated, BothGatedIsAccepted, BothGatedIsPreserved}
 use Rattle.civl_flag.proofs.Accepting.{accepted_is_preserved}
 
-breaks_none : BreaksNone both_gated
-unfolding header_breaks global_breaks init_breaks invariant_breaks action_breaks proc_breaks stmt_breaks thread_breaks numbers_where broken_statements each_from global_refusals invariant_refusals action_refusals proc_refusals thread_refusals refusals_of refusals
+breaks_none : Keeps typing_rules both_gated
+unfolding numbers_where each_place places_of
 breaks_none = simp layers
 
 keeps_layers : Keeps layer_rules both_gated
-unfolding numbers_where each_place layers_of_globals layers_of_invariants layers_of_actions layers_of_procs layers_of_stmts layers_of_threads
+unfolding numbers_where each_place places_of
 keeps_layers = simp layers
 
 few_statements : (body : List Stmt) → sizes_of body ≡ 2 → sizes_of body < 2 ^ 32

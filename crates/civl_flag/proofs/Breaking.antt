@@ -15,7 +15,7 @@ use Rattle.civl_tree.specs.declared.stmt.Stmt.TheOpen as stmt
 use Rattle.civl_firing.specs.Table.{store_at}
 use Rattle.civl_firing.specs.Truth.{truth_of}
 use Rattle.civl_firing.proofs.Numbers.{number_of, number_of-lt, store_at-number_of}
-use Rattle.civl_flag.specs.Conditions.{global_names, gate_in, guard_in, updated, assigned, action_named, Outcome, Fails, Stops, Ends, called, committed, stepped, way_of, same_store, does, breaks_part, refined, breaks_path, breaks_proc}
+use Rattle.civl_flag.specs.Conditions.{global_names, gate_in, guard_in, updated, assigned, action_named, WayEnd, Fails, Stops, Ends, called, committed, stepped, way_of, same_store, does, breaks_part, refined, breaks_path, breaks_proc}
 use Rattle.civl_flag.specs.FlagForm.{is_flag_proc, is_flag_body, is_flag_refines, is_bare_call, is_commit, is_none}
 use Rattle.civl_flag.specs.Tables.{AreTabled, AreTables, FindsTables, column}
 use Rattle.civl_flag.specs.Decide.{IsStore, PartHolds, FindsPart, gate_broken, perform_broken, callee_of, callee_in}
@@ -39,7 +39,7 @@ and_false true = refl
 and_false false = refl
 
 -- the way of a call and a commit
-abbrev call_then_commit : List Name → Option Action → List Bool → Outcome
+abbrev call_then_commit : List Name → Option Action → List Bool → WayEnd
 call_then_commit names low store =
     called names low (λ walk. committed (λ end. Ends end) walk) (record { store = store; done = false; again = false })
 

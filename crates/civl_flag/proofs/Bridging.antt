@@ -1,40 +1,29 @@
 -- From stores of bools to stores of values and back, and from the static rules to the limits on what a program declares.
-use Rattle.std.proofs.Common.{◌≡◌, ℕ, zero, suc, ◌+◌, ◌<◌, ◌≤◌, ◌⊎◌, inl, inr, Bool, true, false, ◌&&◌, ltb, List, [], ◌∷◌, length, nat_le, lit<, slice_get, Option, Some, None, refl, sym, ap, ◌∙◌, subst, arith}
+use Rattle.std.proofs.Common.{◌≡◌, ℕ, zero, suc, ◌<◌, ◌≤◌, Bool, true, false, ◌&&◌, ltb, List, [], ◌∷◌, length, nat_le, slice_get, Some, refl, sym, ap, ◌∙◌, subst, arith}
 use Rattle.std.specs.Prelude.{IsTrue, IfOk, Result, Ok, Err}
 use Rattle.civl_tree.specs.declared.memory.Memory.{Memory}
 use Rattle.std.specs.List.{list_all}
-use Rattle.std.proofs.lemmas.List.Elements.{All-nil, All-cons}
-use Rattle.std.proofs.lemmas.Bool.{ltb-true, ltb-false, leb-true}
-use Rattle.civl_tree.specs.declared.action.Action.{Action}
-use Rattle.civl_tree.specs.declared.program.Proc.{Proc}
-use Rattle.civl_tree.specs.declared.program.Thread.{Thread}
+use Rattle.std.proofs.lemmas.Bool.{ltb-true, ltb-false}
 use Rattle.civl_tree.specs.declared.program.Program.{Program}
-use Rattle.civl_tree.specs.declared.name.Name.{Name}
-use Rattle.civl_tree.specs.declared.stmt.Stmt.{the_lemmas as of_stmt}
-use Rattle.civl_tree.specs.Numbering.{action_item, proc_item, thread_item, no_statement, sizes_of}
-use Rattle.civl_tree.specs.rules.Places.{E12, action_breaks, proc_breaks, thread_breaks}
-use Rattle.civl_tree.specs.rules.Refusals.{BreaksNone, first_of}
-use Rattle.civl_tree.specs.rules.Broken.{Broken, InAction, InProc, InThread, IsAnswer}
-use Rattle.civl_tree.proofs.First.{first_is_answer}
-use Rattle.civl_types.specs.Numbered.{IsNumbered}
+use Rattle.civl_tree.specs.Numbering.{action_item, proc_item, thread_item, no_statement}
+use Rattle.civl_tree.specs.rules.Rules.{Keeps}
+use Rattle.civl_tree.specs.rules.Typing.{typing_rules, count_rule}
+use Rattle.civl_tree.specs.rules.Broken.{InAction, InProc, InThread}
+use Rattle.civl_tree.proofs.Kept.{unbroken, count_among}
 use Rattle.civl_bits.specs.declared.value.Value.{Value}
 use Rattle.civl_firing.specs.declared.store.Store.{Store}
 use Rattle.civl_values.specs.Values.{is_true}
 use Rattle.civl_firing.specs.Eval.{value_of}
-use Rattle.civl_firing.specs.Scope.{global_names, global_scope}
-use Rattle.civl_meaning.specs.Initial.{IsInitial}
-use Rattle.civl_flag.specs.FlagForm.{is_none, is_flag_expr, is_flag_form, is_flag_global, is_flag_action, is_flag_proc, is_flag_refines, is_flag_body, is_flag_thread, are_few, has_flag_header, has_flag_items}
-use Rattle.civl_flag.specs.Decide.{IsInitial as IsBoolInitial, IsVerdict, IsWithinLimits}
-use Rattle.civl_flag.specs.WellFormed.{IsWellFormed}
+use Rattle.civl_firing.specs.Scope.{global_values}
+use Rattle.civl_tree.specs.rules.Names.{global_names}
+use Rattle.civl_flag.specs.FlagForm.{is_none, is_flag_expr, is_flag_form, is_flag_global, is_flag_action, is_flag_proc, is_flag_thread, are_few, has_flag_header, has_flag_items}
+use Rattle.civl_flag.specs.Decide.{IsBoolInitial, IsVerdict, IsWithinLimits}
 use Rattle.civl_flag.specs.Verdicts.{IsFlagProgram, IsRight, HasInitial}
 use Rattle.civl_flag.specs.declared.condition.Verdict.{Verdict}
 use Rattle.civl_flag.specs.declared.condition.Verdict.TheVariants.{Accepted, Rejected, NoInitial}
 use Rattle.civl_flag.proofs.Breaking.{both_true}
 use Rattle.civl_flag.proofs.Truths.{truth_is}
-use Rattle.civl_flag.proofs.Updating.{bools}
 use Rattle.civl_flag.proofs.Firing.{holding, none_is}
-use Rattle.civl_flag.proofs.Moving.{body_of}
-use Rattle.civl_flag.proofs.Resolving.{body_shape}
 use Rattle.civl_flag.proofs.Preserving.{are_bools, initial}
 
 -- ---- limits
@@ -51,29 +40,22 @@ there [] i low = absurd (omega (arith, low))
 there (x ∷ xs) zero low = (x, refl)
 there (x ∷ xs) (suc i) low = there xs i (omega (arith, low))
 
-unbroken : (program : Program) → BreaksNone program → (item statement : ℕ) → Broken E12 program item statement → ⊥
-unbroken program none item statement broken =
-    subst (IsAnswer program) (ap first_of none) (first_is_answer program) E12 item statement tt broken
-
-few_actions : (program : Program) → BreaksNone program → length program.actions ≤ 128
-unfolding action_breaks
+few_actions : (program : Program) → Keeps typing_rules program → length program.actions ≤ 128
 few_actions program none = within (length program.actions) 128 (λ over.
     let found = there program.actions 128 over in
-    unbroken program none (action_item program 128) no_statement (InAction 128 found.0 found.1 refl refl refl))
+    unbroken typing_rules program none count_rule count_among (action_item program 128) no_statement (InAction 128 found.0 found.1 refl refl refl))
 
-few_procs : (program : Program) → BreaksNone program → length program.procs ≤ 64
-unfolding proc_breaks
+few_procs : (program : Program) → Keeps typing_rules program → length program.procs ≤ 64
 few_procs program none = within (length program.procs) 64 (λ over.
     let found = there program.procs 64 over in
-    unbroken program none (proc_item program 64) no_statement (InProc 64 found.0 found.1 refl refl refl))
+    unbroken typing_rules program none count_rule count_among (proc_item program 64) no_statement (InProc 64 found.0 found.1 refl refl refl))
 
-few_threads : (program : Program) → BreaksNone program → length program.threads ≤ 64
-unfolding thread_breaks
+few_threads : (program : Program) → Keeps typing_rules program → length program.threads ≤ 64
 few_threads program none = within (length program.threads) 64 (λ over.
     let found = there program.threads 64 over in
-    unbroken program none (thread_item program 64) no_statement (InThread 64 found.0 found.1 refl refl refl))
+    unbroken typing_rules program none count_rule count_among (thread_item program 64) no_statement (InThread 64 found.0 found.1 refl refl refl))
 
-pub limits_of : (program : Program) → BreaksNone program → IsWithinLimits program
+pub limits_of : (program : Program) → Keeps typing_rules program → IsWithinLimits program
 limits_of program none = record {
   actions = few_actions program none;
   procs = few_procs program none;
@@ -116,7 +98,7 @@ bools_initial program form some =
     let bits = are_bools program.globals some.0.values has.globals some.1.store_fits.are in
     let same : some.0 ≡ holding bits.0 = ap (λ (vs : List Value). record { values = vs }) bits.1 in
     let truth = truth_is (global_names program.globals) bits.0 program.init has.init in
-    let holds : IsTrue (is_true (value_of (global_scope program.globals (holding bits.0)) program.init)) = subst (λ (store : Store). IsTrue (is_true (value_of (global_scope program.globals store) program.init))) same some.1.init_holds in
+    let holds : IsTrue (is_true (value_of (global_values program.globals (holding bits.0)) program.init)) = subst (λ (store : Store). IsTrue (is_true (value_of (global_values program.globals store) program.init))) same some.1.init_holds in
     (bits.0, record { sized = bits.2; init = sym (ap is_true truth) ∙ holds })
 
 -- a verdict that is right of stores of bools is right

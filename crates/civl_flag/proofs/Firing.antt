@@ -9,7 +9,7 @@ use Rattle.civl_tree.specs.declared.action.Choice.{Choice}
 use Rattle.civl_tree.specs.declared.action.Param.{Param}
 use Rattle.civl_tree.specs.declared.name.Name.{Name}
 use Rattle.civl_tree.specs.declared.program.Global.{Global}
-use Rattle.civl_tree.specs.rules.Names.{any_twice}
+use Rattle.civl_tree.specs.rules.Names.{any_twice, global_names, param_names}
 use Rattle.civl_firing.specs.declared.store.Store.{Store}
 use Rattle.civl_meaning.specs.declared.config.Plain.{Plain}
 use Rattle.civl_meaning.specs.declared.config.Stepped.{Stepped}
@@ -20,7 +20,7 @@ use Rattle.civl_meaning.specs.declared.config.Change.TheVariants.{Stays, Acts}
 use Rattle.civl_firing.specs.declared.scope.Scope.{Scope}
 use Rattle.civl_values.specs.Values.{is_true, are_of}
 use Rattle.civl_firing.specs.Eval.{value_of}
-use Rattle.civl_firing.specs.Scope.{present, global_names, param_names, choice_names, zeros_of_params, guard_scope}
+use Rattle.civl_firing.specs.Scope.{present_values, choice_names, zeros_of_params, guard_values}
 use Rattle.civl_firing.specs.Fired.{gate_holds, guard_holds, choices_fit, updated as made, store_after, outs_after, fires, fired_by, fired}
 use Rattle.civl_meaning.specs.Change.{acted, action_change}
 use Rattle.civl_flag.specs.FlagForm.{is_none, is_flag_expr, are_flag_updates}
@@ -94,15 +94,15 @@ module _ (plain : Plain) (once : any_twice (global_names plain.program.globals) 
   pub gate_is : gate_holds plain.program.globals (holding bs) action [] ≡ gate_in (global_names plain.program.globals) action bs
   unfolding gate_holds
   gate_is =
-      ap₂ (λ (ps os : List Param). is_true (value_of (present (names ++ (param_names ps ++ param_names os)) (bools bs ++ ([] ++ zeros_of_params os))) action.gate)) is_plain.params is_plain.outs
-      ∙ ap₂ (λ (ns : List Name) (vs : List Value). is_true (value_of (present ns vs) action.gate)) (append-nil names) (append-nil (bools bs))
+      ap₂ (λ (ps os : List Param). is_true (value_of (present_values (names ++ (param_names ps ++ param_names os)) (bools bs ++ ([] ++ zeros_of_params os))) action.gate)) is_plain.params is_plain.outs
+      ∙ ap₂ (λ (ns : List Name) (vs : List Value). is_true (value_of (present_values ns vs) action.gate)) (append-nil names) (append-nil (bools bs))
       ∙ ap is_true (truth_is names bs action.gate is_plain.gate)
 
-  scope_is : guard_scope globals (holding bs) action [] [] ≡ present names (bools bs)
+  scope_is : guard_values globals (holding bs) action [] [] ≡ present_values names (bools bs)
   scope_is =
-      ap₂ (λ (ps os : List Param). present (names ++ (param_names ps ++ (choice_names action.choices ++ param_names os))) (bools bs ++ ([] ++ ([] ++ zeros_of_params os)))) is_plain.params is_plain.outs
-      ∙ ap (λ (cs : List Choice). present (names ++ ([] ++ (choice_names cs ++ []))) (bools bs ++ ([] ++ ([] ++ [])))) is_plain.choices
-      ∙ ap₂ (λ (ns : List Name) (vs : List Value). present ns vs) (append-nil names) (append-nil (bools bs))
+      ap₂ (λ (ps os : List Param). present_values (names ++ (param_names ps ++ (choice_names action.choices ++ param_names os))) (bools bs ++ ([] ++ ([] ++ zeros_of_params os)))) is_plain.params is_plain.outs
+      ∙ ap (λ (cs : List Choice). present_values (names ++ ([] ++ (choice_names cs ++ []))) (bools bs ++ ([] ++ ([] ++ [])))) is_plain.choices
+      ∙ ap₂ (λ (ns : List Name) (vs : List Value). present_values ns vs) (append-nil names) (append-nil (bools bs))
 
   guard_is : guard_holds globals (holding bs) action [] [] ≡ guard_in names action bs
   guard_is =

@@ -1,9 +1,9 @@
 -- What the static rules say of a program of the form: each procedure calls an action that exists in layer 0, and refines one
 -- that exists in its layer.
-use Rattle.std.proofs.Common.{◌≡◌, ℕ, zero, suc, ◌-◌, Bool, true, false, not, ◌&&◌, ◌||◌, nat_le, nat_eq, List, [], ◌∷◌, take, slice_get, Option, Some, None, refl, sym, ap, ◌∙◌, subst}
-use Rattle.std.specs.Prelude.{IsTrue, is_none}
-use Rattle.std.specs.List.{list_all, list_any, find}
-use Rattle.std.proofs.lemmas.Bool.{false≢true, or_parts, false_from_ne_true}
+use Rattle.std.proofs.Common.{◌≡◌, ℕ, suc, ◌-◌, Bool, true, false, not, ◌&&◌, nat_le, List, [], ◌∷◌, take, slice_get, Option, Some, None, refl, sym, ap, ◌∙◌, arith}
+use Rattle.std.specs.Prelude.{is_none}
+use Rattle.std.specs.List.{list_all, find}
+use Rattle.std.proofs.lemmas.Bool.{false≢true, or_parts}
 use Rattle.civl_tree.specs.declared.action.Action.{Action}
 use Rattle.civl_tree.specs.declared.name.Name.{Name}
 use Rattle.civl_tree.specs.declared.program.Proc.{Proc}
@@ -11,23 +11,19 @@ use Rattle.civl_tree.specs.declared.program.Program.{Program}
 use Rattle.civl_tree.specs.declared.program.Refines.{Refines}
 use Rattle.civl_tree.specs.declared.stmt.Stmt.{Stmt, out-Stmt, the_lemmas as of_stmt}
 use Rattle.civl_tree.specs.declared.stmt.Stmt as stmt
-use Rattle.civl_tree.specs.Numbering.{proc_item, no_statement, statement_at}
-use Rattle.civl_tree.specs.rules.Names.{action_named, proc_named, callee_signature, first_signature, proc_signature_of, same_name}
-use Rattle.civl_tree.specs.rules.Unknown.{refined_unknown, any_unknown}
+use Rattle.civl_tree.specs.Numbering.{statement_at}
+use Rattle.civl_tree.specs.rules.Names.{action_named, proc_named, callee_signature, first_signature, same_name}
+use Rattle.civl_tree.specs.rules.Unknown.{refined_unknown, any_unknown, stmt_unknown}
 use Rattle.civl_tree.specs.rules.Uses.{with_uses, stmt_uses}
-use Rattle.civl_tree.specs.rules.Places.{E11, proc_breaks as proc_breaks_alone, stmt_breaks as stmt_breaks_alone}
-use Rattle.civl_tree.specs.rules.Refusals.{BreaksNone, first_of}
-use Rattle.civl_tree.specs.rules.Broken.{Broken, InProc, InStatement, IsAnswer}
-use Rattle.civl_tree.proofs.First.{first_is_answer}
+use Rattle.civl_tree.specs.rules.Typing.{typing_rules, unknown_rule}
+use Rattle.civl_tree.proofs.Kept.{proc_kept, statement_kept, unknown_among}
 use Rattle.civl_tree.proofs.Layers.{layers}
 use Rattle.civl_layers.specs.Names.{action_range}
-use Rattle.civl_layers.specs.Ranges.{Range, exists_in, exists_through, life_end}
-use Rattle.civl_layers.specs.NotBelow.{call_not_below, layered_runs}
-use Rattle.civl_layers.specs.NotThere.{action_missing, call_missing, refines_missing}
-use Rattle.civl_layers.specs.Places.{E32, E33, proc_breaks, stmt_breaks}
-use Rattle.civl_layers.specs.Layered.{IsLayered}
-use Rattle.civl_layers.proofs.Kept.{kept_proc, kept_statement}
-use Rattle.civl_flag.specs.FlagForm.{is_none as is_empty, is_flag_body, is_flag_refines, is_flag_proc, is_flag_form}
+use Rattle.civl_layers.specs.Ranges.{exists_in, exists_through, life_end}
+use Rattle.civl_layers.specs.NotBelow.{call_not_below, layered_runs, stmt_not_below}
+use Rattle.civl_layers.specs.NotThere.{action_missing, call_missing, refines_missing, stmt_missing}
+use Rattle.civl_layers.specs.LayerRules.{not_below_rule, not_there_rule, layer_rules}
+use Rattle.civl_flag.specs.FlagForm.{is_none as is_empty, is_flag_body, is_flag_refines, is_flag_proc}
 use Rattle.civl_flag.specs.WellFormed.{IsWellFormed, is_there, call_below, calls_below, refined_there, refines_there}
 use Rattle.civl_flag.specs.Verdicts.{IsFlagProgram}
 use Rattle.civl_flag.proofs.Breaking.{both_true}
@@ -52,10 +48,6 @@ found_passes wanted test (y ∷ xs) x all found =
     ] in here (wanted y) refl
 
 -- ---- names that are known
-
-unbroken : (program : Program) → BreaksNone program → (item statement : ℕ) → Broken E11 program item statement → ⊥
-unbroken program none item statement broken =
-    subst (IsAnswer program) (ap first_of none) (first_is_answer program) E11 item statement tt broken
 
 module _ (program : Program) (taken : IsFlagProgram program) (at : ℕ) (proc : Proc) (here : slice_get program.procs at ≡ Some proc) where
   shape : HasForm program
@@ -84,27 +76,23 @@ module _ (program : Program) (taken : IsFlagProgram program) (at : ℕ) (proc : 
 
   -- the call is of something that is declared
   known : is_none (callee_signature program body.0) ≡ false
-  unfolding stmt_breaks_alone
   known =
-      let whole : stmt_breaks_alone E11 program proc the_call ≡ false = false_from_ne_true _ (λ unknown. unbroken program taken.rules.rules (proc_item program at) 0 (InStatement at proc the_call here refl first_is unknown)) in
+      let whole = statement_kept typing_rules program taken.rules.rules unknown_rule unknown_among (stmt_unknown program proc) at proc here refl 0 the_call first_is in
       let layer = (or_parts _ (any_unknown (stmt_uses program proc the_call)) whole).0 in
       (or_parts (is_none (callee_signature program body.0)) false (sym (simp (of_stmt)) ∙ layer)).0
 
   -- the refined action is declared
   refined_known : is_none (action_named program refining.0.action) ≡ false
-  unfolding proc_breaks_alone
   refined_known =
-      let whole : proc_breaks_alone E11 program at proc ≡ false = false_from_ne_true _ (λ unknown. unbroken program taken.rules.rules (proc_item program at) no_statement (InProc at proc here refl refl unknown)) in
+      let whole = proc_kept typing_rules program taken.rules.rules unknown_rule unknown_among at proc here in
       ap (refined_unknown program) (sym refining.1) ∙ (or_parts (refined_unknown program proc.refines) (any_unknown (with_uses program proc proc.refines)) whole).0
 
   -- the call, of the action or the procedure that its name stands for
   not_below : call_not_below (take at program.procs) proc.refines (action_named program body.0) (proc_named program body.0) ≡ false
-  unfolding stmt_breaks
-  not_below = sym (simp layers) ∙ kept_statement program taken.rules.layers E32 at proc here 0 the_call first_is
+  not_below = sym (simp layers) ∙ statement_kept layer_rules program taken.rules.layers not_below_rule (2, omega arith, refl) (stmt_not_below program at proc) at proc here refl 0 the_call first_is
 
   there : call_missing program (life_end program proc.refines) (action_named program body.0) (proc_named program body.0) ≡ false
-  unfolding stmt_breaks
-  there = sym (simp layers) ∙ kept_statement program taken.rules.layers E33 at proc here 0 the_call first_is
+  there = sym (simp layers) ∙ statement_kept layer_rules program taken.rules.layers not_there_rule (3, omega arith, refl) (stmt_missing program proc) at proc here refl 0 the_call first_is
 
 -- ---- from the rules to what is there
 
@@ -165,10 +153,9 @@ module _ (program : Program) (taken : IsFlagProgram program) where
       ap (list_all (λ (s : Stmt). call_below program (out-Stmt s))) callee.1 ∙ simp (of_stmt) (ap (λ (b : Bool). b && (true && true)) call)
 
   refines_are_there : (at : ℕ) (proc : Proc) → slice_get program.procs at ≡ Some proc → refines_there program proc ≡ true
-  unfolding proc_breaks
   refines_are_there at proc here =
       let of = refining program taken at proc here in
-      let missing : refines_missing program proc.refines ≡ false = kept_proc program taken.rules.layers E33 at proc here in
+      let missing : refines_missing program proc.refines ≡ false = proc_kept layer_rules program taken.rules.layers not_there_rule (3, omega arith, refl) at proc here in
       ap (refined_there program) of.1
       ∙ refined_is_there program of.0 (action_named program of.0.action) of.2 (refined_known program taken at proc here) (ap (refines_missing program) (sym of.1) ∙ missing)
 

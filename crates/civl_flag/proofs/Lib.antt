@@ -15,3 +15,4 @@ pub mod Resolving
 pub mod Accepting
 pub mod Accepted
 pub mod Nested
+pub mod Deciding

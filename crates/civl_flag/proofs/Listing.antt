@@ -1,7 +1,6 @@
 -- The list of conditions.
-use Rattle.std.proofs.Common.{◌≡◌, ℕ, suc, ◌+◌, ◌-◌, ◌*◌, ◌<◌, ◌≤◌, Bool, true, false, ◌&&◌, cond, nat_eq, zero, Option, subst, append-nil, List, [], ◌∷◌, ◌++◌, length, drop, take, slice_get, slice_index_or, ◌^◌, Some, None, refl, sym, ap, ◌∙◌, length-append, append_assoc, arith, add-zero, add-one}
+use Rattle.std.proofs.Common.{◌≡◌, ℕ, suc, ◌+◌, ◌-◌, ◌*◌, ◌<◌, ◌≤◌, Bool, true, false, cond, nat_eq, zero, Option, subst, append-nil, List, [], ◌∷◌, ◌++◌, length, drop, take, slice_get, slice_index_or, ◌^◌, Some, None, refl, sym, ap, ◌∙◌, length-append, append_assoc, arith, add-zero, add-one}
 use Rattle.std.specs.List.{list_all}
-use Rattle.std.proofs.lemmas.Bool.{leb-true}
 use Rattle.civl_tree.specs.declared.action.Action.{Action}
 use Rattle.civl_tree.specs.declared.program.Proc.{Proc}
 use Rattle.civl_tree.specs.declared.program.Program.{Program}
@@ -12,9 +11,8 @@ use Rattle.civl_firing.specs.Truth.{truth_of}
 use Rattle.civl_firing.proofs.Numbers.{number_of, number_of-lt, store_at-number_of}
 use Rattle.std.proofs.lemmas.List.{length-map}
 use Rattle.std.proofs.lemmas.Bool.{false≢true}
-use Rattle.civl_flag.specs.FlagForm.{is_none, is_flag_expr, is_flag_global, is_flag_action, is_flag_proc, is_flag_thread, are_few, has_flag_header, has_flag_items, is_flag_form}
 use Rattle.civl_flag.specs.Conditions.{global_names, breaks_proc, keeps_from, parts_of, paths_from, conditions_of}
-use Rattle.civl_flag.specs.Decide.{Holds, AllHold, IsInitial, IsFirstViolated, PartHolds, AllBefore, FindsPart, low_count}
+use Rattle.civl_flag.specs.Decide.{Holds, AllHold, IsBoolInitial, IsFirstViolated, PartHolds, AllBefore, FindsPart, low_count}
 use Rattle.civl_flag.proofs.Breaking.{both_true}
 use Rattle.civl_flag.specs.declared.condition.Condition.{Condition}
 use Rattle.civl_flag.specs.declared.condition.Condition.TheVariants.{Keep, Path}
@@ -161,7 +159,7 @@ module _ (program : Program) (names : List Name) (values : List Bool) (is_names 
   names_size = ap length is_names ∙ length-map program.globals (λ (g : Global). g.name)
 
   -- a true value in the table is an initial store
-  pub initial_at : (j : ℕ) → j < length values → slice_index_or values j false ≡ true → (store : List Bool) × IsInitial program store
+  pub initial_at : (j : ℕ) → j < length values → slice_index_or values j false ≡ true → (store : List Bool) × IsBoolInitial program store
   initial_at j below is = (
     store_at (length names) j,
     record {
@@ -170,7 +168,7 @@ module _ (program : Program) (names : List Name) (values : List Bool) (is_names 
     },
   )
 
-  pub none_initial : ((j : ℕ) → j < length values → slice_index_or values j false ≡ false) → (store : List Bool) → IsInitial program store → ⊥
+  pub none_initial : ((j : ℕ) → j < length values → slice_index_or values j false ≡ false) → (store : List Bool) → IsBoolInitial program store → ⊥
   none_initial none store initial =
       let same : length store ≡ length names = initial.sized ∙ sym names_size in
       let below : number_of store < 2 ^ length names = subst (λ (n : ℕ). number_of store < 2 ^ n) same (number_of-lt store) in

@@ -12,7 +12,7 @@ use Rattle.civl_tree.specs.declared.program.Refines.{Refines}
 use Rattle.civl_tree.specs.declared.stmt.Stmt.{Stmt, out-Stmt, the_lemmas as of_stmt}
 use Rattle.civl_tree.specs.declared.stmt.Stmt.TheOpen as layer
 use Rattle.civl_tree.specs.declared.stmt.Stmt as stmt
-use Rattle.civl_tree.specs.rules.Names.{any_twice}
+use Rattle.civl_tree.specs.rules.Names.{any_twice, global_names, names_in_proc, action_named}
 use Rattle.civl_firing.specs.declared.store.Store.{Store}
 use Rattle.civl_meaning.specs.declared.config.Plain.{Plain}
 use Rattle.civl_meaning.specs.declared.config.Activation.{Activation}
@@ -20,10 +20,9 @@ use Rattle.civl_meaning.specs.declared.config.State.{State}
 use Rattle.civl_meaning.specs.declared.config.State.TheVariants.{Before, Inside}
 use Rattle.civl_meaning.specs.declared.config.Running.{Running}
 use Rattle.civl_meaning.specs.declared.config.Change.TheVariants.{Enters, Leaves}
-use Rattle.civl_firing.specs.Scope.{global_names, frame_names}
 use Rattle.civl_firing.specs.Fired.{gate_holds}
 use Rattle.civl_meaning.specs.Places.{spot_at}
-use Rattle.civl_meaning.specs.Meaning.{Meaning, Does, Runs, Missing, action_named, meaning_of_action, refined, meaning_by, meaning_of, meaning_else}
+use Rattle.civl_meaning.specs.Meaning.{Meaning, Does, Runs, Missing, meaning_of_action, refined, meaning_by, meaning_of, meaning_else}
 use Rattle.civl_meaning.specs.Layers.{means_body, lowest, topmost}
 use Rattle.civl_meaning.specs.Change.{new_frame, action_change, call_change, layer_change, spot_change, proc_change, change_of}
 use Rattle.civl_meaning.specs.Failing.{call_fails, layer_fails, spot_fails, proc_fails, thread_fails}
@@ -109,13 +108,13 @@ module _ (program : Program) (n : ℕ) (proc : Proc) (at : slice_get program.pro
   pub entering : (store : Store) (chosen : List Value) → change_of (lowest program) store chosen (thread_at n Before) ≡ Enters (new_frame n proc []) 0
   entering store chosen = ap (λ (m : Meaning). call_change (lowest program) store chosen [] [] [] 0 0 m []) low_means
 
-  pub calling : (store : Store) (chosen locals : List Value) → change_of (lowest program) store chosen (at_call n locals) ≡ action_change (lowest program) store chosen (frame_names proc) locals [] 1 sound.low []
+  pub calling : (store : Store) (chosen locals : List Value) → change_of (lowest program) store chosen (at_call n locals) ≡ action_change (lowest program) store chosen (names_in_proc proc) locals [] 1 sound.low []
   calling store chosen locals =
       ap (λ (p : Option Proc). proc_change (lowest program) store chosen None (frame_at n 0 locals) p) at
       ∙ ap (λ (body : List Stmt). spot_change (lowest program) store chosen None (frame_at n 0 locals) proc (spot_at body 0)) sound.body
       ∙ ap (spot_change (lowest program) store chosen None (frame_at n 0 locals) proc) (first_spot sound.callee)
       ∙ ap (layer_change (lowest program) store chosen proc locals 0 1) (out_call sound.callee)
-      ∙ ap (λ (a : Option Action). call_change (lowest program) store chosen (frame_names proc) locals [] 0 1 (meaning_else (lowest program) sound.callee a) []) sound.is_low
+      ∙ ap (λ (a : Option Action). call_change (lowest program) store chosen (names_in_proc proc) locals [] 0 1 (meaning_else (lowest program) sound.callee a) []) sound.is_low
 
   pub leaving : (store : Store) (chosen locals : List Value) → change_of (lowest program) store chosen (at_end n locals) ≡ Leaves None
   leaving store chosen locals =

@@ -6,8 +6,7 @@ use Rattle.civl_tree.specs.declared.action.Action.{Action}
 use Rattle.civl_tree.specs.declared.name.Name.{Name}
 use Rattle.civl_tree.specs.declared.program.Program.{Program}
 use Rattle.civl_tree.specs.rules.Names.{same_name, has_name, any_twice, action_named as by_find}
-use Rattle.civl_meaning.specs.Meaning.{action_named as by_place}
-use Rattle.civl_firing.proofs.Finding.{swapped, found_at}
+use Rattle.civl_firing.proofs.Finding.{swapped}
 use Rattle.civl_flag.specs.Conditions.{action_named}
 
 -- ---- the action of a name
@@ -19,9 +18,6 @@ found (a ∷ rest) name =
 
 pub by_find-is : (program : Program) (name : Name) → by_find program name ≡ action_named program.actions name
 by_find-is program name = found program.actions name
-
-pub by_place-is : (program : Program) (name : Name) → by_place program name ≡ action_named program.actions name
-by_place-is program name = found_at (λ (a : Action). a.name) program.actions name ∙ by_find-is program name
 
 -- ---- names of which none stands twice
 

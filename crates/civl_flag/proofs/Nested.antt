@@ -9,8 +9,8 @@ use Rattle.civl_bits.specs.declared.value.Value.TheVariants as value
 use Rattle.civl_tree.specs.declared.expr.Expr as expr
 use Rattle.civl_tree.specs.declared.expr.Expr.{the_lemmas as of_expr}
 use Rattle.civl_tree.specs.declared.stmt.Stmt.{the_lemmas as of_stmt}
-use Rattle.civl_tree.specs.rules.Places.{header_breaks, global_breaks, init_breaks, invariant_breaks, action_breaks, proc_breaks, stmt_breaks, thread_breaks}
-use Rattle.civl_tree.specs.rules.Refusals.{numbers_where, broken_statements, each_from, global_refusals, invariant_refusals, action_refusals, proc_refusals, thread_refusals, refusals_of, refusals, BreaksNone}
+use Rattle.civl_tree.specs.rules.Rules.{numbers_where, each_place, places_of, Keeps}
+use Rattle.civl_tree.specs.rules.Typing.{typing_rules}
 use Rattle.civl_tree.proofs.Layers.{layers}
 use Rattle.civl_meaning.specs.declared.config.Config.{Config}
 use Rattle.civl_meaning.specs.declared.config.Move.{Move}
@@ -28,7 +28,7 @@ use Rattle.civl_meaning.specs.Layers.{lowest, topmost}
 use Rattle.civl_meaning.specs.examples.Moves.{by, moves_of}
 use Rattle.civl_meaning.specs.examples.Flag.{setting, flag_is, bare, running}
 use Rattle.civl_flag.specs.Conditions.{violates}
-use Rattle.civl_flag.specs.Decide.{IsInitial as IsBoolInitial}
+use Rattle.civl_flag.specs.Decide.{IsBoolInitial}
 use Rattle.civl_flag.specs.declared.condition.Condition.TheVariants.{Path}
 use Rattle.civl_flag.specs.declared.condition.Part.{Part}
 use Rattle.civl_flag.specs.declared.condition.Part.TheVariants.{Gate, Invariant, Once, Stutter, Perform}
@@ -36,8 +36,8 @@ use Rattle.civl_flag.specs.examples.Nested.{nested, NestedKeepsTheOthers, Nested
 
 -- ---- what it keeps
 
-breaks_none : BreaksNone nested
-unfolding header_breaks global_breaks init_breaks invariant_breaks action_breaks proc_breaks stmt_breaks thread_breaks numbers_where broken_statements each_from global_refusals invariant_refusals action_refusals proc_refusals thread_refusals refusals_of refusals
+breaks_none : Keeps typing_rules nested
+unfolding numbers_where each_place places_of
 breaks_none = simp layers
 
 inner_holds : (part : Part) (b : Bool) → violates nested (Path part 0) (b ∷ []) ≡ false

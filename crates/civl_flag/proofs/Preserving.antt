@@ -23,7 +23,8 @@ use Rattle.civl_meaning.specs.declared.config.Config.{Config}
 use Rattle.civl_meaning.specs.declared.config.Stepped.TheVariants as answer
 use Rattle.civl_values.specs.Values.{is_true, is_of, are_of}
 use Rattle.civl_firing.specs.Eval.{values_of}
-use Rattle.civl_firing.specs.Scope.{global_names, global_scope}
+use Rattle.civl_firing.specs.Scope.{global_values}
+use Rattle.civl_tree.specs.rules.Names.{global_names}
 use Rattle.civl_meaning.specs.Meaning.{proc_number}
 use Rattle.civl_meaning.specs.Permissions.{pairwise_disjoint, of_globals, of_params}
 use Rattle.civl_meaning.specs.Initial.{IsInitial, of_args, of_thread}
@@ -33,7 +34,7 @@ use Rattle.civl_meaning.specs.Run.{RunsTo}
 use Rattle.civl_meaning.specs.Failing.{IsMove, is_failing}
 use Rattle.civl_meaning.specs.Preserves.{Preserves}
 use Rattle.civl_flag.specs.FlagForm.{is_flag_expr, is_bool_sort, is_flag_global, is_flag_thread}
-use Rattle.civl_flag.specs.Decide.{IsInitial as IsBoolInitial}
+use Rattle.civl_flag.specs.Decide.{IsBoolInitial}
 use Rattle.civl_flag.proofs.Breaking.{both_true}
 use Rattle.civl_flag.proofs.Truths.{truth_is}
 use Rattle.civl_flag.proofs.Updating.{bools, map_map}
@@ -136,7 +137,7 @@ threads_carry program store (t ∷ ts) form =
     let forms = both_true (is_flag_thread t) (list_all is_flag_thread ts) form in
     let p = slice_get program.procs (proc_number program t.callee) in
     ap₂ (λ (a b : List (List ℕ)). a ++ b)
-    (ap (λ (args : List Expr). of_args p (values_of (global_scope program.globals store) args)) (none_is t.args forms.0) ∙ no_arguments p)
+    (ap (λ (args : List Expr). of_args p (values_of (global_values program.globals store) args)) (none_is t.args forms.0) ∙ no_arguments p)
     (threads_carry program store ts forms.1)
 
 begun_waits : (program : Program) (store : Store) (threads : List Thread) → list_all is_flag_thread threads ≡ true → (t : ℕ) (thread : Running) → slice_get (map (begun program store) threads) t ≡ Some thread → Stage thread
@@ -145,7 +146,7 @@ begun_waits program store (x ∷ xs) form zero thread at =
     let forms = both_true (is_flag_thread x) (list_all is_flag_thread xs) form in
     let n = proc_number program x.callee in
     let same : begun program store x ≡ thread = cc in
-    subst Stage same (Waits n (ap (λ (args : List Expr). record { callee = n; args = values_of (global_scope program.globals store) args; state = Before }) (none_is x.args forms.0)))
+    subst Stage same (Waits n (ap (λ (args : List Expr). record { callee = n; args = values_of (global_values program.globals store) args; state = Before }) (none_is x.args forms.0)))
 begun_waits program store (x ∷ xs) form (suc t) thread at =
     let forms = both_true (is_flag_thread x) (list_all is_flag_thread xs) form in
     begun_waits program store xs forms.1 t thread at

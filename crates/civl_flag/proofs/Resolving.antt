@@ -1,7 +1,7 @@
 -- What the rules and the conditions of a well-formed program of the form say of its names, its procedures and their actions.
 use Rattle.std.proofs.Common.{◌≡◌, ℕ, zero, suc, ◌+◌, Bool, true, false, not, ◌&&◌, ◌||◌, nat_eq, List, [], ◌∷◌, ◌++◌, map, length, take, slice_get, Option, Some, None, refl, sym, ap, ap₂, ◌∙◌, subst, eqb-true, arith}
 use Rattle.std.specs.List.{list_all, AllByRecursion}
-use Rattle.std.proofs.lemmas.Bool.{false≢true, or_parts, false_from_ne_true}
+use Rattle.std.proofs.lemmas.Bool.{false≢true, or_parts}
 use Rattle.civl_tree.specs.declared.action.Action.{Action}
 use Rattle.civl_tree.specs.declared.expr.Expr.{Expr}
 use Rattle.civl_tree.specs.declared.name.Name.{Name}
@@ -12,15 +12,13 @@ use Rattle.civl_tree.specs.declared.program.Refines.{Refines}
 use Rattle.civl_tree.specs.declared.stmt.Stmt.{Stmt, out-Stmt, roll-Stmt, roll-out-Stmt, the_lemmas as of_stmt}
 use Rattle.civl_tree.specs.declared.stmt.Stmt.TheOpen as layer
 use Rattle.civl_tree.specs.declared.stmt.Stmt as stmt
-use Rattle.civl_tree.specs.Numbering.{global_item, action_item, no_statement}
 use Rattle.civl_tree.specs.rules.Names.{any_twice, has_name, global_names, targets_of, names_in_action, action_names, action_named as by_find}
 use Rattle.civl_tree.specs.rules.Twice.{action_twice, declared_twice}
-use Rattle.civl_tree.specs.rules.Places.{E10, global_breaks, action_breaks}
-use Rattle.civl_tree.specs.rules.Refusals.{BreaksNone, first_of}
-use Rattle.civl_tree.specs.rules.Broken.{Broken, InGlobal, InAction, IsAnswer}
-use Rattle.civl_tree.proofs.First.{first_is_answer}
+use Rattle.civl_tree.specs.rules.Rules.{Keeps}
+use Rattle.civl_tree.specs.rules.Typing.{typing_rules, twice_rule}
+use Rattle.civl_tree.proofs.Kept.{global_kept, action_kept, twice_among}
 use Rattle.civl_firing.specs.Truth.{place_of}
-use Rattle.civl_meaning.specs.Meaning.{action_named as by_place}
+use Rattle.civl_firing.proofs.Finding.{found_at}
 use Rattle.civl_flag.specs.FlagForm.{is_none, is_flag_expr, are_flag_updates, is_plain, is_of_one_layer, is_atomic, has_flag_exprs, is_flag_action, is_bare_call, is_commit, is_flag_body, is_flag_refines, is_flag_proc}
 use Rattle.civl_flag.specs.WellFormed.{IsWellFormed, is_there, call_below, calls_below, refined_there, refines_there}
 use Rattle.civl_flag.specs.Conditions.{gate_in, guard_in, updated, action_named, same_bool, same_store, does, breaks_proc, keeps_from, parts_of, paths_from, conditions_of}
@@ -29,7 +27,7 @@ use Rattle.civl_flag.specs.declared.condition.Condition.TheVariants.{Path}
 use Rattle.civl_flag.specs.declared.condition.Part.{Part}
 use Rattle.civl_flag.specs.declared.condition.Part.TheVariants.{Gate, Perform}
 use Rattle.civl_flag.proofs.Breaking.{broken_by, FlagProc, broken_is, both_true}
-use Rattle.civl_flag.proofs.Naming.{by_place-is, by_find-is, none_twice}
+use Rattle.civl_flag.proofs.Naming.{by_find-is, none_twice}
 use Rattle.civl_flag.proofs.Firing.{PlainAction, none_is}
 use Rattle.civl_flag.proofs.Moving.{body_of, out_call, Sound, IsResolved}
 
@@ -42,27 +40,21 @@ each_passes test (y ∷ xs) (suc i) x all at = each_passes test xs i x (both_tru
 
 -- ---- names that stand twice
 
-unbroken : (program : Program) → BreaksNone program → (item statement : ℕ) → Broken E10 program item statement → ⊥
-unbroken program none item statement broken =
-    subst (IsAnswer program) (ap first_of none) (first_is_answer program) E10 item statement tt broken
+global_once : (program : Program) → Keeps typing_rules program → (i : ℕ) (g : Global) → slice_get program.globals i ≡ Some g → has_name (global_names (take i program.globals)) g.name ≡ false
+global_once program none i g at = global_kept typing_rules program none twice_rule twice_among i g at
 
-global_once : (program : Program) → BreaksNone program → (i : ℕ) (g : Global) → slice_get program.globals i ≡ Some g → has_name (global_names (take i program.globals)) g.name ≡ false
-unfolding global_breaks
-global_once program none i g at = false_from_ne_true _ (λ twice. unbroken program none (global_item program i) no_statement (InGlobal i g at refl refl twice))
-
-globals_once : (program : Program) → BreaksNone program → any_twice (global_names program.globals) ≡ false
+globals_once : (program : Program) → Keeps typing_rules program → any_twice (global_names program.globals) ≡ false
 globals_once program none = none_twice (λ (g : Global). g.name) program.globals (global_once program none)
 
-targets_once : (program : Program) → BreaksNone program → (i : ℕ) (a : Action) → slice_get program.actions i ≡ Some a → any_twice (targets_of a) ≡ false
-unfolding action_breaks
+targets_once : (program : Program) → Keeps typing_rules program → (i : ℕ) (a : Action) → slice_get program.actions i ≡ Some a → any_twice (targets_of a) ≡ false
 targets_once program none i a at =
-    let whole : action_twice program i a ≡ false = false_from_ne_true _ (λ twice. unbroken program none (action_item program i) no_statement (InAction i a at refl refl twice)) in
+    let whole : action_twice program i a ≡ false = action_kept typing_rules program none twice_rule twice_among i a at in
     (or_parts (declared_twice program (names_in_action a)) (any_twice (targets_of a))
     (or_parts (has_name (global_names program.globals ++ action_names (take i program.actions)) a.name) (declared_twice program (names_in_action a) || any_twice (targets_of a)) whole).1).1
 
 -- ---- actions
 
-plain_action : (program : Program) → BreaksNone program → list_all is_flag_action program.actions ≡ true → (i : ℕ) (a : Action) → slice_get program.actions i ≡ Some a → PlainAction a
+plain_action : (program : Program) → Keeps typing_rules program → list_all is_flag_action program.actions ≡ true → (i : ℕ) (a : Action) → slice_get program.actions i ≡ Some a → PlainAction a
 plain_action program none form i a at =
     let whole = both_true (is_plain a && is_of_one_layer a) (has_flag_exprs a) (each_passes is_flag_action program.actions i a form at) in
     let shape = both_true (is_plain a) (is_of_one_layer a) whole.0 in
@@ -181,20 +173,20 @@ module _ (program : Program) (actions : list_all is_flag_action program.actions 
       refines_shape proc.refines (both_true (is_flag_refines proc.refines) (is_none proc.params) second.0).0
 
   -- the action of a name that is there
-  found : (layer : ℕ) (name : Name) → is_there layer (by_find program name) ≡ true → (a : Action) × (by_place program name ≡ Some a) × (action_named program.actions name ≡ Some a) × PlainAction a
+  found : (layer : ℕ) (name : Name) → is_there layer (by_find program name) ≡ true → (a : Action) × (by_find program name ≡ Some a) × (action_named program.actions name ≡ Some a) × PlainAction a
   found layer name there =
       let a = declared layer (by_find program name) there in
       let named : action_named program.actions name ≡ Some a.0 = sym (by_find-is program name) ∙ a.1 in
-      let place : by_place program name ≡ Some a.0 = by_place-is program name ∙ named in
-      (a.0, place, named, plain_action program formed.rules actions (place_of (map (λ (a : Action). a.name) program.actions) name) a.0 place)
+      let place : slice_get program.actions (place_of (map (λ (a : Action). a.name) program.actions) name) ≡ Some a.0 = found_at (λ (a : Action). a.name) program.actions name ∙ a.1 in
+      (a.0, a.1, named, plain_action program formed.rules actions (place_of (map (λ (a : Action). a.name) program.actions) name) a.0 place)
 
-  low : (a : Action) × (by_place program body.0 ≡ Some a) × (action_named program.actions body.0 ≡ Some a) × PlainAction a
+  low : (a : Action) × (by_find program body.0 ≡ Some a) × (action_named program.actions body.0 ≡ Some a) × PlainAction a
   low =
       let calls : list_all (λ (s : Stmt). call_below program (out-Stmt s)) (body_of body.0) ≡ true = ap (list_all (λ (s : Stmt). call_below program (out-Stmt s))) (sym body.1) ∙ each_passes (calls_below program) program.procs n proc formed.calls at in
       let call = both_true (call_below program (out-Stmt (stmt.Call body.0 [] []))) (list_all (λ (s : Stmt). call_below program (out-Stmt s)) (stmt.Commit ∷ [])) calls in
       found 0 body.0 (ap (call_below program) (sym (out_call body.0)) ∙ call.0)
 
-  high : (a : Action) × (by_place program refining.0.action ≡ Some a) × (action_named program.actions refining.0.action ≡ Some a) × PlainAction a
+  high : (a : Action) × (by_find program refining.0.action ≡ Some a) × (action_named program.actions refining.0.action ≡ Some a) × PlainAction a
   high = found refining.0.layer refining.0.action (ap (refined_there program) (sym refining.1) ∙ each_passes (refines_there program) program.procs n proc formed.refines at)
 
   flag : FlagProc proc

@@ -23,7 +23,7 @@ use Rattle.civl_meaning.specs.declared.config.Stepped.TheVariants as answer
 use Rattle.civl_meaning.specs.declared.config.Change.{Change}
 use Rattle.civl_meaning.specs.declared.config.Change.TheVariants.{Acts, Enters, Leaves}
 use Rattle.civl_tree.specs.declared.name.Name.{Name}
-use Rattle.civl_firing.specs.Scope.{global_names, frame_names}
+use Rattle.civl_tree.specs.rules.Names.{global_names, names_in_proc}
 use Rattle.civl_firing.specs.Fired.{gate_holds}
 use Rattle.civl_meaning.specs.Meaning.{Meaning}
 use Rattle.civl_meaning.specs.Layers.{lowest, topmost}
@@ -212,9 +212,9 @@ module _ (program : Program) (resolved : IsResolved program) where
 
       called : Made (at_call n locals) → Next config next
       called made =
-          let is : change_of (lowest program) config.store chosen (at_call n locals) ≡ action_change (lowest program) (holding fits.bits) chosen (frame_names proc) locals [] 1 sound.low [] =
-          calling program n proc found sound config.store chosen locals ∙ ap (λ (s : Store). action_change (lowest program) s chosen (frame_names proc) locals [] 1 sound.low []) fits.store in
-          elim (refused_or_fires (lowest program) resolved.once sound.low sound.low_plain fits.bits fits.sized chosen (frame_names proc) locals 1) [
+          let is : change_of (lowest program) config.store chosen (at_call n locals) ≡ action_change (lowest program) (holding fits.bits) chosen (names_in_proc proc) locals [] 1 sound.low [] =
+          calling program n proc found sound config.store chosen locals ∙ ap (λ (s : Store). action_change (lowest program) s chosen (names_in_proc proc) locals [] 1 sound.low []) fits.store in
+          elim (refused_or_fires (lowest program) resolved.once sound.low sound.low_plain fits.bits fits.sized chosen (names_in_proc proc) locals 1) [
             | inl stays ↦ refused (at_call n locals) (stays.0, stays.1, is ∙ stays.2) made
             | inr fires ↦ acts (record { gate = fires.gate; guard = fires.guard; acts = is ∙ fires.acts }) made
           ]

@@ -1,5 +1,5 @@
 -- The tables of actions.
-use Rattle.std.proofs.Common.{◌≡◌, ℕ, ◌+◌, ◌<◌, Bool, true, false, ◌&&◌, cond, Decides, List, [], ◌∷◌, ◌++◌, length, drop, slice_get, slice_index_or, Some, refl, sym, ap, ap₂, ◌∙◌, zero, suc, subst, arith}
+use Rattle.std.proofs.Common.{◌≡◌, ℕ, ◌+◌, ◌<◌, Bool, true, false, ◌&&◌, cond, Decides, List, [], ◌∷◌, ◌++◌, length, drop, slice_get, slice_index_or, Some, refl, ap, ap₂, ◌∙◌, zero, suc, subst, arith}
 use Rattle.std.specs.Str.{bytes_eq}
 use Rattle.std.proofs.lemmas.Slice.Eq.{bytes_eq-Decides}
 use Rattle.std.proofs.lemmas.List.{drop_all}

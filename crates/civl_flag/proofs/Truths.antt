@@ -12,7 +12,7 @@ use Rattle.civl_tree.specs.declared.expr.Expr.TheFolds.{fold-Expr}
 use Rattle.civl_tree.specs.declared.expr.Expr.TheOpen as expr
 use Rattle.civl_firing.specs.Truth.{truth_of}
 use Rattle.civl_firing.specs.Eval.{value_of}
-use Rattle.civl_firing.specs.Scope.{present}
+use Rattle.civl_firing.specs.Scope.{present_values}
 use Rattle.civl_firing.specs.Agreement.{logical_step, is_logical}
 use Rattle.civl_firing.proofs.Agreeing.{truth_is_value}
 use Rattle.civl_flag.specs.FlagForm.{flag_step, is_flag_expr}
@@ -32,5 +32,5 @@ step_same _ = refl
 form_is : (e : Expr) → is_flag_expr e ≡ is_logical e
 form_is e = ap (λ (step : expr.Expr-F Bool → Bool). fold-Expr Bool step e) (fun_ext step_same)
 
-pub truth_is : (names : List Name) (bs : List Bool) (e : Expr) → IsTrue (is_flag_expr e) → value_of (present names (map (λ b. value.Bool b) bs)) e ≡ value.Bool (truth_of names bs e)
+pub truth_is : (names : List Name) (bs : List Bool) (e : Expr) → IsTrue (is_flag_expr e) → value_of (present_values names (map (λ b. value.Bool b) bs)) e ≡ value.Bool (truth_of names bs e)
 truth_is names bs e form = truth_is_value names bs e (sym (form_is e) ∙ form)

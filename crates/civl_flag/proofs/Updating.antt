@@ -16,7 +16,7 @@ use Rattle.civl_firing.specs.declared.scope.Scope.{Scope}
 use Rattle.civl_firing.specs.Truth.{place_of, truth_of}
 use Rattle.civl_firing.specs.Eval.{value_of}
 use Rattle.civl_firing.specs.Fired.{updated as made}
-use Rattle.civl_firing.specs.Scope.{present}
+use Rattle.civl_firing.specs.Scope.{present_values}
 use Rattle.civl_flag.specs.FlagForm.{is_flag_expr, are_flag_updates}
 use Rattle.civl_flag.specs.Conditions.{assigned}
 use Rattle.civl_flag.proofs.Breaking.{both_true}
@@ -116,7 +116,7 @@ owns (n ∷ ns) (b ∷ bs) once sized =
 
 -- the value of a global after the updates is the truth of what it is assigned
 after_is : (names : List Name) (bs : List Bool) (us : List Update) (name : Name) → IsTrue (are_flag_updates us) →
-    after (own names bs) (present names (bools bs)) us name ≡ value.Bool (truth_of names bs (assigned us name))
+    after (own names bs) (present_values names (bools bs)) us name ≡ value.Bool (truth_of names bs (assigned us name))
 after_is names bs [] name form = simp (of_expr)
 after_is names bs (u ∷ us) name form =
     let parts = both_true (is_flag_expr u.expr) (are_flag_updates us) form in
@@ -132,9 +132,9 @@ map_map f g [] = refl
 map_map f g (x ∷ xs) = ap (λ ys. g (f x) ∷ ys) (map_map f g xs)
 
 pub updates_are : (names : List Name) (bs : List Bool) (us : List Update) → any_twice names ≡ false → any_twice (map (λ u. u.target) us) ≡ false → length bs ≡ length names → IsTrue (are_flag_updates us) →
-    made names (bools bs) (present names (bools bs)) us ≡ bools (map (λ name. truth_of names bs (assigned us name)) names)
+    made names (bools bs) (present_values names (bools bs)) us ≡ bools (map (λ name. truth_of names bs (assigned us name)) names)
 updates_are names bs us once targets sized form =
-    let scope = present names (bools bs) in
+    let scope = present_values names (bools bs) in
     ap (λ (values : List Value). made names values scope us) (sym (owns names bs once sized))
     ∙ made_is (own names bs) scope names us once targets
     ∙ map_same (after (own names bs) scope us) (λ name. value.Bool (truth_of names bs (assigned us name))) names (λ name. after_is names bs us name form)

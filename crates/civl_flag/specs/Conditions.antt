@@ -51,11 +51,11 @@ pub record Walk : Type 0 where
 
 -- how a way ends: before a call whose gate is false; before a call whose guard is false, or a statement that the flag
 -- form hasn't; or at the exit
-pub data Outcome : Type 0 where
-  Fails Stops Ends : Walk → Outcome
+pub data WayEnd : Type 0 where
+  Fails Stops Ends : Walk → WayEnd
 
 -- a call of this action, and what comes after it
-abbrev pub called : List Name → Option Action → (Walk → Outcome) → Walk → Outcome
+abbrev pub called : List Name → Option Action → (Walk → WayEnd) → Walk → WayEnd
 called names None after walk = Stops walk
 called names (Some action) after walk =
     if gate_in names action walk.store
@@ -65,11 +65,11 @@ called names (Some action) after walk =
     else Fails walk
 
 -- a commit, and what comes after it
-abbrev pub committed : (Walk → Outcome) → Walk → Outcome
+abbrev pub committed : (Walk → WayEnd) → Walk → WayEnd
 committed after walk = after (record { store = walk.store; done = true; again = walk.again || walk.done })
 
 -- one statement, and what comes after it
-abbrev pub stepped : List Name → List Action → stmt.Stmt-F Stmt → (Walk → Outcome) → Walk → Outcome
+abbrev pub stepped : List Name → List Action → stmt.Stmt-F Stmt → (Walk → WayEnd) → Walk → WayEnd
 stepped names actions (stmt.Call callee args results) after walk = called names (action_named actions callee) after walk
 stepped names actions stmt.Commit after walk = committed after walk
 stepped names actions (stmt.Assign target expr) after walk = Stops walk
@@ -83,12 +83,12 @@ stepped names actions (stmt.Intro target expr) after walk = Stops walk
 stepped names actions (stmt.Spawn callee args) after walk = Stops walk
 
 -- a body from here on
-abbrev pub walked : List Name → List Action → List Stmt → Walk → Outcome
+abbrev pub walked : List Name → List Action → List Stmt → Walk → WayEnd
 walked names actions [] walk = Ends walk
 walked names actions (statement ∷ body) walk = stepped names actions (out-Stmt statement) (walked names actions body) walk
 
 -- the way of a body from its entry
-abbrev pub way_of : List Name → List Action → List Stmt → List Bool → Outcome
+abbrev pub way_of : List Name → List Action → List Stmt → List Bool → WayEnd
 way_of names actions body store = walked names actions body (record { store = store; done = false; again = false })
 
 abbrev pub same_bool : Bool → Bool → Bool
@@ -107,7 +107,7 @@ does names action before after = guard_in names action before && same_store (upd
 -- whether a way from this store breaks a part of the condition, where the gate of the refined action held there:
 -- a false gate was met; a commit was passed twice or never; the store changed without a commit; or, with a commit, the
 -- refined action doesn't do the same. No way of the flag form ends at a cut, where an invariant would be asked.
-abbrev pub breaks_part : List Name → Action → List Bool → Part → Outcome → Bool
+abbrev pub breaks_part : List Name → Action → List Bool → Part → WayEnd → Bool
 breaks_part names high before Gate (Fails walk) = true
 breaks_part names high before Gate (Stops walk) = false
 breaks_part names high before Gate (Ends walk) = false

@@ -1,4 +1,5 @@
--- What a check finds of a program of the flag form.
+-- What a check finds of a program of the flag form, of stores that are lists of bools: which conditions hold, and the first that
+-- doesn't. The rest is said in the clauses of private functions.
 use Rattle.std.specs.Prelude.{◌≡◌, ℕ, ◌<◌, ◌≤◌, ◌^◌, Bool, true, false, not, ◌&&◌, List, [], ◌∷◌, ◌++◌, length, IsTrue, Option, Some, None, slice_index_or, nat_eq, if◌then◌else◌}
 use Rattle.std.specs.List.{AllByRecursion}
 use Rattle.civl_tree.specs.declared.action.Action.{Action}
@@ -24,14 +25,14 @@ abbrev pub IsStore : Program → List Bool → Type 0
 IsStore program store = length store ≡ length program.globals
 
 -- the store meets the expression of `init`
-pub record IsInitial (program : Program) (store : List Bool) : Type 0 where
+pub record IsBoolInitial (program : Program) (store : List Bool) : Type 0 where
   pub sized : IsStore program store
   pub init : IsTrue (truth_of (global_names program) store program.init)
 
 -- whether some store is initial
 abbrev pub TellsInitial : Program → Bool → Type 0
-TellsInitial program true = (store : List Bool) × IsInitial program store
-TellsInitial program false = (store : List Bool) → IsInitial program store → ⊥
+TellsInitial program true = (store : List Bool) × IsBoolInitial program store
+TellsInitial program false = (store : List Bool) → IsBoolInitial program store → ⊥
 
 -- no store violates the condition
 abbrev pub Holds : Program → Condition → Type 0
@@ -58,10 +59,10 @@ FindsCounter program (Some counter) = IsFirstViolated program counter.condition 
 -- the first that doesn't hold, and this store violates it
 abbrev pub IsVerdict : Program → Verdict → Type 0
 IsVerdict program (Accepted count) =
-    ((store : List Bool) × IsInitial program store) × AllHold program (conditions_of program) × (count ≡ length (conditions_of program))
+    ((store : List Bool) × IsBoolInitial program store) × AllHold program (conditions_of program) × (count ≡ length (conditions_of program))
 IsVerdict program (Rejected counter) =
-    ((store : List Bool) × IsInitial program store) × IsFirstViolated program counter.condition counter.store
-IsVerdict program NoInitial = (store : List Bool) → IsInitial program store → ⊥
+    ((store : List Bool) × IsBoolInitial program store) × IsFirstViolated program counter.condition counter.store
+IsVerdict program NoInitial = (store : List Bool) → IsBoolInitial program store → ⊥
 
 -- the gate of the refined action holds in the store with this number, and that of the called one doesn't
 abbrev pub gate_broken : Tables → Tables → ℕ → Bool

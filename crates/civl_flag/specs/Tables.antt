@@ -1,4 +1,4 @@
--- The truth tables of actions.
+-- The truth tables of actions, in the clauses of private functions.
 use Rattle.std.specs.Prelude.{◌≡◌, ℕ, Bool, false, List, [], ◌∷◌, map, length, slice_index_or, Option, Some, None, ⊤}
 use Rattle.civl_tree.specs.declared.action.Action.{Action}
 use Rattle.civl_tree.specs.declared.name.Name.{Name}

@@ -8,7 +8,8 @@ use Rattle.civl_tree.specs.declared.program.Refines.{Refines}
 use Rattle.civl_tree.specs.declared.stmt.Stmt.{Stmt, out-Stmt}
 use Rattle.civl_tree.specs.declared.stmt.Stmt.TheOpen as stmt
 use Rattle.civl_tree.specs.rules.Names.{action_named}
-use Rattle.civl_tree.specs.rules.Refusals.{BreaksNone}
+use Rattle.civl_tree.specs.rules.Rules.{Keeps}
+use Rattle.civl_tree.specs.rules.Typing.{typing_rules}
 use Rattle.civl_layers.specs.Names.{action_range}
 use Rattle.civl_layers.specs.Ranges.{exists_in}
 
@@ -37,6 +38,6 @@ refines_there program proc = refined_there program proc.refines
 
 -- no rule on names, counts and sorts is broken, and all calls and refined actions are there
 pub record IsWellFormed (program : Program) : Type 0 where
-  pub rules : BreaksNone program
+  pub rules : Keeps typing_rules program
   pub calls : IsTrue (list_all (calls_below program) program.procs)
   pub refines : IsTrue (list_all (refines_there program) program.procs)

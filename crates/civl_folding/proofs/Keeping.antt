@@ -11,7 +11,8 @@ use Rattle.civl_tree.specs.declared.expr.Two.TheVariants.{Add, Sub, Mul, BitAnd,
 use Rattle.civl_tree.specs.declared.expr.Sort.{Sort}
 use Rattle.civl_tree.specs.declared.expr.Sort.TheVariants as sort
 use Rattle.civl_tree.specs.rules.Sorts.{two_sort, words_sort, truths_sort, truth_over, common_sort, is_truth}
-use Rattle.civl_values.specs.Operators.{is_width, on_words, test_words, on_bools, two_value, is_less, is_less_or_same, is_signed_less, is_signed_less_or_same, implies}
+use Rattle.civl_values.specs.Operators.{on_words, test_words, on_bools, two_value, is_less, is_less_or_same, is_signed_less, is_signed_less_or_same, implies}
+use Rattle.civl_tree.specs.rules.Exprs.{is_width}
 use Rattle.civl_values.specs.Values.{HasSort}
 use Rattle.civl_values.proofs.Sorting.{both, Given, if_some, common, a_word, a_truth, over, bool_of, word_of, two_words, words_are, tests_are}
 use Rattle.civl_folding.specs.declared.folded.Folded.{Folded}

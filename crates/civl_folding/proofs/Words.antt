@@ -8,7 +8,8 @@ use Rattle.civl_bits.specs.declared.value.Value.TheVariants as value
 use Rattle.civl_tree.specs.declared.expr.Two.{Two}
 use Rattle.civl_tree.specs.declared.expr.Two.TheVariants.{Add, Sub, Mul, BitAnd, BitOr, BitXor, Shl, Shr, Lt, Le, Udiv, Urem, Slt, Sle, Sar}
 use Rattle.civl_tree.specs.declared.expr.Sort.TheVariants as sort
-use Rattle.civl_values.specs.Operators.{is_width, is_less, is_less_or_same, is_signed_less, is_signed_less_or_same}
+use Rattle.civl_values.specs.Operators.{is_less, is_less_or_same, is_signed_less, is_signed_less_or_same}
+use Rattle.civl_tree.specs.rules.Exprs.{is_width}
 use Rattle.civl_values.specs.Values.{zero_of}
 use Rattle.civl_values.proofs.Sorting.{both}
 use Rattle.civl_folding.specs.declared.folded.Folded.{Folded}

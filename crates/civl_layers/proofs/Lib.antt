@@ -1,4 +1,7 @@
 pub mod Signatures
-pub mod Finding
 pub mod Cutting
-pub mod Kept
+pub mod Answering
+pub mod Telling
+pub mod PlainPrograms
+pub mod Counting
+pub mod Few

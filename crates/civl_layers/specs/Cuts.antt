@@ -3,7 +3,7 @@
 -- rank loops are the others, in text order.
 use Rattle.std.specs.Prelude.{ℕ, ◌+◌, List, [], ◌∷◌, ◌++◌, Option, None, Some}
 use Rattle.civl_tree.specs.declared.stmt.Stmt.{Stmt, out-Stmt}
-use Rattle.civl_tree.specs.declared.stmt.Stmt.TheOpen.{Stmt-F, Assign, Assert, If, While, YieldLoop, RankLoop, Call, Yield, Commit, Intro, Spawn}
+use Rattle.civl_tree.specs.declared.stmt.Stmt.TheOpen.{Stmt-F, YieldLoop, RankLoop, Yield}
 use Rattle.civl_tree.specs.declared.program.Refines.{Refines}
 use Rattle.civl_tree.specs.declared.program.Proc.{Proc}
 use Rattle.civl_tree.specs.Numbering.{no_statement, statements_of}
@@ -11,22 +11,15 @@ use Rattle.civl_layers.specs.declared.cut.Cut.{Cut}
 use Rattle.civl_layers.specs.declared.cut.CutKind.{CutKind}
 use Rattle.civl_layers.specs.declared.cut.CutKind.TheVariants as kind
 
-abbrev pub layer_cut : Stmt-F Stmt → Option CutKind
-layer_cut (Assign target value) = None
-layer_cut (Assert fact) = None
-layer_cut (If test first second) = None
-layer_cut (While test body) = None
-layer_cut (YieldLoop test inv body) = Some kind.YieldLoop
-layer_cut (RankLoop test rank inv body) = Some kind.RankLoop
-layer_cut (Call callee args results) = None
-layer_cut (Yield inv) = Some kind.Yield
-layer_cut Commit = None
-layer_cut (Intro target value) = None
-layer_cut (Spawn callee args) = None
+abbrev pub form_cut : Stmt-F Stmt → Option CutKind
+form_cut (YieldLoop test inv body) = Some kind.YieldLoop
+form_cut (RankLoop test rank inv body) = Some kind.RankLoop
+form_cut (Yield inv) = Some kind.Yield
+form_cut _ = None
 
 -- which cut a statement is, where it is one
 abbrev pub cut_kind : Stmt → Option CutKind
-cut_kind stmt = layer_cut (out-Stmt stmt)
+cut_kind stmt = form_cut (out-Stmt stmt)
 
 -- the statement with this number, where it is a cut of this kind
 abbrev pub cut_at : ℕ → Option CutKind → List Cut

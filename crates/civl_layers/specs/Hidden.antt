@@ -5,7 +5,7 @@ use Rattle.std.specs.Prelude.{ℕ, Bool, false, not, ◌||◌, Option, None, Som
 use Rattle.std.specs.List.{list_any}
 use Rattle.civl_tree.specs.declared.name.Name.{Name}
 use Rattle.civl_tree.specs.declared.stmt.Stmt.{Stmt, out-Stmt}
-use Rattle.civl_tree.specs.declared.stmt.Stmt.TheOpen.{Stmt-F, Assign, Assert, If, While, YieldLoop, RankLoop, Call, Yield, Commit, Intro, Spawn}
+use Rattle.civl_tree.specs.declared.stmt.Stmt.TheOpen.{Stmt-F, YieldLoop, RankLoop, Yield, Intro}
 use Rattle.civl_tree.specs.declared.action.Action.{Action}
 use Rattle.civl_tree.specs.declared.program.Global.{Global}
 use Rattle.civl_tree.specs.declared.program.Invariant.{Invariant}
@@ -49,20 +49,14 @@ with_hidden program None = false
 with_hidden program (Some refines) = list_any (uses (hidden_at_step program refines.layer)) refines.with
 
 -- the invariants of yields and loops, ranks, and the values of intros, in a procedure of this layer
-abbrev pub layer_hidden : Program → ℕ → Stmt-F Stmt → Bool
-layer_hidden program step (Assign target value) = false
-layer_hidden program step (Assert fact) = false
-layer_hidden program step (If test first second) = false
-layer_hidden program step (While test body) = false
-layer_hidden program step (YieldLoop test inv body) = uses (hidden_at_step program step) inv
-layer_hidden program step (RankLoop test rank inv body) = uses (hidden_at_step program step) rank || uses (hidden_at_step program step) inv
-layer_hidden program step (Call callee args results) = false
-layer_hidden program step (Yield inv) = uses (hidden_at_step program step) inv
-layer_hidden program step Commit = false
-layer_hidden program step (Intro target value) = uses (hidden_at_step program step) value
-layer_hidden program step (Spawn callee args) = false
+abbrev pub form_hidden : Program → ℕ → Stmt-F Stmt → Bool
+form_hidden program step (YieldLoop test inv body) = uses (hidden_at_step program step) inv
+form_hidden program step (RankLoop test rank inv body) = uses (hidden_at_step program step) rank || uses (hidden_at_step program step) inv
+form_hidden program step (Yield inv) = uses (hidden_at_step program step) inv
+form_hidden program step (Intro target value) = uses (hidden_at_step program step) value
+form_hidden program step _ = false
 
 -- a root has no layer
 abbrev pub stmt_hidden : Program → Option Refines → Stmt → Bool
 stmt_hidden program None stmt = false
-stmt_hidden program (Some refines) stmt = layer_hidden program refines.layer (out-Stmt stmt)
+stmt_hidden program (Some refines) stmt = form_hidden program refines.layer (out-Stmt stmt)

@@ -2,7 +2,7 @@
 -- doesn't exist in all layers.
 use Rattle.std.specs.Prelude.{ℕ, Bool, false, not, ◌&&◌, nat_eq, Option, None, Some}
 use Rattle.civl_tree.specs.declared.stmt.Stmt.{Stmt, out-Stmt}
-use Rattle.civl_tree.specs.declared.stmt.Stmt.TheOpen.{Stmt-F, Assign, Assert, If, While, YieldLoop, RankLoop, Call, Yield, Commit, Intro, Spawn}
+use Rattle.civl_tree.specs.declared.stmt.Stmt.TheOpen.{Stmt-F, Intro}
 use Rattle.civl_tree.specs.declared.program.Global.{Global}
 use Rattle.civl_tree.specs.declared.program.Refines.{Refines}
 use Rattle.civl_tree.specs.declared.program.Program.{Program}
@@ -19,20 +19,11 @@ begins_elsewhere layer None = false
 begins_elsewhere layer (Some global) = not (nat_eq global.first layer)
 
 -- a statement in a procedure of this layer
-abbrev pub layer_introduced : Program → ℕ → Stmt-F Stmt → Bool
-layer_introduced program layer (Assign target value) = false
-layer_introduced program layer (Assert fact) = false
-layer_introduced program layer (If test first second) = false
-layer_introduced program layer (While test body) = false
-layer_introduced program layer (YieldLoop test inv body) = false
-layer_introduced program layer (RankLoop test rank inv body) = false
-layer_introduced program layer (Call callee args results) = false
-layer_introduced program layer (Yield inv) = false
-layer_introduced program layer Commit = false
-layer_introduced program layer (Intro target value) = begins_elsewhere layer (global_named program target)
-layer_introduced program layer (Spawn callee args) = false
+abbrev pub form_introduced : Program → ℕ → Stmt-F Stmt → Bool
+form_introduced program layer (Intro target value) = begins_elsewhere layer (global_named program target)
+form_introduced program layer _ = false
 
 -- a root has no layer
 abbrev pub stmt_introduced : Program → Option Refines → Stmt → Bool
 stmt_introduced program None stmt = false
-stmt_introduced program (Some refines) stmt = layer_introduced program refines.layer (out-Stmt stmt)
+stmt_introduced program (Some refines) stmt = form_introduced program refines.layer (out-Stmt stmt)

@@ -1,4 +1,3 @@
-pub mod Rules
 pub mod Ranges
 pub mod Names
 pub mod Range
@@ -6,11 +5,10 @@ pub mod Hidden
 pub mod NotBelow
 pub mod NotThere
 pub mod Introduced
-pub mod Places
 pub mod Layered
 pub mod LayerRules
 pub mod Spans
-pub mod Walks
-pub mod Items
+pub mod Asked
 pub mod Cuts
+pub mod CutCounts
 pub mod examples

@@ -21,15 +21,10 @@ global_range global = record { first = global.first; last = global.last }
 abbrev pub action_range : Action → Range
 action_range action = record { first = action.first; last = action.last }
 
--- one layer of an expression: whether its own name, plain or in `old(name)`, passes a test, or one in its parts does
+-- an expression by its form: whether its own name, plain or in `old(name)`, passes a test, or one in its parts does
 abbrev pub use_step : (Name → Bool) → expr.Expr-F Bool → Bool
 use_step test (expr.Name name) = test name
-use_step test (expr.Literal value width) = false
-use_step test expr.True = false
-use_step test expr.False = false
-use_step test expr.Done = false
 use_step test (expr.Old name) = test name
-use_step test expr.OldDone = false
 use_step test (expr.One op part) = part
 use_step test (expr.Two op first second) = first || second
 use_step test (expr.Pick condition first second) = condition || (first || second)
@@ -39,6 +34,7 @@ use_step test (expr.Fill index cell) = cell
 use_step test (expr.Slice word high low) = word
 use_step test (expr.Widen word wider) = word
 use_step test (expr.Join first second) = first || second
+use_step test _ = false
 
 -- a name that stands in the expression passes the test
 abbrev pub uses : (Name → Bool) → Expr → Bool

@@ -2,7 +2,7 @@
 -- earlier in the text. So there is no recursion.
 use Rattle.std.specs.Prelude.{ℕ, Bool, true, false, not, nat_le, List, take, Option, None, Some}
 use Rattle.civl_tree.specs.declared.stmt.Stmt.{Stmt, out-Stmt}
-use Rattle.civl_tree.specs.declared.stmt.Stmt.TheOpen.{Stmt-F, Assign, Assert, If, While, YieldLoop, RankLoop, Call, Yield, Commit, Intro, Spawn}
+use Rattle.civl_tree.specs.declared.stmt.Stmt.TheOpen.{Stmt-F, Call, Spawn}
 use Rattle.civl_tree.specs.declared.action.Action.{Action}
 use Rattle.civl_tree.specs.declared.program.Refines.{Refines}
 use Rattle.civl_tree.specs.declared.program.Proc.{Proc}
@@ -47,19 +47,11 @@ abbrev pub call_not_below : List Proc → Option Refines → Option Action → O
 call_not_below earlier refines (Some action) proc = false
 call_not_below earlier refines None proc = calls_option earlier refines proc
 
-abbrev pub layer_not_below : Program → List Proc → Option Refines → Stmt-F Stmt → Bool
-layer_not_below program earlier refines (Assign target value) = false
-layer_not_below program earlier refines (Assert fact) = false
-layer_not_below program earlier refines (If test first second) = false
-layer_not_below program earlier refines (While test body) = false
-layer_not_below program earlier refines (YieldLoop test inv body) = false
-layer_not_below program earlier refines (RankLoop test rank inv body) = false
-layer_not_below program earlier refines (Call callee args results) = call_not_below earlier refines (action_named program callee) (proc_named program callee)
-layer_not_below program earlier refines (Yield inv) = false
-layer_not_below program earlier refines Commit = false
-layer_not_below program earlier refines (Intro target value) = false
-layer_not_below program earlier refines (Spawn callee args) = spawns_option earlier refines (proc_named program callee)
+abbrev pub form_not_below : Program → List Proc → Option Refines → Stmt-F Stmt → Bool
+form_not_below program earlier refines (Call callee args results) = call_not_below earlier refines (action_named program callee) (proc_named program callee)
+form_not_below program earlier refines (Spawn callee args) = spawns_option earlier refines (proc_named program callee)
+form_not_below program earlier refines _ = false
 
 -- a statement of the procedure at this place
 abbrev pub stmt_not_below : Program → ℕ → Proc → Stmt → Bool
-stmt_not_below program place proc stmt = layer_not_below program (take place program.procs) proc.refines (out-Stmt stmt)
+stmt_not_below program place proc stmt = form_not_below program (take place program.procs) proc.refines (out-Stmt stmt)

@@ -3,7 +3,7 @@
 -- a thread is the top; the action that a procedure refines exists in the procedure's layer.
 use Rattle.std.specs.Prelude.{ℕ, Bool, false, not, Option, None, Some}
 use Rattle.civl_tree.specs.declared.stmt.Stmt.{Stmt, out-Stmt}
-use Rattle.civl_tree.specs.declared.stmt.Stmt.TheOpen.{Stmt-F, Assign, Assert, If, While, YieldLoop, RankLoop, Call, Yield, Commit, Intro, Spawn}
+use Rattle.civl_tree.specs.declared.stmt.Stmt.TheOpen.{Stmt-F, Call, Spawn}
 use Rattle.civl_tree.specs.declared.action.Action.{Action}
 use Rattle.civl_tree.specs.declared.program.Refines.{Refines}
 use Rattle.civl_tree.specs.declared.program.Proc.{Proc}
@@ -33,21 +33,13 @@ abbrev pub call_missing : Program → ℕ → Option Action → Option Proc → 
 call_missing program to (Some action) proc = action_missing 0 to (Some action)
 call_missing program to None proc = run_missing program to proc
 
-abbrev pub layer_missing : Program → ℕ → Stmt-F Stmt → Bool
-layer_missing program to (Assign target value) = false
-layer_missing program to (Assert fact) = false
-layer_missing program to (If test first second) = false
-layer_missing program to (While test body) = false
-layer_missing program to (YieldLoop test inv body) = false
-layer_missing program to (RankLoop test rank inv body) = false
-layer_missing program to (Call callee args results) = call_missing program to (action_named program callee) (proc_named program callee)
-layer_missing program to (Yield inv) = false
-layer_missing program to Commit = false
-layer_missing program to (Intro target value) = false
-layer_missing program to (Spawn callee args) = run_missing program to (proc_named program callee)
+abbrev pub form_missing : Program → ℕ → Stmt-F Stmt → Bool
+form_missing program to (Call callee args results) = call_missing program to (action_named program callee) (proc_named program callee)
+form_missing program to (Spawn callee args) = run_missing program to (proc_named program callee)
+form_missing program to _ = false
 
 abbrev pub stmt_missing : Program → Proc → Stmt → Bool
-stmt_missing program proc stmt = layer_missing program (life_end program proc.refines) (out-Stmt stmt)
+stmt_missing program proc stmt = form_missing program (life_end program proc.refines) (out-Stmt stmt)
 
 -- the refined action in the procedure's own layer
 abbrev pub refines_missing : Program → Option Refines → Bool

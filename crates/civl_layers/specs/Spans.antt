@@ -1,4 +1,4 @@
--- The layers of which an expression speaks, as the code hands them on.
+-- Serves private functions: the layers of which an expression speaks, as the code hands them on.
 use Rattle.std.specs.Prelude.{Bool}
 use Rattle.civl_tree.specs.declared.name.Name.{Name}
 use Rattle.civl_layers.specs.declared.span.Span.{Span}

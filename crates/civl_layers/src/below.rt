@@ -1,8 +1,8 @@
 // Calls that don't go down (E32).
-ghost use Rattle.std.specs.Prelude.{◌≡◌, ◌≤◌, length, take, option_copied};
+ghost use Rattle.std.specs.Prelude.{◌≡◌, option_copied};
 ghost use Rattle.civl_tree.specs.rules.Names.{action_named, proc_named};
 ghost use Rattle.civl_tree.specs.declared.stmt.Stmt.{out-Stmt};
-ghost use Rattle.civl_layers.specs.NotBelow.{not_among, root_runs, layered_runs, calls_proc, spawns_proc, call_not_below, spawns_option, layer_not_below, stmt_not_below};
+ghost use Rattle.civl_layers.specs.NotBelow.{not_among, root_runs, layered_runs, calls_proc, spawns_proc, call_not_below, spawns_option, form_not_below};
 
 use crate::names::is_among;
 use civl_tree::{Name, Proc, Program, Refines, Stmt};
@@ -77,13 +77,14 @@ fn spawn_not_below(
     }
 }
 
-fn layer_not_below(
+/// Whether a statement of a procedure, which stands behind the earlier ones, breaks E32.
+pub(crate) fn call_or_spawn_not_below(
     program: &Program,
     earlier: &[Proc],
     refines: &Option<Refines>,
     stmt: &Stmt,
 ) -> bool
-    ensures { result ≡ layer_not_below program.now earlier.now refines.now (out-Stmt stmt.now) }
+    ensures { result ≡ form_not_below program.now earlier.now refines.now (out-Stmt stmt.now) }
 {
     match stmt {
         Stmt::Call(callee, _, _) => call_not_below(program, earlier, refines, callee),
@@ -98,13 +99,4 @@ fn layer_not_below(
         Stmt::Commit => false,
         Stmt::Intro(_, _) => false,
     }
-}
-
-/// Whether a statement of the procedure at this place breaks E32.
-pub(crate) fn stmt_not_below(program: &Program, place: usize, proc: &Proc, stmt: &Stmt) -> bool
-    requires { place ≤ length program.now.procs }
-    ensures { result ≡ stmt_not_below program.now place proc.now stmt.now }
-{
-    let earlier = &program.procs.as_slice()[..place];
-    layer_not_below(program, earlier, &proc.refines, stmt)
 }

@@ -3,7 +3,7 @@ ghost use Rattle.std.specs.Prelude.{◌≡◌, ◌||◌};
 ghost use Rattle.std.specs.List.{list_any};
 ghost use Rattle.civl_layers.specs.Names.{uses};
 ghost use Rattle.civl_tree.specs.declared.stmt.Stmt.{out-Stmt};
-ghost use Rattle.civl_layers.specs.Hidden.{action_hidden, invariant_hidden, with_hidden, layer_hidden, stmt_hidden};
+ghost use Rattle.civl_layers.specs.Hidden.{action_hidden, invariant_hidden, with_hidden, form_hidden, stmt_hidden};
 ghost use Rattle.civl_layers.specs.Spans.{hidden_by};
 
 use crate::span::{Span, is_hidden, uses_hidden};
@@ -73,8 +73,8 @@ pub(crate) fn with_hidden(program: &Program, refines: &Option<Refines>) -> bool
     }
 }
 
-fn layer_hidden(program: &Program, step: u32, stmt: &Stmt) -> bool
-    ensures { result ≡ layer_hidden program.now step (out-Stmt stmt.now) }
+fn form_hidden(program: &Program, step: u32, stmt: &Stmt) -> bool
+    ensures { result ≡ form_hidden program.now step (out-Stmt stmt.now) }
 {
     let span = Span::Around(program, step);
     match stmt {
@@ -97,7 +97,7 @@ pub(crate) fn stmt_hidden(program: &Program, refines: &Option<Refines>, stmt: &S
     ensures { result ≡ stmt_hidden program.now refines.now stmt.now }
 {
     match refines {
-        Some(refines) => layer_hidden(program, refines.layer, stmt),
+        Some(refines) => form_hidden(program, refines.layer, stmt),
         None => false,
     }
 }

@@ -2,7 +2,7 @@
 ghost use Rattle.std.specs.Prelude.{◌≡◌};
 ghost use Rattle.civl_tree.specs.declared.stmt.Stmt.{out-Stmt};
 ghost use Rattle.civl_layers.specs.Names.{global_named};
-ghost use Rattle.civl_layers.specs.Introduced.{linear_hidden, begins_elsewhere, layer_introduced, stmt_introduced};
+ghost use Rattle.civl_layers.specs.Introduced.{linear_hidden, begins_elsewhere, form_introduced, stmt_introduced};
 
 use crate::names::global_named;
 use crate::ranges::exists_through;
@@ -24,8 +24,8 @@ fn begins_elsewhere(program: &Program, layer: u32, target: &Name) -> bool
     }
 }
 
-fn layer_introduced(program: &Program, layer: u32, stmt: &Stmt) -> bool
-    ensures { result ≡ layer_introduced program.now layer (out-Stmt stmt.now) }
+fn form_introduced(program: &Program, layer: u32, stmt: &Stmt) -> bool
+    ensures { result ≡ form_introduced program.now layer (out-Stmt stmt.now) }
 {
     match stmt {
         Stmt::Intro(target, _) => begins_elsewhere(program, layer, target),
@@ -47,7 +47,7 @@ pub(crate) fn stmt_introduced(program: &Program, refines: &Option<Refines>, stmt
     ensures { result ≡ stmt_introduced program.now refines.now stmt.now }
 {
     match refines {
-        Some(refines) => layer_introduced(program, refines.layer, stmt),
+        Some(refines) => form_introduced(program, refines.layer, stmt),
         None => false,
     }
 }

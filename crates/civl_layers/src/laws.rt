@@ -1,4 +1,5 @@
-//! What the rules on layers, cuts and the programs of layers are on worked examples.
+//! What the rules on layers, cuts and the programs of layers are on worked examples, and how many cuts there are.
+ghost use Rattle.civl_layers.specs.CutCounts.{CutsAreCounted, CutsBeforeAreCounted, CutsAreFew};
 ghost use Rattle.civl_layers.specs.examples.Tower.{TowerStands};
 ghost use Rattle.civl_layers.specs.examples.Range.{RangesOfItems, FirstOfAll};
 ghost use Rattle.civl_layers.specs.examples.Hidden.{HiddenInActions, HiddenAtSteps};
@@ -54,6 +55,17 @@ pub fn intros_begin()
 /// The cuts of procedures.
 pub fn cuts_in_order()
     ensures { CutsInOrder }
+{}
+
+/// Procedures have as many cuts as E12 counts.
+pub fn cuts_are_counted()
+    ensures each { CutsAreCounted }
+    ensures before { CutsBeforeAreCounted }
+{}
+
+/// There are no more cuts than E12 lets pass.
+pub fn cuts_are_few()
+    ensures { CutsAreFew }
 {}
 
 /// Which procedures mean their bodies in the programs of layers 0 to 2.

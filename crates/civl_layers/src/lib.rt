@@ -4,11 +4,9 @@
 mod answer;
 mod below;
 mod cut;
-mod first;
 mod held;
 mod hidden;
 mod introduced;
-mod items;
 pub mod laws;
 mod names;
 mod parts;
@@ -21,7 +19,6 @@ mod span;
 #[cfg(test)]
 mod tests;
 mod there;
-mod walk;
 
 pub use answer::{layered, refusal};
 pub use cut::{Cut, CutKind, cuts};

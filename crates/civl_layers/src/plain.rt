@@ -1,5 +1,6 @@
 // The plain programs of a layered one.
 ghost use Rattle.std.specs.Prelude.{◌≡◌, ◌≤◌, map, IfOk};
+ghost use Rattle.civl_meaning.specs.Config.{IsPlain};
 ghost use Rattle.civl_meaning.specs.Layers.{means_body, program_at, lowest, topmost};
 
 use crate::source::{Layered, program};
@@ -28,14 +29,16 @@ fn bodies_at(alloc: Global, procs: &[Proc], k: u32) -> Result<List<bool>, Memory
 }
 
 /// The program of layer `k`, which is at most the number of layers: each procedure of layer `k` or less means the action
-/// that it refines, and every other procedure its body (Kragl, Qadeer, CAV 2018). It holds a copy of the source.
+/// that it refines, and every other procedure its body (Kragl, Qadeer, CAV 2018). It holds a copy of the source, and keeps the rules that plain
+/// programs keep.
 ///
 /// # Errors
 ///
 /// For want of memory.
 pub fn at(alloc: Global, src: &Layered, k: u32) -> Result<Plain, Memory>
     requires { k ≤ src.now.layers }
-    ensures { IfOk result (λ plain. plain ≡ program_at src.now k) }
+    ensures same { IfOk result (λ plain. plain ≡ program_at src.now k) }
+    ensures keeps { IfOk result (λ plain. IsPlain plain) }
 {
     let source = program(src);
     let bodies = bodies_at(alloc, source.procs.as_slice(), k)?;
@@ -49,7 +52,8 @@ pub fn at(alloc: Global, src: &Layered, k: u32) -> Result<Plain, Memory>
 ///
 /// For want of memory.
 pub fn low(alloc: Global, src: &Layered) -> Result<Plain, Memory>
-    ensures { IfOk result (λ plain. plain ≡ lowest src.now) }
+    ensures same { IfOk result (λ plain. plain ≡ lowest src.now) }
+    ensures keeps { IfOk result (λ plain. IsPlain plain) }
 {
     let plain = at(alloc, src, 0)?;
     Ok(plain)
@@ -61,7 +65,8 @@ pub fn low(alloc: Global, src: &Layered) -> Result<Plain, Memory>
 ///
 /// For want of memory.
 pub fn top(alloc: Global, src: &Layered) -> Result<Plain, Memory>
-    ensures { IfOk result (λ plain. plain ≡ topmost src.now) }
+    ensures same { IfOk result (λ plain. plain ≡ topmost src.now) }
+    ensures keeps { IfOk result (λ plain. IsPlain plain) }
 {
     let plain = at(alloc, src, program(src).layers)?;
     Ok(plain)

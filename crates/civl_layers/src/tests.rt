@@ -1,6 +1,6 @@
 // Each call with ample memory, and refusals of a small program.
 ghost use Rattle.std.specs.Prelude.{◌≡◌, ◌∷◌, [], length, IfOk};
-ghost use Rattle.civl_types.specs.Numbered.{IsNumbered};
+ghost use Rattle.civl_tree.specs.Numbered.{IsNumbered};
 ghost use Rattle.civl_tree.specs.Numbering.{sizes_of};
 
 use crate::{Cut, CutKind, Layered, at, cuts, layered, low, program, top};

@@ -2,7 +2,7 @@
 ghost use Rattle.std.specs.Prelude.{◌≡◌, option_copied};
 ghost use Rattle.civl_tree.specs.rules.Names.{action_named, proc_named};
 ghost use Rattle.civl_tree.specs.declared.stmt.Stmt.{out-Stmt};
-ghost use Rattle.civl_layers.specs.NotThere.{action_missing, refined_missing, run_missing, call_missing, layer_missing, stmt_missing, refines_missing, thread_missing};
+ghost use Rattle.civl_layers.specs.NotThere.{action_missing, refined_missing, run_missing, call_missing, form_missing, stmt_missing, refines_missing, thread_missing};
 
 use crate::ranges::{exists_through, life_end};
 use civl_tree::{Action, Name, Proc, Program, Refines, Stmt, Thread};
@@ -48,8 +48,8 @@ fn call_missing(program: &Program, to: u32, callee: &Name) -> bool
     }
 }
 
-fn layer_missing(program: &Program, to: u32, stmt: &Stmt) -> bool
-    ensures { result ≡ layer_missing program.now to (out-Stmt stmt.now) }
+fn form_missing(program: &Program, to: u32, stmt: &Stmt) -> bool
+    ensures { result ≡ form_missing program.now to (out-Stmt stmt.now) }
 {
     match stmt {
         Stmt::Call(callee, _, _) => call_missing(program, to, callee),
@@ -70,7 +70,7 @@ fn layer_missing(program: &Program, to: u32, stmt: &Stmt) -> bool
 pub(crate) fn stmt_missing(program: &Program, proc: &Proc, stmt: &Stmt) -> bool
     ensures { result ≡ stmt_missing program.now proc.now stmt.now }
 {
-    layer_missing(program, life_end(program, &proc.refines), stmt)
+    form_missing(program, life_end(program, &proc.refines), stmt)
 }
 
 /// Whether a procedure, without its statements, breaks E33.

@@ -9,8 +9,8 @@ use Rattle.std.proofs.lemmas.Bool.{and_parts, and_from, cond-true, cond-false, c
 use Rattle.std.proofs.lemmas.List.{take_all, append-nil, take-append-drop, take_at, length-take, length-append}
 use Rattle.std.proofs.lemmas.List.Sums.{take_while-cons}
 use Rattle.std.proofs.lemmas.List.Folds.{length-prefix_len}
-use Rattle.civl_tree.specs.Token.{Token, Named, Reserved, Sign, Number, text_of, IsToken, begins_name, is_name_byte, is_word, is_reserved, is_sign}
-use Rattle.civl_lex.specs.Lexical.{opens_digit, MayEnd, Begins, IsLongest, BeginsNone}
+use Rattle.civl_tree.specs.Token.{Token, Named, Reserved, Sign, Number, text_of, IsToken, begins_name, is_name_byte, is_identifier, is_reserved, is_sign}
+use Rattle.civl_lex.specs.Lexical.{opens_digit, MayEnd, IsAtFront, IsLongest, NoneAtFront}
 use Rattle.civl_lex.specs.Front.{word_of, number_of, sign_of, front_token}
 use Rattle.civl_lex.proofs.Runs.{first_passes, run_all, run_stops, run_covers, run_is}
 use Rattle.civl_lex.proofs.Numbers.{number_of-parts, number_of-decimal, decimal-number_of, decimal_digits}
@@ -36,7 +36,7 @@ own_at : (token : Token) (text : List ℕ) → text ≡ text_of token → IsToke
 own_at token [] e is h = absurd h
 own_at (Named bytes) (byte ∷ text) e is h =
     front_word byte text h.0 ∙ ap (λ w. Some (word_of w)) (whole_run is_name_byte (byte ∷ text) h.1 ∙ e)
-    ∙ ap Some (cond-false (is_reserved bytes) (Reserved bytes) (Named bytes) (not-true _ (and_parts (is_word bytes) (not (is_reserved bytes)) is).1))
+    ∙ ap Some (cond-false (is_reserved bytes) (Reserved bytes) (Named bytes) (not-true _ (and_parts (is_identifier bytes) (not (is_reserved bytes)) is).1))
 own_at (Reserved bytes) (byte ∷ text) e is h =
     front_word byte text h.0 ∙ ap (λ w. Some (word_of w)) (whole_run is_name_byte (byte ∷ text) h.1 ∙ e)
     ∙ ap Some (cond-true (is_reserved bytes) (Reserved bytes) (Named bytes) is)
@@ -78,7 +78,7 @@ first_at (Reserved own) (a ∷ text) rest byte bytes h e = let same : byte ≡ a
 first_at (Number value) (a ∷ text) rest byte bytes h e = let same : byte ≡ a = cc in ap is_ascii_digit same ∙ h.0
 first_at (Sign own) (a ∷ text) rest byte bytes h e = let same : byte ≡ a = cc in ap begins_sign same ∙ h.0
 
-first_byte : (token : Token) (byte : ℕ) (bytes : List ℕ) → Begins token (byte ∷ bytes) → FirstByte token byte
+first_byte : (token : Token) (byte : ℕ) (bytes : List ℕ) → IsAtFront token (byte ∷ bytes) → FirstByte token byte
 first_byte token byte bytes h = first_at token (text_of token) h.rest byte bytes (has_shape token h.is_token) h.parts
 
 pub none_at_end : (token : Token) (text rest : List ℕ) → HasShape token text → [] ≡ text ++ rest → ⊥
@@ -97,7 +97,7 @@ sign_at : (own text : List ℕ) → HasShape (Sign own) text → (0 < length tex
 sign_at own [] h = absurd h
 sign_at own (byte ∷ text) h = (omega arith, omega (arith, h.1))
 
-covered : (p : ℕ → Bool) (token : Token) (bytes : List ℕ) → Begins token bytes → list_all p (text_of token) ≡ true → length (text_of token) ≤ prefix_len p bytes
+covered : (p : ℕ → Bool) (token : Token) (bytes : List ℕ) → IsAtFront token bytes → list_all p (text_of token) ≡ true → length (text_of token) ≤ prefix_len p bytes
 covered p token bytes h all = subst (λ (x : List ℕ). length (text_of token) ≤ prefix_len p x) (sym h.parts) (run_covers p (text_of token) h.rest all)
 
 -- ---- names and reserved words
@@ -105,23 +105,23 @@ covered p token bytes h all = subst (λ (x : List ℕ). length (text_of token) �
 text_of-word_of : (text : List ℕ) → text_of (word_of text) ≡ text
 text_of-word_of text = cond_both (is_reserved text) (Reserved text) (Named text) (λ t. text_of t ≡ text) (λ h. refl) (λ h. refl)
 
-word_is : (text : List ℕ) → is_word text ≡ true → IsToken (word_of text)
-word_is text h = cond_both (is_reserved text) (Reserved text) (Named text) IsToken (λ k. k) (λ k. and_from (is_word text) (not (is_reserved text)) h (not_from_false (is_reserved text) k))
+word_is : (text : List ℕ) → is_identifier text ≡ true → IsToken (word_of text)
+word_is text h = cond_both (is_reserved text) (Reserved text) (Named text) IsToken (λ k. k) (λ k. and_from (is_identifier text) (not (is_reserved text)) h (not_from_false (is_reserved text) k))
 
 word_may_end : (text rest : List ℕ) → MayEnd (word_of text) rest
 word_may_end text rest = cond_both (is_reserved text) (Reserved text) (Named text) (λ t. MayEnd t rest) (λ h. tt) (λ h. tt)
 
-word_bound : (token : Token) (byte : ℕ) (bytes : List ℕ) → begins_name byte ≡ true → Begins token (byte ∷ bytes) → length (text_of token) ≤ prefix_len is_name_byte (byte ∷ bytes)
+word_bound : (token : Token) (byte : ℕ) (bytes : List ℕ) → begins_name byte ≡ true → IsAtFront token (byte ∷ bytes) → length (text_of token) ≤ prefix_len is_name_byte (byte ∷ bytes)
 unfolding FirstByte
 word_bound (Named own) byte bytes h b = covered is_name_byte (Named own) (byte ∷ bytes) b (names_at own own (has_shape (Named own) b.is_token))
 word_bound (Reserved own) byte bytes h b = covered is_name_byte (Reserved own) (byte ∷ bytes) b (reserved_at own own (has_shape (Reserved own) b.is_token))
 word_bound (Number value) byte bytes h b = absurd (false≢true (sym (name_no_digit byte h) ∙ first_byte (Number value) byte bytes b))
 word_bound (Sign own) byte bytes h b = absurd (false≢true (sym (sign_parts byte (first_byte (Sign own) byte bytes b)).0 ∙ h))
 
-word_run : (byte : ℕ) (bytes : List ℕ) → begins_name byte ≡ true → is_word (take_while is_name_byte (byte ∷ bytes)) ≡ true
+word_run : (byte : ℕ) (bytes : List ℕ) → begins_name byte ≡ true → is_identifier (take_while is_name_byte (byte ∷ bytes)) ≡ true
 word_run byte bytes h =
     let run : take_while is_name_byte (byte ∷ bytes) ≡ byte ∷ take_while is_name_byte bytes = take_while-cons is_name_byte byte bytes ∙ cond-true (is_name_byte byte) _ _ (or_left (begins_name byte) (is_ascii_digit byte) h) in
-    ap is_word run ∙ and_from (begins_name byte) (list_all is_name_byte (take_while is_name_byte bytes)) h (run_all is_name_byte bytes)
+    ap is_identifier run ∙ and_from (begins_name byte) (list_all is_name_byte (take_while is_name_byte bytes)) h (run_all is_name_byte bytes)
 
 word_right : (byte : ℕ) (bytes : List ℕ) → begins_name byte ≡ true → IsLongest (word_of (take_while is_name_byte (byte ∷ bytes))) (byte ∷ bytes)
 word_right byte bytes h =
@@ -147,7 +147,7 @@ no_digit_is : (bytes : List ℕ) → IsTrue (not (opens_digit bytes)) → first_
 no_digit_is [] h = refl
 no_digit_is (byte ∷ bytes) h = not-true (is_ascii_digit byte) h
 
-number_bound : (token : Token) (byte : ℕ) (bytes : List ℕ) → is_ascii_digit byte ≡ true → Begins token (byte ∷ bytes) → length (text_of token) ≤ prefix_len is_ascii_digit (byte ∷ bytes)
+number_bound : (token : Token) (byte : ℕ) (bytes : List ℕ) → is_ascii_digit byte ≡ true → IsAtFront token (byte ∷ bytes) → length (text_of token) ≤ prefix_len is_ascii_digit (byte ∷ bytes)
 unfolding FirstByte
 number_bound (Named own) byte bytes h b = absurd (false≢true (sym (digit_no_name byte h) ∙ first_byte (Named own) byte bytes b))
 number_bound (Reserved own) byte bytes h b = absurd (false≢true (sym (digit_no_name byte h) ∙ first_byte (Reserved own) byte bytes b))
@@ -176,12 +176,12 @@ number_right byte bytes value h e =
     }
 
 -- a number that begins there is the whole run
-number_takes : (value : ℕ) (bytes : List ℕ) → Begins (Number value) bytes → take_while is_ascii_digit bytes ≡ decimal value
+number_takes : (value : ℕ) (bytes : List ℕ) → IsAtFront (Number value) bytes → take_while is_ascii_digit bytes ≡ decimal value
 number_takes value bytes b =
     let count = run_is is_ascii_digit (decimal value) b.rest (decimal_digits value b.is_token) (no_digit_is b.rest b.may_end) in
     ap (take_while is_ascii_digit) b.parts ∙ take_at (decimal value) b.rest (prefix_len is_ascii_digit (decimal value ++ b.rest)) (sym count)
 
-no_number : (token : Token) (byte : ℕ) (bytes : List ℕ) → is_ascii_digit byte ≡ true → number_of (take_while is_ascii_digit (byte ∷ bytes)) ≡ None → Begins token (byte ∷ bytes) → ⊥
+no_number : (token : Token) (byte : ℕ) (bytes : List ℕ) → is_ascii_digit byte ≡ true → number_of (take_while is_ascii_digit (byte ∷ bytes)) ≡ None → IsAtFront token (byte ∷ bytes) → ⊥
 unfolding FirstByte
 no_number (Named own) byte bytes h e b = false≢true (sym (digit_no_name byte h) ∙ first_byte (Named own) byte bytes b)
 no_number (Reserved own) byte bytes h e b = false≢true (sym (digit_no_name byte h) ∙ first_byte (Reserved own) byte bytes b)
@@ -192,11 +192,11 @@ no_number (Number value) byte bytes h e b =
 -- ---- signs
 
 -- a sign is next, and of how many bytes
-sign_begins : (bytes : List ℕ) (n : ℕ) → is_sign (take n bytes) ≡ true → Begins (Sign (take n bytes)) bytes
+sign_begins : (bytes : List ℕ) (n : ℕ) → is_sign (take n bytes) ≡ true → IsAtFront (Sign (take n bytes)) bytes
 sign_begins bytes n h = record { is_token = h; rest = drop n bytes; parts = sym (take-append-drop n bytes); may_end = tt }
 
 -- what begins there is a sign of one byte or two
-sign_next : (token : Token) (byte : ℕ) (bytes : List ℕ) → begins_name byte ≡ false → is_ascii_digit byte ≡ false → Begins token (byte ∷ bytes)
+sign_next : (token : Token) (byte : ℕ) (bytes : List ℕ) → begins_name byte ≡ false → is_ascii_digit byte ≡ false → IsAtFront token (byte ∷ bytes)
     → (is_sign (take (length (text_of token)) (byte ∷ bytes)) ≡ true) × (0 < length (text_of token)) × (length (text_of token) ≤ 2)
 unfolding FirstByte
 sign_next (Named own) byte bytes h k b = absurd (false≢true (sym h ∙ first_byte (Named own) byte bytes b))
@@ -211,7 +211,7 @@ one_or_two zero some few = absurd (omega arith)
 one_or_two (suc zero) some few = inl refl
 one_or_two (suc (suc n)) some few = inr (omega arith)
 
-pub text_within : (token : Token) (bytes : List ℕ) → Begins token bytes → length (text_of token) ≤ length bytes
+pub text_within : (token : Token) (bytes : List ℕ) → IsAtFront token bytes → length (text_of token) ≤ length bytes
 text_within token bytes b = omega (arith, ap length b.parts, length-append (text_of token) b.rest)
 
 two_longest : (byte : ℕ) (bytes : List ℕ) → begins_name byte ≡ false → is_ascii_digit byte ≡ false → is_sign (take 2 (byte ∷ bytes)) ≡ true → IsLongest (Sign (take 2 (byte ∷ bytes))) (byte ∷ bytes)
@@ -220,7 +220,7 @@ two_longest byte bytes h k two = record {
   longest = λ other b. omega (arith, (sign_next other byte bytes h k b).2, text_within other (byte ∷ bytes) b, length-take 2 (byte ∷ bytes));
 }
 
-not_two : (token : Token) (byte : ℕ) (bytes : List ℕ) → begins_name byte ≡ false → is_ascii_digit byte ≡ false → is_sign (take 2 (byte ∷ bytes)) ≡ false → Begins token (byte ∷ bytes) → length (text_of token) ≡ 1
+not_two : (token : Token) (byte : ℕ) (bytes : List ℕ) → begins_name byte ≡ false → is_ascii_digit byte ≡ false → is_sign (take 2 (byte ∷ bytes)) ≡ false → IsAtFront token (byte ∷ bytes) → length (text_of token) ≡ 1
 not_two token byte bytes h k two b =
     let next = sign_next token byte bytes h k b in
     ⊎_elim (λ e. e) (λ e. absurd (false≢true (sym two ∙ sym (ap (λ n. is_sign (take n (byte ∷ bytes))) e) ∙ next.0))) (one_or_two (length (text_of token)) next.1 next.2)
@@ -231,7 +231,7 @@ one_longest byte bytes h k two one = record {
   longest = λ other b. omega (arith, not_two other byte bytes h k two b);
 }
 
-no_sign : (token : Token) (byte : ℕ) (bytes : List ℕ) → begins_name byte ≡ false → is_ascii_digit byte ≡ false → is_sign (take 2 (byte ∷ bytes)) ≡ false → is_sign (take 1 (byte ∷ bytes)) ≡ false → Begins token (byte ∷ bytes) → ⊥
+no_sign : (token : Token) (byte : ℕ) (bytes : List ℕ) → begins_name byte ≡ false → is_ascii_digit byte ≡ false → is_sign (take 2 (byte ∷ bytes)) ≡ false → is_sign (take 1 (byte ∷ bytes)) ≡ false → IsAtFront token (byte ∷ bytes) → ⊥
 no_sign token byte bytes h k two one b =
     false≢true (sym one ∙ sym (ap (λ n. is_sign (take n (byte ∷ bytes))) (not_two token byte bytes h k two b)) ∙ (sign_next token byte bytes h k b).0)
 
@@ -239,7 +239,7 @@ no_sign token byte bytes h k two one b =
 
 -- the token is the longest that begins there, and without one none begins there
 abbrev pub IsFront : List ℕ → Option Token → Type 0
-IsFront bytes None = BeginsNone bytes
+IsFront bytes None = NoneAtFront bytes
 IsFront bytes (Some token) = IsLongest token bytes
 
 number_front : (byte : ℕ) (bytes : List ℕ) (o : Option ℕ) → is_ascii_digit byte ≡ true → number_of (take_while is_ascii_digit (byte ∷ bytes)) ≡ o → IsFront (byte ∷ bytes) (option_map Number o)

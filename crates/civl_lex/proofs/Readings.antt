@@ -4,7 +4,7 @@ use Rattle.std.proofs.lemmas.List.{length-append, length-drop, drop_at, drop-dro
 use Rattle.civl_tree.specs.Token.{Token, text_of}
 use Rattle.civl_lex.specs.Front.{behind_gap, front_token}
 use Rattle.civl_lex.specs.Lexical.{IsLongest}
-use Rattle.civl_lex.specs.Text.{IsNext, Leads, IsFault, NoTokenAt, IsAnswer}
+use Rattle.civl_lex.specs.Text.{IsNext, Leads, IsFault, NoTokenAt, IsLexedAs}
 use Rattle.civl_lex.proofs.Fronts.{IsFront, front_right, text_within}
 use Rattle.civl_lex.proofs.Gaps.{EndsGap, gap_found, last_from, Behind, behind_from}
 use Rattle.civl_lex.proofs.Spellings.{text_some}
@@ -50,8 +50,8 @@ next_right bytes rest token h longest =
     let parts = after_longest rest token longest in
     record { gap = h.0; is_gap = h.1; parts = h.2 ∙ ap (λ x. h.0 ++ x) parts; longest = subst (IsLongest token) parts longest }
 
-behind_right : (bytes rest : List ℕ) (token : Token) (x : Answer) → Behind bytes rest → IsLongest token rest → IsAnswer (drop (length (text_of token)) rest) x
-    → IsAnswer bytes (behind_token token (length bytes - length rest + length (text_of token)) x)
+behind_right : (bytes rest : List ℕ) (token : Token) (x : Answer) → Behind bytes rest → IsLongest token rest → IsLexedAs (drop (length (text_of token)) rest) x
+    → IsLexedAs bytes (behind_token token (length bytes - length rest + length (text_of token)) x)
 behind_right bytes rest token (Ok tokens) h longest right = (right.0, (drop (length (text_of token)) rest, next_right bytes rest token h longest, right.1), right.2)
 behind_right bytes rest token (Err p) h longest right =
     let after = drop (length (text_of token)) rest in
@@ -64,7 +64,7 @@ behind_right bytes rest token (Err p) h longest right =
     )
 
 taken_right : (bytes rest : List ℕ) (front : Option Token) (next : Token → Answer) → EndsGap bytes rest → IsFront rest front
-    → ((token : Token) → IsLongest token rest → IsAnswer (drop (length (text_of token)) rest) (next token)) → IsAnswer bytes (taken_at (length bytes) rest front next)
+    → ((token : Token) → IsLongest token rest → IsLexedAs (drop (length (text_of token)) rest) (next token)) → IsLexedAs bytes (taken_at (length bytes) rest front next)
 taken_right bytes [] front next found right more = (bytes, refl, last_from bytes [] found refl)
 taken_right bytes (byte ∷ rest) None next found right more = fault_right bytes (byte ∷ rest) (behind_from bytes (byte ∷ rest) (λ e. cc) found) (λ e. cc) right
 taken_right bytes (byte ∷ rest) (Some token) next found right more = behind_right bytes (byte ∷ rest) token (next token) (behind_from bytes (byte ∷ rest) (λ e. cc) found) right (more token right)
@@ -75,7 +75,7 @@ rest_within bytes rest found = elim found.ends [
   | inr k ↦ rw k.0 (omega arith)
 ]
 
-pub answer_right : (n : ℕ) (bytes : List ℕ) → length bytes < n → IsAnswer bytes (answer_of n bytes)
+pub answer_right : (n : ℕ) (bytes : List ℕ) → length bytes < n → IsLexedAs bytes (answer_of n bytes)
 answer_right zero bytes few = absurd (omega arith)
 answer_right (suc n) bytes few =
     let found = gap_found bytes in
@@ -83,5 +83,5 @@ answer_right (suc n) bytes few =
     (λ token longest. answer_right n (drop (length (text_of token)) (behind_gap bytes))
     (omega (arith, length-drop (length (text_of token)) (behind_gap bytes), rest_within bytes (behind_gap bytes) found, text_some token longest.begins.is_token, text_within token (behind_gap bytes) longest.begins)))
 
-pub some_answer : (bytes : List ℕ) → (x : Answer) × IsAnswer bytes x
+pub some_answer : (bytes : List ℕ) → (x : Answer) × IsLexedAs bytes x
 some_answer bytes = (answer_of (suc (length bytes)) bytes, answer_right (suc (length bytes)) bytes (omega arith))

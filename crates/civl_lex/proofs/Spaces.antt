@@ -5,7 +5,7 @@ use Rattle.std.specs.List.{list_all, prefix_len, take_while}
 use Rattle.std.specs.Option.{option_map}
 use Rattle.std.proofs.lemmas.Bool.{and_parts, or_from, cond-true, cond-false, not-true, not_from_true, false≢true, false_from_ne_true}
 use Rattle.std.proofs.lemmas.List.{take_at}
-use Rattle.civl_tree.specs.Token.{Token, Named, Reserved, Sign, Number, text_of, IsToken, begins_name, is_name_byte, is_word, is_reserved, is_sign, signs}
+use Rattle.civl_tree.specs.Token.{Token, Named, Reserved, Sign, Number, text_of, IsToken, begins_name, is_name_byte, is_identifier, is_reserved, is_sign, signs}
 use Rattle.civl_lex.specs.Front.{word_of, number_of, sign_of, front_token}
 use Rattle.civl_lex.specs.Gap.{is_blank}
 use Rattle.civl_lex.specs.Laws.{AreSpaced, spaced}
@@ -51,7 +51,7 @@ before_at token [] byte rest e blank is h = absurd h
 before_at (Named bytes) (a ∷ text) byte rest e blank is h =
     front_word a (text ++ byte ∷ rest) h.0
     ∙ ap (λ w. Some (word_of w)) (run_before is_name_byte (a ∷ text) byte rest h.1 (or_from _ _ (blank_no_name byte blank) (blank_no_digit byte blank)) ∙ e)
-    ∙ ap Some (cond-false (is_reserved bytes) (Reserved bytes) (Named bytes) (not-true _ (and_parts (is_word bytes) (not (is_reserved bytes)) is).1))
+    ∙ ap Some (cond-false (is_reserved bytes) (Reserved bytes) (Named bytes) (not-true _ (and_parts (is_identifier bytes) (not (is_reserved bytes)) is).1))
 before_at (Reserved bytes) (a ∷ text) byte rest e blank is h =
     front_word a (text ++ byte ∷ rest) h.0
     ∙ ap (λ w. Some (word_of w)) (run_before is_name_byte (a ∷ text) byte rest h.1 (or_from _ _ (blank_no_name byte blank) (blank_no_digit byte blank)) ∙ e)

@@ -7,7 +7,7 @@ use Rattle.std.specs.List.{list_all, list_any}
 use Rattle.std.specs.Str.{bytes_eq}
 use Rattle.std.proofs.lemmas.Bool.{and_parts, or_cases, not-true, eqb-true, leb-true, and_from, and_left, and_right, or_from, or_left, lt-leb, ne_eqb}
 use Rattle.std.proofs.lemmas.Slice.Eq.{bytes_eq-Decides}
-use Rattle.civl_tree.specs.Token.{Token, Named, Reserved, Sign, Number, text_of, IsToken, begins_name, is_name_byte, is_word, is_reserved, is_sign, reserved_words, signs}
+use Rattle.civl_tree.specs.Token.{Token, Named, Reserved, Sign, Number, text_of, IsToken, begins_name, is_name_byte, is_identifier, is_reserved, is_sign, reserved_words, signs}
 use Rattle.civl_lex.specs.Gap.{is_blank}
 use Rattle.civl_lex.proofs.Numbers.{decimal_digits, decimal_some}
 
@@ -20,8 +20,8 @@ among q text (entry ∷ table) all any =
     let parts = and_parts (q entry) (list_all q table) all in
     ⊎_elim (λ h. ap q ((bytes_eq-Decides text entry).0 h) ∙ parts.0) (λ h. among q text table parts.1 h) (or_cases (bytes_eq text entry) (list_any (bytes_eq text) table) any)
 
-pub reserved_is_word : (text : List ℕ) → is_reserved text ≡ true → is_word text ≡ true
-reserved_is_word text h = among is_word text reserved_words refl h
+pub reserved_is_identifier : (text : List ℕ) → is_reserved text ≡ true → is_identifier text ≡ true
+reserved_is_identifier text h = among is_identifier text reserved_words refl h
 
 -- ---- first bytes
 
@@ -82,16 +82,16 @@ HasShape (Reserved bytes) (byte ∷ text) = (begins_name byte ≡ true) × (list
 HasShape (Number value) (byte ∷ text) = (is_ascii_digit byte ≡ true) × (list_all is_ascii_digit (byte ∷ text) ≡ true)
 HasShape (Sign bytes) (byte ∷ text) = (begins_sign byte ≡ true) × (length text ≤ 1)
 
-word_all : (byte : ℕ) (text : List ℕ) → is_word (byte ∷ text) ≡ true → (begins_name byte ≡ true) × (list_all is_name_byte (byte ∷ text) ≡ true)
+word_all : (byte : ℕ) (text : List ℕ) → is_identifier (byte ∷ text) ≡ true → (begins_name byte ≡ true) × (list_all is_name_byte (byte ∷ text) ≡ true)
 word_all byte text h =
     let parts = and_parts (begins_name byte) (list_all is_name_byte text) h in
     (parts.0, and_from (is_name_byte byte) (list_all is_name_byte text) (or_left (begins_name byte) (is_ascii_digit byte) parts.0) parts.1)
 
-named_shape : (own text : List ℕ) → is_word text ≡ true → HasShape (Named own) text
+named_shape : (own text : List ℕ) → is_identifier text ≡ true → HasShape (Named own) text
 named_shape own [] h = absurd cc
 named_shape own (byte ∷ text) h = word_all byte text h
 
-reserved_shape : (own text : List ℕ) → is_word text ≡ true → HasShape (Reserved own) text
+reserved_shape : (own text : List ℕ) → is_identifier text ≡ true → HasShape (Reserved own) text
 reserved_shape own [] h = absurd cc
 reserved_shape own (byte ∷ text) h = word_all byte text h
 
@@ -104,8 +104,8 @@ number_shape value [] some h = absurd (omega arith)
 number_shape value (byte ∷ text) some h = ((and_parts (is_ascii_digit byte) (list_all is_ascii_digit text) h).0, h)
 
 pub has_shape : (token : Token) → IsToken token → HasShape token (text_of token)
-has_shape (Named bytes) h = named_shape bytes bytes (and_parts (is_word bytes) (not (is_reserved bytes)) h).0
-has_shape (Reserved bytes) h = reserved_shape bytes bytes (reserved_is_word bytes h)
+has_shape (Named bytes) h = named_shape bytes bytes (and_parts (is_identifier bytes) (not (is_reserved bytes)) h).0
+has_shape (Reserved bytes) h = reserved_shape bytes bytes (reserved_is_identifier bytes h)
 has_shape (Sign bytes) h = sign_has_shape bytes bytes (sign_shape bytes h)
 has_shape (Number value) h = number_shape value (decimal value) (decimal_some value h) (decimal_digits value h)
 

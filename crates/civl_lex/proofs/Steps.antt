@@ -6,9 +6,9 @@ use Rattle.std.proofs.lemmas.List.{length-drop, length-map, drop-drop, drop_at, 
 use Rattle.std.proofs.lemmas.List.Elements.{All-push}
 use Rattle.civl_tree.specs.Token.{Token as Spelling, text_of}
 use Rattle.civl_lex.specs.declared.token.Token.{Token}
-use Rattle.civl_lex.specs.Front.{behind_gap, front_token}
+use Rattle.civl_lex.specs.Front.{behind_gap, front_token, IsCut}
 use Rattle.civl_lex.specs.Lexical.{IsLongest}
-use Rattle.civl_lex.specs.Spelled.{spelled, spelled_token, IsCut, IsCutFrom, HaveStarts}
+use Rattle.civl_lex.specs.Spelled.{spelled, spelled_token, IsCutFrom, HaveStarts}
 use Rattle.civl_lex.specs.Text.{IsNext, Leads, HasTokens, Reaches, NoTokenAt, StartsAt}
 use Rattle.civl_lex.proofs.Fronts.{IsFront, front_right}
 use Rattle.civl_lex.proofs.Gaps.{EndsGap, gap_found, last_from, Behind, behind_from}

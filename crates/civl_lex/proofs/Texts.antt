@@ -6,8 +6,8 @@ use Rattle.std.proofs.lemmas.List.{append-nil, append_cancel_left, length-drop, 
 use Rattle.civl_tree.specs.Token.{Token, Named, Reserved, Sign, Number, text_of, IsToken}
 use Rattle.civl_lex.specs.Front.{behind_gap}
 use Rattle.civl_lex.specs.Gap.{is_blank, IsGap, IsLastGap, opens_comment, opens_gap}
-use Rattle.civl_lex.specs.Lexical.{Begins, IsLongest}
-use Rattle.civl_lex.specs.Text.{IsNext, Leads, HasTokens, IsFault, NoTokenAt, StartsAt, IsAnswer}
+use Rattle.civl_lex.specs.Lexical.{IsAtFront, IsLongest}
+use Rattle.civl_lex.specs.Text.{IsNext, Leads, HasTokens, IsFault, NoTokenAt, StartsAt, IsLexedAs}
 use Rattle.civl_lex.proofs.Fronts.{same_longest, none_at_end}
 use Rattle.civl_lex.proofs.Gaps.{gap_skipped, outside_stays, last_gap_ends}
 use Rattle.civl_lex.proofs.Spellings.{HasShape, has_shape, outside_name, outside_digit, sign_parts}
@@ -53,7 +53,7 @@ next_not_last token bytes after h last =
 
 next_not_fault : (token : Token) (gap rest after : List ℕ) → IsGap gap → IsFault rest → IsNext token (gap ++ rest) after → ⊥
 next_not_fault token gap rest after is fault h =
-    fault.none token (subst (Begins token) (sym (behind_next token (gap ++ rest) after h) ∙ behind_fault gap rest is fault) h.longest.begins)
+    fault.none token (subst (IsAtFront token) (sym (behind_next token (gap ++ rest) after h) ∙ behind_fault gap rest is fault) h.longest.begins)
 
 last_not_fault : (gap rest : List ℕ) → IsGap gap → IsFault rest → IsLastGap (gap ++ rest) → ⊥
 last_not_fault gap rest is fault last = fault.some (sym (behind_fault gap rest is fault) ∙ last_gap_ends (gap ++ rest) last)
@@ -109,7 +109,7 @@ place_once bytes p q h k =
     same_place bytes p q h.2.some
     (fault_once h.0 k.0 bytes h.1.gap (drop p bytes) k.1.gap (drop q bytes) h.1.is_gap h.2 k.1.is_gap k.2 h.1.leads k.1.leads)
 
-pub answer_once : (bytes : List ℕ) (x y : Result (List Token) ℕ) → IsAnswer bytes x → IsAnswer bytes y → x ≡ y
+pub answer_once : (bytes : List ℕ) (x y : Result (List Token) ℕ) → IsLexedAs bytes x → IsLexedAs bytes y → x ≡ y
 answer_once bytes (Ok tokens) (Ok others) h k = ap Ok (tokens_once bytes tokens others h k)
 answer_once bytes (Ok tokens) (Err q) h k = absurd (not_both bytes tokens q h k)
 answer_once bytes (Err p) (Ok others) h k = absurd (not_both bytes others p k h)

@@ -1,12 +1,14 @@
--- How the code reads at the front of some bytes: what stands behind a gap, and the token that is next. The clauses of
--- private functions say this. That it is the gap of `Gap` and the longest token of `Lexical` is proved.
-use Rattle.std.specs.Prelude.{ℕ, ◌^◌, ◌&&◌, ◌||◌, Bool, true, false, not, nat_eq, nat_lt, if◌then◌else◌, List, [], ◌∷◌, length, take, Option, Some, None, slice_index}
+-- Serves private functions: how the code reads at the front of some bytes, that is what stands behind a gap, the token
+-- that is next, and where it lies. That this is the gap of `Gap` and the longest token of `Lexical` is proved.
+use Rattle.std.specs.Prelude.{◌≡◌, ℕ, ◌^◌, ◌&&◌, ◌||◌, Bool, true, false, not, nat_eq, nat_lt, if◌then◌else◌, List, [], ◌∷◌, length, take, Option, Some, None, slice_index}
 use Rattle.std.specs.Char.{is_ascii_digit}
 use Rattle.std.specs.List.{take_while}
 use Rattle.std.specs.Option.{option_map}
 use Rattle.std.specs.Str.Parse.{digits_value}
-use Rattle.civl_tree.specs.Token.{Token, Named, Reserved, Sign, Number, begins_name, is_name_byte, is_reserved, is_sign}
+use Rattle.civl_tree.specs.Token.{Token, Named, Reserved, Sign, Number, text_of, begins_name, is_name_byte, is_reserved, is_sign}
+use Rattle.civl_lex.specs.declared.token.Token.{Token as Placed}
 use Rattle.civl_lex.specs.Gap.{is_blank, opens_comment}
+use Rattle.civl_lex.specs.Spelled.{spelled_token}
 
 -- what stands behind the blanks and comments at the front, where the bytes may begin within a comment
 abbrev pub behind : Bool → List ℕ → List ℕ
@@ -36,3 +38,9 @@ front_token [] = None
 front_token (byte ∷ bytes) =
     if begins_name byte then Some (word_of (take_while is_name_byte (byte ∷ bytes)))
     else (if is_ascii_digit byte then option_map Number (number_of (take_while is_ascii_digit (byte ∷ bytes))) else sign_of (byte ∷ bytes))
+
+-- The token is cut from the front of these bytes, which stand at this place of the source.
+pub record IsCut (bytes : List ℕ) (place : ℕ) (token : Placed) : Type 0 where
+  pub own : token.text.now ≡ text_of (spelled_token token)
+  pub slice : token.text.now ≡ take (length token.text.now) bytes
+  pub start : token.start ≡ place

@@ -5,15 +5,15 @@ use Rattle.civl_tree.specs.Token.{Token, Named, Reserved, Sign, Number, text_of,
 use Rattle.civl_tree.specs.examples.SpellingFlag.{flag_tokens}
 use Rattle.civl_tree.specs.examples.SpellingTexts.{lines}
 use Rattle.civl_lex.specs.Gap.{is_blank}
-use Rattle.civl_lex.specs.Text.{HasTokens, NoTokenAt, StartsAt, IsAnswer}
+use Rattle.civl_lex.specs.Text.{HasTokens, NoTokenAt, StartsAt, IsLexedAs}
 
 -- No bytes have two answers: one list of tokens at most, or one fault, and never both.
 abbrev pub OneAnswer : Type 0
-OneAnswer = (bytes : List ℕ) (x y : Result (List Token) ℕ) → IsAnswer bytes x → IsAnswer bytes y → x ≡ y
+OneAnswer = (bytes : List ℕ) (x y : Result (List Token) ℕ) → IsLexedAs bytes x → IsLexedAs bytes y → x ≡ y
 
 -- All bytes have an answer.
 abbrev pub SomeAnswer : Type 0
-SomeAnswer = (bytes : List ℕ) → (x : Result (List Token) ℕ) × IsAnswer bytes x
+SomeAnswer = (bytes : List ℕ) → (x : Result (List Token) ℕ) × IsLexedAs bytes x
 
 -- No token begins at two places.
 abbrev pub OneStart : Type 0

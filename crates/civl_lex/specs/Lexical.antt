@@ -17,7 +17,7 @@ MayEnd (Sign bytes) rest = Unit {0}
 MayEnd (Number value) rest = IsTrue (not (opens_digit rest))
 
 -- The token may stand in a text, and stands at the front of these bytes.
-pub record Begins (token : Token) (bytes : List ℕ) : Type 0 where
+pub record IsAtFront (token : Token) (bytes : List ℕ) : Type 0 where
   pub is_token : IsToken token
   pub rest : List ℕ
   pub parts : bytes ≡ text_of token ++ rest
@@ -25,9 +25,9 @@ pub record Begins (token : Token) (bytes : List ℕ) : Type 0 where
 
 -- The token begins here, and none that begins here has a longer text.
 pub record IsLongest (token : Token) (bytes : List ℕ) : Type 0 where
-  pub begins : Begins token bytes
-  pub longest : (other : Token) → Begins other bytes → length (text_of other) ≤ length (text_of token)
+  pub begins : IsAtFront token bytes
+  pub longest : (other : Token) → IsAtFront other bytes → length (text_of other) ≤ length (text_of token)
 
 -- no token begins here
-abbrev pub BeginsNone : List ℕ → Type 0
-BeginsNone bytes = (token : Token) → Begins token bytes → ⊥
+abbrev pub NoneAtFront : List ℕ → Type 0
+NoneAtFront bytes = (token : Token) → IsAtFront token bytes → ⊥

@@ -25,12 +25,6 @@ pub record IsCutFrom (source : List ℕ) (token : Placed) : Type 0 where
   pub own : token.text.now ≡ text_of (spelled_token token)
   pub slice : token.text.now ≡ take (length token.text.now) (drop token.start source)
 
--- The token is cut from the front of these bytes, which stand at this place of the source.
-pub record IsCut (bytes : List ℕ) (place : ℕ) (token : Placed) : Type 0 where
-  pub own : token.text.now ≡ text_of (spelled_token token)
-  pub slice : token.text.now ≡ take (length token.text.now) bytes
-  pub start : token.start ≡ place
-
 -- Each token has the place at which it begins.
 abbrev pub HaveStarts : List ℕ → List Placed → Type 0
 HaveStarts source tokens = (number : ℕ) (token : Placed) → slice_get tokens number ≡ Some token → StartsAt source number token.start

@@ -2,7 +2,7 @@
 use Rattle.std.specs.Prelude.{◌≡◌, ℕ, ◌≢◌, false, List, [], ◌∷◌, ◌++◌, length, drop, Result, Ok, Err}
 use Rattle.civl_tree.specs.Token.{Token, text_of}
 use Rattle.civl_lex.specs.Gap.{IsGap, IsLastGap, opens_gap}
-use Rattle.civl_lex.specs.Lexical.{IsLongest, BeginsNone}
+use Rattle.civl_lex.specs.Lexical.{IsLongest, NoneAtFront}
 
 -- Behind a gap this token is next, the longest that begins there, and then come the bytes `after`.
 pub record IsNext (token : Token) (bytes after : List ℕ) : Type 0 where
@@ -31,7 +31,7 @@ pub record Reaches (tokens : List Token) (bytes : List ℕ) (p : ℕ) : Type 0 w
 pub record IsFault (bytes : List ℕ) : Type 0 where
   pub some : bytes ≢ []
   pub outside : opens_gap bytes ≡ false
-  pub none : BeginsNone bytes
+  pub none : NoneAtFront bytes
 
 -- Place p is the first place outside blanks and comments at which no token begins.
 abbrev pub NoTokenAt : List ℕ → ℕ → Type 0
@@ -42,7 +42,7 @@ abbrev pub StartsAt : List ℕ → ℕ → ℕ → Type 0
 StartsAt bytes number p =
     (tokens : List Token) × (token : Token) × (length tokens ≡ number) × Reaches tokens bytes p × IsLongest token (drop p bytes)
 
--- What the bytes are: these tokens, or a fault at this place.
-abbrev pub IsAnswer : List ℕ → Result (List Token) ℕ → Type 0
-IsAnswer bytes (Ok tokens) = HasTokens bytes tokens
-IsAnswer bytes (Err p) = NoTokenAt bytes p
+-- What the bytes are cut into: these tokens, or a fault at this place.
+abbrev pub IsLexedAs : List ℕ → Result (List Token) ℕ → Type 0
+IsLexedAs bytes (Ok tokens) = HasTokens bytes tokens
+IsLexedAs bytes (Err p) = NoTokenAt bytes p

@@ -1,9 +1,9 @@
 // Names and reserved words.
 ghost use Rattle.std.specs.Prelude.{◌≡◌};
 ghost use Rattle.std.specs.List.{list_all, take_while};
-ghost use Rattle.civl_tree.specs.Token.{is_name, is_name_byte, is_reserved, is_word};
-ghost use Rattle.civl_lex.specs.Front.{word_of};
-ghost use Rattle.civl_lex.specs.Spelled.{spelled_token, IsCut};
+ghost use Rattle.civl_tree.specs.Token.{is_name, is_name_byte, is_reserved, is_identifier};
+ghost use Rattle.civl_lex.specs.Front.{word_of, IsCut};
+ghost use Rattle.civl_lex.specs.Spelled.{spelled_token};
 
 use crate::run::{begins_name, is_name_byte, name_len};
 use crate::table::is_among;
@@ -83,8 +83,8 @@ fn are_name_bytes(text: &[u8]) -> bool
     text.iter().all(|byte| is_name_byte(*byte))
 }
 
-fn is_word(text: &[u8]) -> bool
-    ensures { result ≡ is_word text.now }
+fn is_identifier(text: &[u8]) -> bool
+    ensures { result ≡ is_identifier text.now }
 {
     match text {
         [first, rest @ ..] => begins_name(*first) && are_name_bytes(rest),
@@ -96,7 +96,7 @@ fn is_word(text: &[u8]) -> bool
 pub fn is_name(text: &[u8]) -> bool
     ensures { result ≡ is_name text.now }
 {
-    is_word(text) && !is_reserved(text)
+    is_identifier(text) && !is_reserved(text)
 }
 
 /// The name or reserved word at the front of `rest`, which stands at place `start` of the source.

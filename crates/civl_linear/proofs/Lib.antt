@@ -5,3 +5,4 @@ pub mod Answering
 pub mod Limits
 pub mod Judged
 pub mod Examples
+pub mod Beside

@@ -1,33 +1,24 @@
 -- The number of names of a procedure that keeps the limits.
-use Rattle.std.proofs.Common.{◌≡◌, ℕ, ◌+◌, ◌<◌, ◌≤◌, Bool, true, false, ◌||◌, ltb, List, ◌++◌, map, length, get_or, Some, refl, ap, subst, arith, slice_get}
-use Rattle.std.specs.Prelude.{IsTrue}
+use Rattle.std.proofs.Common.{◌≡◌, ℕ, ◌+◌, ◌<◌, ◌≤◌, Bool, true, false, ◌||◌, List, ◌++◌, map, length, get_or, Some, refl, subst, arith, slice_get}
 use Rattle.std.proofs.lemmas.Bool.{ltb-false}
 use Rattle.std.proofs.lemmas.List.{length-append, length-map}
 use Rattle.std.proofs.lemmas.Option.{slice_get_read}
 use Rattle.civl_tree.specs.declared.name.Name.{Name}
 use Rattle.civl_tree.specs.declared.program.Proc.{Proc}
 use Rattle.civl_tree.specs.declared.program.Program.{Program}
-use Rattle.civl_tree.specs.Numbering.{proc_item, no_statement}
 use Rattle.civl_tree.specs.rules.Names.{param_names, names_in_proc}
-use Rattle.civl_tree.specs.rules.Places.{E12, proc_breaks}
-use Rattle.civl_tree.specs.rules.Refusals.{BreaksNone, first_of}
-use Rattle.civl_tree.specs.rules.Broken.{InProc, IsAnswer}
-use Rattle.civl_tree.proofs.First.{first_is_answer}
+use Rattle.civl_tree.specs.rules.Rules.{Keeps}
+use Rattle.civl_tree.specs.rules.Typing.{typing_rules, count_rule}
+use Rattle.civl_tree.proofs.Kept.{proc_kept, count_among}
 
-or_second : (a b c : Bool) → b ≡ true → IsTrue (a || (b || c))
-or_second true b c h = refl
-or_second false true c h = refl
-or_second false false c h = cc
+few_by : (a b c : Bool) → (a || (b || c)) ≡ false → b ≡ false
+few_by true b c h = cc
+few_by false true c h = cc
+few_by false false c h = refl
 
-few_by : (n : ℕ) (b : Bool) → ltb 32 n ≡ b → (ltb 32 n ≡ true → ⊥) → n ≤ 32
-few_by n true e not = absurd (not e)
-few_by n false e not = ltb-false 32 n e
-
-few_names : (program : Program) → BreaksNone program → (place : ℕ) (proc : Proc) → slice_get program.procs place ≡ Some proc → length proc.params + length proc.outs + length proc.locals ≤ 32
-unfolding proc_breaks
+few_names : (program : Program) → Keeps typing_rules program → (place : ℕ) (proc : Proc) → slice_get program.procs place ≡ Some proc → length proc.params + length proc.outs + length proc.locals ≤ 32
 few_names program none place proc found =
-    few_by (length proc.params + length proc.outs + length proc.locals) _ refl (λ over.
-    subst (IsAnswer program) (ap first_of none) (first_is_answer program) E12 (proc_item program place) no_statement tt (InProc place proc found refl refl (or_second _ _ _ over)))
+    ltb-false 32 (length proc.params + length proc.outs + length proc.locals) (few_by _ _ _ (proc_kept typing_rules program none count_rule count_among place proc found))
 
 counted : (proc : Proc) → length (names_in_proc proc) ≡ length proc.params + length proc.outs + length proc.locals
 counted proc =
@@ -40,7 +31,7 @@ counted proc =
     omega (arith, e, f, a, b, d)
 
 -- the names of a procedure have numbers of 32 bits
-pub names_fit : (program : Program) → BreaksNone program → (items : List Proc) → items ≡ program.procs → (at : ℕ) (proc : Proc) → at < length items → proc ≡ get_or items at proc
+pub names_fit : (program : Program) → Keeps typing_rules program → (items : List Proc) → items ≡ program.procs → (at : ℕ) (proc : Proc) → at < length items → proc ≡ get_or items at proc
     → length (names_in_proc proc) < 4294967296
 names_fit program none items same at proc l e =
     let found : slice_get program.procs at ≡ Some proc = subst (λ (ps : List Proc). slice_get ps at ≡ Some proc) same (slice_get_read items (length items) at proc refl l e) in

@@ -5,7 +5,7 @@ use Rattle.std.specs.Prelude.{Bool, true, false, not, ◌&&◌, ◌||◌, List, 
 use Rattle.civl_tree.specs.declared.name.Name.{Name}
 use Rattle.civl_tree.specs.declared.expr.Expr.{Expr}
 use Rattle.civl_tree.specs.declared.stmt.Stmt.{Stmt}
-use Rattle.civl_tree.specs.declared.stmt.Stmt.TheOpen.{Stmt-F, Assign, Assert, If, While, YieldLoop, RankLoop, Call, Yield, Commit, Intro, Spawn}
+use Rattle.civl_tree.specs.declared.stmt.Stmt.TheOpen.{Stmt-F, If, While, YieldLoop, RankLoop, Call, Spawn}
 use Rattle.civl_tree.specs.declared.stmt.Stmt.TheFolds.{fold-Stmt}
 use Rattle.civl_tree.specs.declared.program.Proc.{Proc}
 use Rattle.civl_tree.specs.declared.program.Program.{Program}
@@ -21,16 +21,16 @@ holds (first ∷ names) [] name = false
 holds (first ∷ names) (is_held ∷ held) name = (is_held && same_name first name) || holds names held name
 
 -- what is held without these names
-abbrev pub without : List Name → List Name → List Bool → List Bool
-without gone [] held = []
-without gone (name ∷ names) [] = []
-without gone (name ∷ names) (is_held ∷ held) = (is_held && not (has_name gone name)) ∷ without gone names held
+abbrev pub without_names : List Name → List Name → List Bool → List Bool
+without_names gone [] held = []
+without_names gone (name ∷ names) [] = []
+without_names gone (name ∷ names) (is_held ∷ held) = (is_held && not (has_name gone name)) ∷ without_names gone names held
 
 -- what is held, and these names
-abbrev pub joined : List Name → List Name → List Bool → List Bool
-joined new [] held = []
-joined new (name ∷ names) [] = []
-joined new (name ∷ names) (is_held ∷ held) = (is_held || has_name new name) ∷ joined new names held
+abbrev pub with_names : List Name → List Name → List Bool → List Bool
+with_names new [] held = []
+with_names new (name ∷ names) [] = []
+with_names new (name ∷ names) (is_held ∷ held) = (is_held || has_name new name) ∷ with_names new names held
 
 -- what is held in both
 abbrev pub both_held : List Bool → List Bool → List Bool
@@ -53,12 +53,12 @@ entry_held proc = map (λ param. is_passed param.mode) proc.params ++ (map (λ o
 -- behind a call, where these are the names of the caller: without the take arguments, and with the give results
 abbrev pub call_held : List Name → Option Signature → List Expr → List Name → List Bool → List Bool
 call_held names None args results held = held
-call_held names (Some signature) args results held = joined (given_names signature.outs results) names (without (passed_names is_taken signature.params args) names held)
+call_held names (Some signature) args results held = with_names (given_names signature.outs results) names (without_names (passed_names is_taken signature.params args) names held)
 
 -- behind a spawn: without the lend and take arguments
 abbrev pub spawn_held : List Name → Option Signature → List Expr → List Bool → List Bool
 spawn_held names None args held = held
-spawn_held names (Some signature) args held = without (passed_names is_passed signature.params args) names held
+spawn_held names (Some signature) args held = without_names (passed_names is_passed signature.params args) names held
 
 -- going over statements: what is held behind them; what is held before each of them and before each statement in them, in
 -- text order; and whether each of these is a loop whose body ends without holding all that was held at its head
@@ -91,19 +91,15 @@ trace_if held first second = record {
 abbrev pub trace_loop : List Bool → Traced → Traced
 trace_loop held body = record { after = held; befores = held ∷ body.befores; losses = not (covers held body.after) ∷ body.losses }
 
--- over one layer of a statement of a procedure with these names, with what goes over its parts
+-- over a statement by its form, in a procedure with these names, with what goes over its parts
 abbrev pub trace_step : Program → List Name → Stmt-F (List Bool → Traced) → List Bool → Traced
-trace_step program names (Assign target value) held = trace_one held held
-trace_step program names (Assert fact) held = trace_one held held
 trace_step program names (If test first second) held = trace_if held (trace_all first held) (trace_all second held)
 trace_step program names (While test body) held = trace_loop held (trace_all body held)
 trace_step program names (YieldLoop test inv body) held = trace_loop held (trace_all body held)
 trace_step program names (RankLoop test rank inv body) held = trace_loop held (trace_all body held)
 trace_step program names (Call callee args results) held = trace_one held (call_held names (callee_signature program callee) args results held)
-trace_step program names (Yield inv) held = trace_one held held
-trace_step program names Commit held = trace_one held held
-trace_step program names (Intro target value) held = trace_one held held
 trace_step program names (Spawn callee args) held = trace_one held (spawn_held names (proc_signature_of (proc_named program callee)) args held)
+trace_step program names _ held = trace_one held held
 
 -- over a statement and those in it
 abbrev pub traced : Program → List Name → Stmt → List Bool → Traced

@@ -2,6 +2,7 @@ pub mod Modes
 pub mod Held
 pub mod Places
 pub mod Cuts
-pub mod Refusals
+pub mod LinearRules
+pub mod Lengths
 pub mod Wants
 pub mod examples

@@ -5,36 +5,29 @@ use Rattle.civl_tree.specs.declared.name.Name.{Name}
 use Rattle.civl_tree.specs.declared.expr.Expr.{Expr, out-Expr}
 use Rattle.civl_tree.specs.declared.expr.Expr.TheOpen as expr
 use Rattle.civl_tree.specs.declared.action.Mode.{Mode}
-use Rattle.civl_tree.specs.declared.action.Mode.TheVariants.{Val, Lend, Take, Give}
+use Rattle.civl_tree.specs.declared.action.Mode.TheVariants.{Lend, Take, Give}
 use Rattle.civl_tree.specs.declared.action.Param.{Param}
 
 -- a parameter for which a linear value is handed in
 abbrev pub is_passed : Mode → Bool
-is_passed Val = false
 is_passed Lend = true
 is_passed Take = true
-is_passed Give = false
+is_passed _ = false
 
 -- a parameter whose linear value isn't handed back
 abbrev pub is_taken : Mode → Bool
-is_taken Val = false
-is_taken Lend = false
 is_taken Take = true
-is_taken Give = false
+is_taken _ = false
 
 -- a parameter whose linear value is handed back
 abbrev pub is_lent : Mode → Bool
-is_lent Val = false
 is_lent Lend = true
-is_lent Take = false
-is_lent Give = false
+is_lent _ = false
 
 -- an output that hands out a linear value
 abbrev pub is_given : Mode → Bool
-is_given Val = false
-is_given Lend = false
-is_given Take = false
 is_given Give = true
+is_given _ = false
 
 -- of these arguments or results, each in the place of one of these parameters or outputs, those whose mode passes the test
 abbrev pub at_modes : {A : Type 0} → (Mode → Bool) → List Param → List A → List A
@@ -43,26 +36,12 @@ at_modes test (param ∷ params) [] = []
 at_modes test (param ∷ params) (item ∷ items) = (if test param.mode then item ∷ [] else []) ++ at_modes test params items
 
 -- the name that an expression is, if it is a plain name
-abbrev pub layer_name : expr.Expr-F Expr → List Name
-layer_name (expr.Name name) = name ∷ []
-layer_name (expr.Literal value width) = []
-layer_name expr.True = []
-layer_name expr.False = []
-layer_name expr.Done = []
-layer_name (expr.Old name) = []
-layer_name expr.OldDone = []
-layer_name (expr.One op part) = []
-layer_name (expr.Two op first second) = []
-layer_name (expr.Pick test first second) = []
-layer_name (expr.Get row at) = []
-layer_name (expr.Set row at cell) = []
-layer_name (expr.Fill index cell) = []
-layer_name (expr.Slice word high low) = []
-layer_name (expr.Widen word wider) = []
-layer_name (expr.Join first second) = []
+abbrev pub form_name : expr.Expr-F Expr → List Name
+form_name (expr.Name name) = name ∷ []
+form_name _ = []
 
 abbrev pub plain_name : Expr → List Name
-plain_name expr = layer_name (out-Expr expr)
+plain_name expr = form_name (out-Expr expr)
 
 -- the plain names that stand for the parameters whose mode passes the test
 abbrev pub passed_names : (Mode → Bool) → List Param → List Expr → List Name

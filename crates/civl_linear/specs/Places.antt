@@ -6,12 +6,12 @@ use Rattle.civl_tree.specs.declared.expr.Expr.{Expr}
 use Rattle.civl_tree.specs.declared.action.Mode.{Mode}
 use Rattle.civl_tree.specs.declared.action.Param.{Param}
 use Rattle.civl_tree.specs.declared.stmt.Stmt.{Stmt, out-Stmt}
-use Rattle.civl_tree.specs.declared.stmt.Stmt.TheOpen.{Stmt-F, Assign, Assert, If, While, YieldLoop, RankLoop, Call, Yield, Commit, Intro, Spawn}
+use Rattle.civl_tree.specs.declared.stmt.Stmt.TheOpen.{Stmt-F, Assign, Call, Spawn}
 use Rattle.civl_tree.specs.declared.program.Proc.{Proc}
 use Rattle.civl_tree.specs.declared.program.Program.{Program}
 use Rattle.civl_tree.specs.rules.Names.{Signature, same_name, has_name, any_twice, param_names, proc_named, proc_signature_of, callee_signature}
 use Rattle.civl_linear.specs.Modes.{is_passed, is_taken, is_given, at_modes, plain_name, passed_names, given_names}
-use Rattle.civl_linear.specs.Held.{holds, without, covers, exit_owed}
+use Rattle.civl_linear.specs.Held.{holds, without_names, covers, exit_owed}
 
 -- ---- the names of a procedure
 
@@ -53,22 +53,14 @@ abbrev pub any_not_held : Proc → List Name → List Bool → Option Signature 
 any_not_held proc names held None args = false
 any_not_held proc names held (Some signature) args = list_any (not_held proc names held) (at_modes is_passed signature.params args)
 
-abbrev pub layer_not_held : Program → Proc → List Name → Stmt-F Stmt → List Bool → Bool
-layer_not_held program proc names (Assign target value) held = false
-layer_not_held program proc names (Assert fact) held = false
-layer_not_held program proc names (If test first second) held = false
-layer_not_held program proc names (While test body) held = false
-layer_not_held program proc names (YieldLoop test inv body) held = false
-layer_not_held program proc names (RankLoop test rank inv body) held = false
-layer_not_held program proc names (Call callee args results) held = any_not_held proc names held (callee_signature program callee) args
-layer_not_held program proc names (Yield inv) held = false
-layer_not_held program proc names Commit held = false
-layer_not_held program proc names (Intro target value) held = false
-layer_not_held program proc names (Spawn callee args) held = any_not_held proc names held (proc_signature_of (proc_named program callee)) args
+abbrev pub form_not_held : Program → Proc → List Name → Stmt-F Stmt → List Bool → Bool
+form_not_held program proc names (Call callee args results) held = any_not_held proc names held (callee_signature program callee) args
+form_not_held program proc names (Spawn callee args) held = any_not_held proc names held (proc_signature_of (proc_named program callee)) args
+form_not_held program proc names _ held = false
 
 -- the statement of a procedure with these names, before which this is held
 abbrev pub stmt_not_held : Program → Proc → List Name → Stmt → List Bool → Bool
-stmt_not_held program proc names stmt held = layer_not_held program proc names (out-Stmt stmt) held
+stmt_not_held program proc names stmt held = form_not_held program proc names (out-Stmt stmt) held
 
 -- ---- E41: one local stands for two linear parameters, or a give result goes to what is held after the takes
 
@@ -80,24 +72,16 @@ passed_twice (Some signature) args = any_twice (passed_names is_passed signature
 abbrev pub given_to_held : List Name → List Bool → Option Signature → List Expr → List Name → Bool
 given_to_held names held None args results = false
 given_to_held names held (Some signature) args results =
-    list_any (holds names (without (passed_names is_taken signature.params args) names held)) (given_names signature.outs results)
+    list_any (holds names (without_names (passed_names is_taken signature.params args) names held)) (given_names signature.outs results)
 
-abbrev pub layer_held_twice : Program → List Name → Stmt-F Stmt → List Bool → Bool
-layer_held_twice program names (Assign target value) held = false
-layer_held_twice program names (Assert fact) held = false
-layer_held_twice program names (If test first second) held = false
-layer_held_twice program names (While test body) held = false
-layer_held_twice program names (YieldLoop test inv body) held = false
-layer_held_twice program names (RankLoop test rank inv body) held = false
-layer_held_twice program names (Call callee args results) held =
+abbrev pub form_held_twice : Program → List Name → Stmt-F Stmt → List Bool → Bool
+form_held_twice program names (Call callee args results) held =
     passed_twice (callee_signature program callee) args || given_to_held names held (callee_signature program callee) args results
-layer_held_twice program names (Yield inv) held = false
-layer_held_twice program names Commit held = false
-layer_held_twice program names (Intro target value) held = false
-layer_held_twice program names (Spawn callee args) held = passed_twice (proc_signature_of (proc_named program callee)) args
+form_held_twice program names (Spawn callee args) held = passed_twice (proc_signature_of (proc_named program callee)) args
+form_held_twice program names _ held = false
 
 abbrev pub stmt_held_twice : Program → List Name → Stmt → List Bool → Bool
-stmt_held_twice program names stmt held = layer_held_twice program names (out-Stmt stmt) held
+stmt_held_twice program names stmt held = form_held_twice program names (out-Stmt stmt) held
 
 -- ---- E42: at the exit a lend parameter or give output isn't held; a loop loses what was held at its head
 
@@ -124,18 +108,10 @@ abbrev pub call_misgiven : Proc → Option Signature → List Name → Bool
 call_misgiven proc None results = false
 call_misgiven proc (Some signature) results = any_misgiven proc signature.outs results
 
-abbrev pub layer_assigned : Program → Proc → Stmt-F Stmt → Bool
-layer_assigned program proc (Assign target value) = assigned proc target
-layer_assigned program proc (Assert fact) = false
-layer_assigned program proc (If test first second) = false
-layer_assigned program proc (While test body) = false
-layer_assigned program proc (YieldLoop test inv body) = false
-layer_assigned program proc (RankLoop test rank inv body) = false
-layer_assigned program proc (Call callee args results) = call_misgiven proc (callee_signature program callee) results
-layer_assigned program proc (Yield inv) = false
-layer_assigned program proc Commit = false
-layer_assigned program proc (Intro target value) = false
-layer_assigned program proc (Spawn callee args) = false
+abbrev pub form_assigned : Program → Proc → Stmt-F Stmt → Bool
+form_assigned program proc (Assign target value) = assigned proc target
+form_assigned program proc (Call callee args results) = call_misgiven proc (callee_signature program callee) results
+form_assigned program proc _ = false
 
 abbrev pub stmt_assigned : Program → Proc → Stmt → Bool
-stmt_assigned program proc stmt = layer_assigned program proc (out-Stmt stmt)
+stmt_assigned program proc stmt = form_assigned program proc (out-Stmt stmt)

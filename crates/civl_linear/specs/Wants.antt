@@ -1,4 +1,4 @@
--- Which parameters the code looks at.
+-- Serves private functions: which parameters the code looks at.
 use Rattle.std.specs.Prelude.{Bool, List, [], ◌∷◌, Option, None, Some}
 use Rattle.std.specs.Borrow.{Bor}
 use Rattle.civl_tree.specs.declared.name.Name.{Name}

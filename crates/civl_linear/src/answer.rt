@@ -1,10 +1,11 @@
 // The check of a program against the rules on linear locals.
-ghost use Rattle.std.specs.Prelude.{◌≡◌, map, IfOk, IfErr, None};
-ghost use Rattle.civl_types.specs.Numbered.{IsNumbered};
-ghost use Rattle.civl_types.specs.Checked.{IsCause};
-ghost use Rattle.civl_layers.specs.Rules.{refusal_by};
+ghost use Rattle.std.specs.Prelude.{◌≡◌, map, IfOk, IfErr};
+ghost use Rattle.civl_tree.specs.Numbered.{IsNumbered};
+ghost use Rattle.civl_tree.specs.rules.Rules.{refusal_by, Keeps};
+ghost use Rattle.civl_tree.specs.rules.Broken.{IsRefusal};
+ghost use Rattle.civl_types.specs.Checked.{IsCause, IsFirstCause};
 ghost use Rattle.civl_linear.specs.Cuts.{held_of};
-ghost use Rattle.civl_linear.specs.Refusals.{linear_rules};
+ghost use Rattle.civl_linear.specs.LinearRules.{linear_rules};
 
 use crate::finders::{DoubledLocals, LostLocals, MisassignedNames, UnheldArguments};
 use crate::listing::held_in;
@@ -13,38 +14,57 @@ use civl_tree::{Memory, Program, Refusal, Refused};
 use civl_walks::first_in_procs;
 use std::alloc::Global;
 
-/// The first of the rules E40 to E43, by code, item and statement, that a program breaks, with its place, or `None` where
-/// it breaks none. The program has fewer than 2^32 items, and each procedure fewer than 2^32 statements. `Memory` comes
-/// where there is none for the lists of statements of a procedure and of what is held before them.
-#[tactic(auto, using(crate::proofs::Answering::answering))]
-pub fn refusal(alloc: Global, program: &Program) -> Result<Option<Refusal>, Memory>
+/// The refusal of the first of the rules that is broken.
+#[tactic(auto, using(crate::proofs::Answering::linear_in_parts))]
+fn first_of_rules(alloc: Global, program: &Program) -> Result<Option<Refusal>, Memory>
     requires { IsNumbered program.now }
     ensures { IfOk result (λ refusal. refusal ≡ refusal_by linear_rules program.now) }
 {
-    if let Some(refusal) = first_in_procs(alloc, 40, &UnheldArguments { program }, program)? {
+    if let Some(refusal) = first_in_procs(alloc, &UnheldArguments, program)? {
         return Ok(Some(refusal));
     }
-    if let Some(refusal) = first_in_procs(alloc, 41, &DoubledLocals { program }, program)? {
+    if let Some(refusal) = first_in_procs(alloc, &DoubledLocals, program)? {
         return Ok(Some(refusal));
     }
-    if let Some(refusal) = first_in_procs(alloc, 42, &LostLocals { program }, program)? {
+    if let Some(refusal) = first_in_procs(alloc, &LostLocals, program)? {
         return Ok(Some(refusal));
     }
-    let last = first_in_procs(alloc, 43, &MisassignedNames { program }, program)?;
+    let last = first_in_procs(alloc, &MisassignedNames, program)?;
     Ok(last)
+}
+
+/// The first of the rules E40 to E43, by code, item and statement, that a program breaks, with its place, or `None` where
+/// it breaks none. The program has fewer than 2^32 items, and each procedure fewer than 2^32 statements.
+///
+/// # Errors
+///
+/// For want of memory, for the lists of statements of a procedure and of what is held before them.
+#[tactic(auto, using(crate::proofs::Answering::is_answer))]
+pub fn refusal(alloc: Global, program: &Program) -> Result<Option<Refusal>, Memory>
+    requires { IsNumbered program.now }
+    ensures same { IfOk result (λ refusal. refusal ≡ refusal_by linear_rules program.now) }
+    ensures first { IfOk result (λ refusal. IsRefusal linear_rules program.now refusal) }
+{
+    let found = first_of_rules(alloc, program)?;
+    Ok(found)
 }
 
 /// What is held at the cuts of a layered program that keeps the rules E40 to E43: for each procedure and each of its cuts
 /// the numbers of the held locals, rising; nothing for a root. A number counts the procedure's parameters, outputs and
-/// locals, in this order, from 0. Else `At` has the first of these rules that it breaks, by code, item and statement.
-/// `Memory` comes where memory is wanting.
+/// locals, in this order, from 0.
 ///
 /// A local is held where the linear value that it stands for is this thread's: the linear permissions of layered programs
 /// (Kragl and Qadeer, CAV 2018).
+///
+/// # Errors
+///
+/// `At` has the first of these rules that the program breaks, by code, item and statement. `Memory` comes where memory is
+/// wanting.
 pub fn held(alloc: Global, src: &Layered) -> Result<Held, Refused>
     ensures held { IfOk result (λ held. held.cuts ≡ map (held_of src.now) src.now.procs) }
-    ensures passed { IfOk result (λ held. refusal_by linear_rules src.now ≡ None) }
+    ensures passed { IfOk result (λ held. Keeps linear_rules src.now) }
     ensures refused { IfErr result (λ refused. IsCause (refusal_by linear_rules src.now) refused) }
+    ensures first { IfErr result (λ refused. IsFirstCause linear_rules src.now refused) }
 {
     let program = program(src);
     match refusal(alloc, program) {

@@ -2,7 +2,7 @@
 ghost use Rattle.std.specs.Prelude.{◌≡◌, map, IfOk};
 ghost use Rattle.civl_linear.specs.Modes.{passed_names, given_names};
 ghost use Rattle.civl_linear.specs.Wants.{wants};
-ghost use Rattle.civl_linear.specs.Held.{without, joined, call_held, spawn_held};
+ghost use Rattle.civl_linear.specs.Held.{without_names, with_names, call_held, spawn_held};
 ghost use Rattle.civl_types.specs.Views.{signature_of};
 
 use crate::flags::copied;
@@ -13,7 +13,7 @@ use civl_types::names::Signature;
 use std::alloc::Global;
 
 /// What is held without the names that stand for the parameters which are looked at.
-pub(crate) fn without(
+pub(crate) fn without_names(
     alloc: Global,
     want: Want,
     params: &[Param],
@@ -21,7 +21,7 @@ pub(crate) fn without(
     names: &[&Name],
     held: &List<bool>,
 ) -> Result<List<bool>, Memory>
-    ensures { IfOk result (λ left. left ≡ without (passed_names (wants want) params.now args.now) (map (λ name. name.now) names.now) held.now) }
+    ensures { IfOk result (λ left. left ≡ without_names (passed_names (wants want) params.now args.now) (map (λ name. name.now) names.now) held.now) }
 {
     let flags = held.as_slice();
     let mut left = List::new(alloc);
@@ -38,14 +38,14 @@ pub(crate) fn without(
 }
 
 /// What is held, and the results to which linear values are given.
-fn joined(
+fn with_names(
     alloc: Global,
     outs: &[Param],
     results: &[Name],
     names: &[&Name],
     held: &List<bool>,
 ) -> Result<List<bool>, Memory>
-    ensures { IfOk result (λ all. all ≡ joined (given_names outs.now results.now) (map (λ name. name.now) names.now) held.now) }
+    ensures { IfOk result (λ all. all ≡ with_names (given_names outs.now results.now) (map (λ name. name.now) names.now) held.now) }
 {
     let flags = held.as_slice();
     let mut all = List::new(alloc);
@@ -74,8 +74,8 @@ pub(crate) fn call_held(
 {
     match signature {
         Some(signature) => {
-            let left = without(alloc, Want::Taken, signature.params, args, names, held)?;
-            let after = joined(alloc, signature.outs, results, names, &left)?;
+            let left = without_names(alloc, Want::Taken, signature.params, args, names, held)?;
+            let after = with_names(alloc, signature.outs, results, names, &left)?;
             Ok(after)
         }
         None => {
@@ -97,7 +97,7 @@ pub(crate) fn spawn_held(
 {
     match signature {
         Some(signature) => {
-            let after = without(alloc, Want::Passed, signature.params, args, names, held)?;
+            let after = without_names(alloc, Want::Passed, signature.params, args, names, held)?;
             Ok(after)
         }
         None => {

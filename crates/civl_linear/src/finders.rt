@@ -1,50 +1,50 @@
 // The first statement of a procedure at which a rule is broken.
-ghost use Rattle.std.specs.Prelude.{◌≡◌, false};
-ghost use Rattle.civl_linear.specs.Refusals.{not_held_numbers, held_twice_numbers, lost_numbers, assigned_numbers};
+ghost use Rattle.std.specs.Prelude.{◌≡◌};
+ghost use Rattle.civl_linear.specs.LinearRules.{not_held_rule, held_twice_rule, lost_rule, assigned_rule};
 
 use crate::flags::{covers, exit_owed};
 use crate::places::names_in_proc;
 use crate::rules::{Doubled, Losing, Misassigned, Unheld};
 use crate::tracing::traced_proc;
 use civl_tree::{Memory, Proc, Program};
-use civl_walks::{Finder, first_where, first_with, statements};
+use civl_walks::{Finder, first_in_body, first_with, statements};
 use std::alloc::Global;
 
 /// Arguments that aren't held (E40).
 #[derive(Clone, Copy)]
-pub(crate) struct UnheldArguments<'a> {
-    pub program: &'a Program,
-}
+pub(crate) struct UnheldArguments;
 
 /// Locals that are held twice (E41).
 #[derive(Clone, Copy)]
-pub(crate) struct DoubledLocals<'a> {
-    pub program: &'a Program,
-}
+pub(crate) struct DoubledLocals;
 
 /// What is lost by loops, or owed at the exit (E42).
 #[derive(Clone, Copy)]
-pub(crate) struct LostLocals<'a> {
-    pub program: &'a Program,
-}
+pub(crate) struct LostLocals;
 
 /// Assigns and results to what they may not go to (E43).
 #[derive(Clone, Copy)]
-pub(crate) struct MisassignedNames<'a> {
-    pub program: &'a Program,
-}
+pub(crate) struct MisassignedNames;
 
-impl<'a> Finder for UnheldArguments<'a> {
-    ghost proc_breaks = { λ finder proc. false };
+impl Finder for UnheldArguments {
+    ghost rule = { λ finder. not_held_rule };
 
-    ghost numbers = { λ finder proc. not_held_numbers finder.program.now proc };
+    fn code(&self) -> u32 {
+        40
+    }
 
-    fn find(&self, alloc: Global, proc: &Proc) -> Result<Option<u32>, Memory> {
+    fn find(
+        &self,
+        alloc: Global,
+        program: &Program,
+        _place: usize,
+        proc: &Proc,
+    ) -> Result<Option<u32>, Memory> {
         let names = names_in_proc(alloc, proc)?;
         let flat = statements(alloc, &proc.body)?;
-        let traced = traced_proc(alloc, self.program, proc)?;
+        let traced = traced_proc(alloc, program, proc)?;
         let rule = Unheld {
-            program: self.program,
+            program,
             proc,
             names: &names,
         };
@@ -52,32 +52,48 @@ impl<'a> Finder for UnheldArguments<'a> {
     }
 }
 
-impl<'a> Finder for DoubledLocals<'a> {
-    ghost proc_breaks = { λ finder proc. false };
+impl Finder for DoubledLocals {
+    ghost rule = { λ finder. held_twice_rule };
 
-    ghost numbers = { λ finder proc. held_twice_numbers finder.program.now proc };
+    fn code(&self) -> u32 {
+        41
+    }
 
-    fn find(&self, alloc: Global, proc: &Proc) -> Result<Option<u32>, Memory> {
+    fn find(
+        &self,
+        alloc: Global,
+        program: &Program,
+        _place: usize,
+        proc: &Proc,
+    ) -> Result<Option<u32>, Memory> {
         let names = names_in_proc(alloc, proc)?;
         let flat = statements(alloc, &proc.body)?;
-        let traced = traced_proc(alloc, self.program, proc)?;
+        let traced = traced_proc(alloc, program, proc)?;
         let rule = Doubled {
-            program: self.program,
+            program,
             names: &names,
         };
         Ok(first_with(&rule, &flat, &traced.befores))
     }
 }
 
-impl<'a> Finder for LostLocals<'a> {
-    ghost proc_breaks = { λ finder proc. false };
+impl Finder for LostLocals {
+    ghost rule = { λ finder. lost_rule };
 
-    ghost numbers = { λ finder proc. lost_numbers finder.program.now proc };
+    fn code(&self) -> u32 {
+        42
+    }
 
-    fn find(&self, alloc: Global, proc: &Proc) -> Result<Option<u32>, Memory> {
+    fn find(
+        &self,
+        alloc: Global,
+        program: &Program,
+        _place: usize,
+        proc: &Proc,
+    ) -> Result<Option<u32>, Memory> {
         let flat = statements(alloc, &proc.body)?;
         let all = flat.as_slice();
-        let traced = traced_proc(alloc, self.program, proc)?;
+        let traced = traced_proc(alloc, program, proc)?;
         if let Some(number) = first_with(&Losing, all, &traced.losses) {
             return Ok(Some(number));
         }
@@ -89,17 +105,22 @@ impl<'a> Finder for LostLocals<'a> {
     }
 }
 
-impl<'a> Finder for MisassignedNames<'a> {
-    ghost proc_breaks = { λ finder proc. false };
+impl Finder for MisassignedNames {
+    ghost rule = { λ finder. assigned_rule };
 
-    ghost numbers = { λ finder proc. assigned_numbers finder.program.now proc };
+    fn code(&self) -> u32 {
+        43
+    }
 
-    fn find(&self, alloc: Global, proc: &Proc) -> Result<Option<u32>, Memory> {
-        let flat = statements(alloc, &proc.body)?;
-        let rule = Misassigned {
-            program: self.program,
-            proc,
-        };
-        Ok(first_where(&rule, &flat))
+    #[tactic(auto, using(civl_walks::proofs::Placing::body_counts))]
+    fn find(
+        &self,
+        _alloc: Global,
+        program: &Program,
+        _place: usize,
+        proc: &Proc,
+    ) -> Result<Option<u32>, Memory> {
+        let rule = Misassigned { program, proc };
+        Ok(first_in_body(&rule, &proc.body))
     }
 }

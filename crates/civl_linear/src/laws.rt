@@ -1,4 +1,5 @@
-//! What the rules on linear locals are on worked examples.
+//! What the rules on linear locals are on worked examples, and that nothing is left out on the way.
+ghost use Rattle.civl_linear.specs.Lengths.{ProcsAreTraced, HeldAtEachCut};
 ghost use Rattle.civl_linear.specs.examples.Linear.{NotHeldArguments, HeldTwice, NotReturned, Misassigned, LoopsAndBranches, HeldAtCuts};
 ghost use Rattle.civl_linear.specs.examples.Spawning.{SpawnsTake, PoolDrops};
 
@@ -40,4 +41,14 @@ pub fn spawns_take()
 /// A permission that is dropped twice, and one that stands for two.
 pub fn pool_drops()
     ensures { PoolDrops }
+{}
+
+/// What is held is told before each statement, and for each name of the procedure.
+pub fn procs_are_traced()
+    ensures { ProcsAreTraced }
+{}
+
+/// What is held is told for each cut.
+pub fn held_at_each_cut()
+    ensures { HeldAtEachCut }
 {}

@@ -5,8 +5,8 @@ ghost use Rattle.civl_tree.specs.rules.Names.{any_twice, has_name};
 ghost use Rattle.civl_types.specs.Views.{signature_of};
 ghost use Rattle.civl_linear.specs.Modes.{is_passed, is_taken, at_modes, plain_name, passed_names, given_names};
 ghost use Rattle.civl_linear.specs.Wants.{list_of};
-ghost use Rattle.civl_linear.specs.Held.{holds, without};
-ghost use Rattle.civl_linear.specs.Refusals.{is_lost};
+ghost use Rattle.civl_linear.specs.Held.{holds, without_names};
+ghost use Rattle.civl_linear.specs.LinearRules.{is_lost};
 ghost use Rattle.civl_linear.specs.Places.{not_held, any_not_held, passed_twice, given_to_held, stmt_not_held, stmt_held_twice, stmt_assigned, assigned, misgiven, any_misgiven, call_misgiven};
 
 use crate::modes::{Want, is_given, is_passed};
@@ -14,7 +14,7 @@ use crate::passing::is_passed_name;
 use crate::places::{holds, is_param, may_get, may_pass};
 use civl_tree::{Expr, List, Mode, Name, Param, Proc, Program, Stmt};
 use civl_types::names::{Signature, callee_signature, proc_signature, same_name};
-use civl_walks::{Rule, Test};
+use civl_walks::{NoteTest, Test};
 
 /// Whether the argument isn't the plain name of something held that may stand for a linear parameter.
 fn not_held(proc: &Proc, names: &[&Name], held: &List<bool>, arg: &Expr) -> bool
@@ -148,7 +148,7 @@ fn holds_untaken(
     held: &List<bool>,
     name: &Name,
 ) -> bool
-    ensures { result ≡ holds (map (λ name. name.now) names.now) (without (passed_names is_taken params.now args.now) (map (λ name. name.now) names.now) held.now) name.now }
+    ensures { result ≡ holds (map (λ name. name.now) names.now) (without_names (passed_names is_taken params.now args.now) (map (λ name. name.now) names.now) held.now) name.now }
 {
     let flags = held.as_slice();
     for (at, first) in names.iter().enumerate() {
@@ -175,7 +175,7 @@ fn results_held(
     args: &[Expr],
     results: &[Name],
 ) -> bool
-    ensures { result ≡ list_any (holds (map (λ name. name.now) names.now) (without (passed_names is_taken signature.now.params.now args.now) (map (λ name. name.now) names.now) held.now)) (given_names signature.now.outs.now results.now) }
+    ensures { result ≡ list_any (holds (map (λ name. name.now) names.now) (without_names (passed_names is_taken signature.now.params.now args.now) (map (λ name. name.now) names.now) held.now)) (given_names signature.now.outs.now results.now) }
 {
     for (at, out) in signature.outs.iter().enumerate() {
         match results.get(at) {
@@ -262,7 +262,7 @@ pub(crate) struct Unheld<'a> {
     pub names: &'a [&'a Name],
 }
 
-impl<'a> Rule<List<bool>> for Unheld<'a> {
+impl<'a> NoteTest<List<bool>> for Unheld<'a> {
     ghost breaks_with = { λ rule stmt held. stmt_not_held rule.program.now rule.proc.now (map (λ name. name.now) rule.names.now) stmt held };
 
     fn breaks_with(&self, stmt: &Stmt, note: &List<bool>) -> bool {
@@ -295,7 +295,7 @@ pub(crate) struct Doubled<'a> {
     pub names: &'a [&'a Name],
 }
 
-impl<'a> Rule<List<bool>> for Doubled<'a> {
+impl<'a> NoteTest<List<bool>> for Doubled<'a> {
     ghost breaks_with = { λ rule stmt held. stmt_held_twice rule.program.now (map (λ name. name.now) rule.names.now) stmt held };
 
     fn breaks_with(&self, stmt: &Stmt, note: &List<bool>) -> bool {
@@ -332,7 +332,7 @@ impl<'a> Rule<List<bool>> for Doubled<'a> {
 #[derive(Clone, Copy)]
 pub(crate) struct Losing;
 
-impl Rule<bool> for Losing {
+impl NoteTest<bool> for Losing {
     ghost breaks_with = { λ rule stmt lost. is_lost stmt lost };
 
     fn breaks_with(&self, _stmt: &Stmt, note: &bool) -> bool {

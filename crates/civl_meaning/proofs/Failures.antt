@@ -18,7 +18,8 @@ use Rattle.civl_firing.specs.declared.firing.Fired.TheVariants as fire
 use Rattle.civl_meaning.specs.declared.config.Change.TheVariants.{Stays, Goes}
 use Rattle.civl_values.specs.Values.{is_true}
 use Rattle.civl_firing.specs.Eval.{value_of, values_of}
-use Rattle.civl_firing.specs.Scope.{frame_names, frame_scope}
+use Rattle.civl_firing.specs.Scope.{frame_values}
+use Rattle.civl_tree.specs.rules.Names.{names_in_proc}
 use Rattle.civl_firing.specs.Fired.{gate_holds, choices_fit, fires, fired_by, fired}
 use Rattle.civl_meaning.specs.Places.{Spot, spot_at}
 use Rattle.civl_meaning.specs.Meaning.{Meaning, Does, Runs, Missing, called, meaning_of}
@@ -52,9 +53,9 @@ by_assert false ls next = refl
 
 by_layer : (plain : Plain) (s : Store) (ch : List Value) (p : Proc) (ls : List Value) (at next : ℕ) (d : stmt.Stmt-F Stmt) →
     answers_failing (layer_change plain s ch p ls at next d) ≡ layer_fails plain s p ls d
-by_layer plain s ch p ls at next (stmt.Assert e) = by_assert (is_true (value_of (frame_scope plain.program.globals p ls) e)) ls next
+by_layer plain s ch p ls at next (stmt.Assert e) = by_assert (is_true (value_of (frame_values plain.program.globals p ls) e)) ls next
 by_layer plain s ch p ls at next (stmt.Call f es rs) =
-    by_call plain s ch (frame_names p) ls rs at next (called plain f) (values_of (frame_scope plain.program.globals p ls) es)
+    by_call plain s ch (names_in_proc p) ls rs at next (called plain f) (values_of (frame_values plain.program.globals p ls) es)
 by_layer plain s ch p ls at next _ = refl
 
 by_leaving : (plain : Plain) (outs : List Value) (k : Option Activation) → answers_failing (leaves plain outs k) ≡ false

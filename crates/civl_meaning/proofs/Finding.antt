@@ -3,7 +3,8 @@ use Rattle.std.proofs.Common.{◌≡◌, ℕ, ◌+◌, ◌<◌, List, ◌∷◌,
 use Rattle.std.proofs.lemmas.Bool.{lt-ltb, eq-eqb, ne_eqb}
 use Rattle.std.specs.Prelude.{nat_lt, nat_eq, if◌then◌else◌}
 use Rattle.civl_tree.specs.declared.stmt.Stmt.{Stmt, the_lemmas as of_stmt}
-use Rattle.civl_meaning.specs.Places.{Spot, size_of, inside_of, spot_among, first_in, start_of}
+use Rattle.civl_meaning.specs.Places.{Spot, inside_of, spot_among, first_in, start_of}
+use Rattle.civl_tree.specs.Numbering.{size_of}
 use Rattle.civl_meaning.proofs.Placing.{statements_with, inside_is}
 
 -- among statements of which s is the first

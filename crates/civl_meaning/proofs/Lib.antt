@@ -14,4 +14,5 @@ pub mod Resting
 pub mod Frames
 pub mod Begun
 pub mod Spots
+pub mod Calling
 pub mod Stacking

@@ -1,10 +1,11 @@
 -- What stands at a place, one layer or one statement at a time.
 use Rattle.std.proofs.Common.{◌≡◌, ℕ, ◌+◌, List, [], ◌∷◌, map, refl, sym, ap, ◌∙◌, Option}
 use Rattle.std.specs.Prelude.{nat_lt, if◌then◌else◌}
-use Rattle.civl_tree.specs.declared.stmt.Stmt.{Stmt, out-Stmt, roll-Stmt, roll-out-Stmt, map-Stmt, the_lemmas as of_stmt}
+use Rattle.civl_tree.specs.declared.stmt.Stmt.{Stmt, out-Stmt, roll-out-Stmt, map-Stmt, the_lemmas as of_stmt}
 use Rattle.civl_tree.specs.declared.stmt.Stmt.TheOpen.{Stmt-F, Assign, Assert, If, While, YieldLoop, RankLoop, Call, Yield, Commit, Intro, Spawn}
 use Rattle.civl_tree.specs.declared.stmt.Stmt.TheFolds.{para-roll-Stmt}
-use Rattle.civl_meaning.specs.Places.{Inside, Spot, sizes_of, statements, with_inside, inside_of, inside_step, spot_among, loop_spot}
+use Rattle.civl_meaning.specs.Places.{Inside, Spot, statements, with_inside, inside_of, inside_step, spot_among, loop_spot}
+use Rattle.civl_tree.specs.Numbering.{sizes_of}
 
 pub statements_with : (ss : List Stmt) → statements (map with_inside ss) ≡ ss
 statements_with [] = refl

@@ -6,8 +6,8 @@ use Rattle.std.specs.Prelude.{nat_lt, nat_eq, if◌then◌else◌}
 use Rattle.civl_tree.specs.declared.stmt.Stmt.{Stmt, out-Stmt, roll-Stmt, out-roll-Stmt, map-Stmt, the_lemmas as of_stmt}
 use Rattle.civl_tree.specs.declared.stmt.Stmt.TheOpen.{Stmt-F, If, While, YieldLoop, RankLoop}
 use Rattle.civl_tree.specs.declared.stmt.Stmt.TheFolds.{ind-Stmt}
-use Rattle.civl_meaning.specs.Places.{size_of, sizes_of}
-use Rattle.civl_meaning.specs.Rest.{Rest, numbered, rest_inside, rest_among}
+use Rattle.civl_tree.specs.Numbering.{size_of, sizes_of, numbered}
+use Rattle.civl_meaning.specs.Rest.{Rest, rest_inside, rest_among}
 use Rattle.civl_meaning.specs.Frame.{unnumbered}
 use Rattle.civl_meaning.proofs.Finding.{drop_is}
 use Rattle.civl_meaning.proofs.Rests.{rest_layer, rest_is, among_rest, rest_none}

@@ -4,10 +4,11 @@ use Rattle.std.specs.Prelude.{nat_lt, nat_eq, if◌then◌else◌}
 use Rattle.civl_tree.specs.declared.stmt.Stmt.{Stmt, out-Stmt, roll-Stmt, roll-out-Stmt, out-roll-Stmt, map-Stmt}
 use Rattle.civl_tree.specs.declared.stmt.Stmt.TheOpen.{Stmt-F, If, While, YieldLoop, RankLoop}
 use Rattle.civl_tree.specs.declared.stmt.Stmt.TheFolds.{para-roll-Stmt, ind-Stmt}
-use Rattle.civl_meaning.specs.Places.{Spot, size_of, sizes_of, is_skipped, skip_layer, start_of, first_in, spot_among, inside_of, loop_spot}
+use Rattle.civl_meaning.specs.Places.{Spot, is_skipped, skip_layer, start_of, first_in, spot_among, inside_of, loop_spot}
+use Rattle.civl_tree.specs.Numbering.{size_of, sizes_of, numbered}
 use Rattle.civl_meaning.proofs.Placing.{inside_is, inside_layer}
 use Rattle.civl_meaning.proofs.Finding.{among_is}
-use Rattle.civl_meaning.specs.Rest.{Rest, numbered, Inner, firsts, rest_step, rest_inside, with_rest, rest_among, place_in, head_of, SpotOfRest}
+use Rattle.civl_meaning.specs.Rest.{Rest, Inner, firsts, rest_step, rest_inside, with_rest, rest_among, place_in, head_of, SpotOfRest}
 
 firsts_with : (ss : List Stmt) → firsts (map with_rest ss) ≡ ss
 unfolding with_rest

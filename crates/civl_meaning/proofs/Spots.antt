@@ -6,7 +6,8 @@ use Rattle.std.proofs.lemmas.Grind.{common_steps}
 use Rattle.civl_tree.specs.declared.stmt.Stmt.{Stmt, out-Stmt, roll-Stmt, roll-out-Stmt, out-roll-Stmt, map-Stmt}
 use Rattle.civl_tree.specs.declared.stmt.Stmt.TheOpen.{Stmt-F, If, While, YieldLoop, RankLoop}
 use Rattle.civl_tree.specs.declared.stmt.Stmt.TheFolds.{fold-roll-Stmt, ind-Stmt}
-use Rattle.civl_meaning.specs.Places.{Spot, size_step, size_of, sizes_of, is_skipped, skip_layer, start_of, first_in, spot_among, spot_at, inside_of, loop_spot}
+use Rattle.civl_meaning.specs.Places.{Spot, is_skipped, skip_layer, start_of, first_in, spot_among, spot_at, inside_of, loop_spot}
+use Rattle.civl_tree.specs.Numbering.{size_step, size_of, sizes_of}
 use Rattle.civl_meaning.proofs.Placing.{inside_is, inside_layer}
 use Rattle.civl_meaning.proofs.Finding.{among_is, among_here, among_inside}
 

@@ -26,10 +26,12 @@ use Rattle.civl_meaning.specs.declared.config.Change.{Change}
 use Rattle.civl_meaning.specs.declared.config.Change.TheVariants.{Stays, Goes, Acts, Enters, Leaves, Spawns}
 use Rattle.civl_values.specs.Values.{is_true}
 use Rattle.civl_firing.specs.Eval.{value_of, values_of}
-use Rattle.civl_firing.specs.Scope.{frame_names, frame_scope}
+use Rattle.civl_firing.specs.Scope.{frame_values}
+use Rattle.civl_tree.specs.rules.Names.{names_in_proc, action_named}
 use Rattle.civl_firing.specs.Fired.{gate_holds, choices_fit, fired}
-use Rattle.civl_meaning.specs.Places.{Spot, size_step, size_of, sizes_of, spot_at}
-use Rattle.civl_meaning.specs.Meaning.{Meaning, Does, Runs, Missing, action_named, meaning_of_action, refined, meaning_by, meaning_of, meaning_else, called, proc_number}
+use Rattle.civl_meaning.specs.Places.{Spot, spot_at}
+use Rattle.civl_tree.specs.Numbering.{size_step, size_of, sizes_of}
+use Rattle.civl_meaning.specs.Meaning.{Meaning, Does, Runs, Missing, meaning_of_action, refined, meaning_by, meaning_of, meaning_else, called, proc_number}
 use Rattle.civl_meaning.specs.Change.{new_frame, acted, action_change, call_change, layer_change, returned_at, returned_in, returned, leaves, outs_in, spot_change, proc_change, caller_of, state_change, change_of}
 use Rattle.civl_meaning.specs.Step.{thread_after, state_after, step_with, step_in}
 use Rattle.civl_meaning.specs.Config.{IsPlaced, IsBodyOf, LayerCalls, SpotCalls, ProcCalls, Waits, next_procedure, AreWaiting, IsStack, StateIsStacked, IsStacked, StepKeepsStacks, RunKeepsStacks}
@@ -206,7 +208,7 @@ layer_keeps : (plain : Plain) (callee : ℕ) (below : List Activation) (top : Ac
     slice_get plain.program.procs top.procedure ≡ Some proc → Stands proc.body s → out-Stmt s.stmt ≡ d → s.number + size_step (map-Stmt Stmt ℕ size_of d) ≤ sizes_of proc.body → IsStack plain callee below top →
     Kept plain callee (Inside below top) (layer_change plain store chosen proc top.locals s.number s.next d)
 layer_keeps plain callee below top proc store chosen s (Assign x e) t st q l h = stack_goes plain callee below top _ s.next proc t st.next h
-layer_keeps plain callee below top proc store chosen s (Assert e) t st q l h = by_truth (is_true (value_of (frame_scope plain.program.globals proc top.locals) e))
+layer_keeps plain callee below top proc store chosen s (Assert e) t st q l h = by_truth (is_true (value_of (frame_values plain.program.globals proc top.locals) e))
   where
     by_truth : (b : Bool) → Kept plain callee (Inside below top) (if b then Goes top.locals s.next else Stays answer.Failing)
     by_truth true = stack_goes plain callee below top top.locals s.next proc t st.next h
@@ -223,7 +225,7 @@ layer_keeps plain callee below top proc store chosen s (YieldLoop e i a) t st q 
 layer_keeps plain callee below top proc store chosen s (RankLoop e r i a) t st q l h =
     stack_goes plain callee below top _ _ proc t (if_place _ _ _ _ (start_below a (s.number + 1) s.number (sizes_of proc.body) (omega arith) (omega arith)) st.next) h
 layer_keeps plain callee below top proc store chosen s (Call f es rs) t st q l h =
-    call_keeps plain callee below top proc store chosen (frame_names proc) top.locals rs s f es rs (values_of (frame_scope plain.program.globals proc top.locals) es) t st q h (called plain f) refl
+    call_keeps plain callee below top proc store chosen (names_in_proc proc) top.locals rs s f es rs (values_of (frame_values plain.program.globals proc top.locals) es) t st q h (called plain f) refl
 layer_keeps plain callee below top proc store chosen s (Spawn f es) t st q l h = stack_goes plain callee below top top.locals s.next proc t st.next h
 layer_keeps plain callee below top proc store chosen s (Yield e) t st q l h = h
 layer_keeps plain callee below top proc store chosen s Commit t st q l h = h
@@ -303,7 +305,7 @@ call_spawns plain store chosen names locals results at next Missing args = tt
 
 layer_spawns : (plain : Plain) (store : Store) (chosen : List Value) (proc : Proc) (locals : List Value) (at next : ℕ) (d : Stmt-F Stmt) → SpawnsBefore (layer_change plain store chosen proc locals at next d)
 layer_spawns plain store chosen proc locals at next (Assign x e) = tt
-layer_spawns plain store chosen proc locals at next (Assert e) = by_truth (is_true (value_of (frame_scope plain.program.globals proc locals) e))
+layer_spawns plain store chosen proc locals at next (Assert e) = by_truth (is_true (value_of (frame_values plain.program.globals proc locals) e))
   where
     by_truth : (b : Bool) → SpawnsBefore (if b then Goes locals next else Stays answer.Failing)
     by_truth true = tt
@@ -312,7 +314,7 @@ layer_spawns plain store chosen proc locals at next (If e a b) = tt
 layer_spawns plain store chosen proc locals at next (While e a) = tt
 layer_spawns plain store chosen proc locals at next (YieldLoop e i a) = tt
 layer_spawns plain store chosen proc locals at next (RankLoop e r i a) = tt
-layer_spawns plain store chosen proc locals at next (Call f es rs) = call_spawns plain store chosen (frame_names proc) locals rs at next (called plain f) (values_of (frame_scope plain.program.globals proc locals) es)
+layer_spawns plain store chosen proc locals at next (Call f es rs) = call_spawns plain store chosen (names_in_proc proc) locals rs at next (called plain f) (values_of (frame_values plain.program.globals proc locals) es)
 layer_spawns plain store chosen proc locals at next (Spawn f es) = refl
 layer_spawns plain store chosen proc locals at next (Yield e) = tt
 layer_spawns plain store chosen proc locals at next Commit = tt

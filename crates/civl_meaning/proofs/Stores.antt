@@ -10,7 +10,7 @@ use Rattle.civl_tree.specs.declared.program.Program.{Program}
 use Rattle.civl_firing.specs.declared.store.Store.{Store}
 use Rattle.civl_values.specs.Values.{is_true}
 use Rattle.civl_firing.specs.Eval.{value_of}
-use Rattle.civl_firing.specs.Scope.{global_scope}
+use Rattle.civl_firing.specs.Scope.{global_values}
 use Rattle.civl_meaning.specs.Permissions.{pairwise_disjoint}
 use Rattle.civl_meaning.specs.Initial.{IsInitial, initial_permissions}
 use Rattle.civl_firing.specs.examples.Written.{word, bool, holding}
@@ -21,7 +21,7 @@ use Rattle.civl_meaning.specs.examples.Spinlock.{spinlock, TwoThreadsAreInitial,
 overlap : (program : Program) (store : Store) → pairwise_disjoint (initial_permissions program store) ≡ false → IsInitial program store → ⊥
 overlap program store e h = false≢true (sym e ∙ h.disjoint)
 
-not_so : (program : Program) (store : Store) → is_true (value_of (global_scope program.globals store) program.init) ≡ false → IsInitial program store → ⊥
+not_so : (program : Program) (store : Store) → is_true (value_of (global_values program.globals store) program.init) ≡ false → IsInitial program store → ⊥
 not_so program store e h = false≢true (sym e ∙ h.init_holds)
 
 empty_carries : initial_permissions empty_pool (holding (word 4 0 ∷ [])) ≡ [] ∷ (1 ∷ []) ∷ []

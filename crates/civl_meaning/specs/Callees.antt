@@ -1,4 +1,4 @@
--- What the code finds for a call, as a meaning.
+-- For private functions alone: what the code finds for a call, as a meaning.
 use Rattle.civl_meaning.specs.declared.meant.Callee.{Callee}
 use Rattle.civl_meaning.specs.declared.meant.Callee.TheVariants as code
 use Rattle.civl_meaning.specs.Meaning.{Meaning, Does, Runs, Missing}

@@ -20,9 +20,11 @@ use Rattle.civl_meaning.specs.declared.config.Change.TheVariants.{Stays, Goes, A
 use Rattle.civl_firing.specs.Truth.{place_of}
 use Rattle.civl_values.specs.Values.{is_true}
 use Rattle.civl_firing.specs.Eval.{value_of, values_of}
-use Rattle.civl_firing.specs.Scope.{zeros_of_params, zeros_of_locals, frame_names, frame_scope}
+use Rattle.civl_firing.specs.Scope.{zeros_of_params, zeros_of_locals, frame_values}
+use Rattle.civl_tree.specs.rules.Names.{names_in_proc}
 use Rattle.civl_firing.specs.Fired.{gate_holds, choices_fit, fired}
-use Rattle.civl_meaning.specs.Places.{Spot, sizes_of, start_of, spot_at}
+use Rattle.civl_meaning.specs.Places.{Spot, start_of, spot_at}
+use Rattle.civl_tree.specs.Numbering.{sizes_of}
 use Rattle.civl_meaning.specs.Meaning.{Meaning, Does, Runs, Missing, called, meaning_of, proc_number}
 
 -- locals with the outputs of a call under the names of its results
@@ -61,28 +63,28 @@ call_change plain store chosen names locals results at next Missing args = Stays
 -- program, and never stand at a spot
 abbrev pub layer_change : Plain → Store → List Value → Proc → List Value → ℕ → ℕ → stmt.Stmt-F Stmt → Change
 layer_change plain store chosen proc locals at next (stmt.Assign x e) =
-    Goes (slice_set locals (place_of (frame_names proc) x) (value_of (frame_scope plain.program.globals proc locals) e)) next
+    Goes (slice_set locals (place_of (names_in_proc proc) x) (value_of (frame_values plain.program.globals proc locals) e)) next
 layer_change plain store chosen proc locals at next (stmt.Assert e) =
-    if is_true (value_of (frame_scope plain.program.globals proc locals) e) then Goes locals next else Stays answer.Failing
+    if is_true (value_of (frame_values plain.program.globals proc locals) e) then Goes locals next else Stays answer.Failing
 layer_change plain store chosen proc locals at next (stmt.If e a b) =
-    Goes locals (if is_true (value_of (frame_scope plain.program.globals proc locals) e) then start_of a (at + 1) next else start_of b (at + 1 + sizes_of a) next)
+    Goes locals (if is_true (value_of (frame_values plain.program.globals proc locals) e) then start_of a (at + 1) next else start_of b (at + 1 + sizes_of a) next)
 layer_change plain store chosen proc locals at next (stmt.While e a) =
-    Goes locals (if is_true (value_of (frame_scope plain.program.globals proc locals) e) then start_of a (at + 1) at else next)
+    Goes locals (if is_true (value_of (frame_values plain.program.globals proc locals) e) then start_of a (at + 1) at else next)
 layer_change plain store chosen proc locals at next (stmt.YieldLoop e i a) =
-    Goes locals (if is_true (value_of (frame_scope plain.program.globals proc locals) e) then start_of a (at + 1) at else next)
+    Goes locals (if is_true (value_of (frame_values plain.program.globals proc locals) e) then start_of a (at + 1) at else next)
 layer_change plain store chosen proc locals at next (stmt.RankLoop e r i a) =
-    Goes locals (if is_true (value_of (frame_scope plain.program.globals proc locals) e) then start_of a (at + 1) at else next)
+    Goes locals (if is_true (value_of (frame_values plain.program.globals proc locals) e) then start_of a (at + 1) at else next)
 layer_change plain store chosen proc locals at next (stmt.Call f es rs) =
-    call_change plain store chosen (frame_names proc) locals rs at next (called plain f) (values_of (frame_scope plain.program.globals proc locals) es)
+    call_change plain store chosen (names_in_proc proc) locals rs at next (called plain f) (values_of (frame_values plain.program.globals proc locals) es)
 layer_change plain store chosen proc locals at next (stmt.Spawn f es) =
-    Spawns (record { callee = proc_number plain.program f; args = values_of (frame_scope plain.program.globals proc locals) es; state = Before }) next
+    Spawns (record { callee = proc_number plain.program f; args = values_of (frame_values plain.program.globals proc locals) es; state = Before }) next
 layer_change plain store chosen proc locals at next (stmt.Yield e) = Stays answer.Blocked
 layer_change plain store chosen proc locals at next stmt.Commit = Stays answer.Blocked
 layer_change plain store chosen proc locals at next (stmt.Intro x e) = Stays answer.Blocked
 
 -- the locals of a frame that waits in this call, with the call's outputs
 abbrev pub returned_layer : Proc → List Value → List Value → stmt.Stmt-F Stmt → List Value
-returned_layer proc locals outs (stmt.Call f es rs) = with_results (frame_names proc) locals rs outs
+returned_layer proc locals outs (stmt.Call f es rs) = with_results (names_in_proc proc) locals rs outs
 returned_layer proc locals outs _ = locals
 
 abbrev pub returned_at : Activation → List Value → Proc → Option Spot → Activation

@@ -8,10 +8,10 @@ use Rattle.civl_tree.specs.declared.program.Proc.{Proc}
 use Rattle.civl_tree.specs.declared.program.Program.{Program}
 use Rattle.civl_tree.specs.declared.stmt.Stmt.{Stmt, out-Stmt}
 use Rattle.civl_tree.specs.declared.stmt.Stmt.TheOpen.{Stmt-F, Call, Spawn}
-use Rattle.civl_tree.specs.Numbering.{statements_of}
+use Rattle.civl_tree.specs.Numbering.{statements_of, sizes_of}
 use Rattle.civl_tree.specs.rules.Uses.{param_sorts}
-use Rattle.civl_tree.specs.rules.Places.{E34}
-use Rattle.civl_tree.specs.rules.Refusals.{Keeps, BreaksNone}
+use Rattle.civl_tree.specs.rules.Rules.{Keeps}
+use Rattle.civl_tree.specs.rules.Typing.{typing_rules, signature_rule}
 use Rattle.civl_firing.specs.declared.store.Store.{Store}
 use Rattle.civl_meaning.specs.declared.config.Move.{Move}
 use Rattle.civl_meaning.specs.declared.config.Plain.{Plain}
@@ -22,7 +22,7 @@ use Rattle.civl_meaning.specs.declared.config.Running.{Running}
 use Rattle.civl_meaning.specs.declared.config.Config.{Config}
 use Rattle.civl_values.specs.Values.{HaveSorts}
 use Rattle.civl_firing.specs.Stores.{IsStore}
-use Rattle.civl_meaning.specs.Places.{Spot, sizes_of, spot_at}
+use Rattle.civl_meaning.specs.Places.{Spot, spot_at}
 use Rattle.civl_meaning.specs.Meaning.{Meaning, Does, Runs, Missing, meaning_of, called, proc_number}
 use Rattle.civl_meaning.specs.Step.{start, step_of}
 use Rattle.civl_meaning.specs.Run.{RunsTo}
@@ -30,8 +30,8 @@ use Rattle.civl_meaning.specs.Run.{RunsTo}
 -- a plain program that keeps the rules on names, counts, widths, sorts, indices, numbers of arguments and signatures, and
 -- says of each procedure whether a call of it means its body, as it does of each root
 pub record IsPlain (plain : Plain) : Type 0 where
-  pub rules : BreaksNone plain.program
-  pub signatures : Keeps E34 plain.program
+  pub rules : Keeps typing_rules plain.program
+  pub signatures : Keeps (signature_rule ∷ []) plain.program
   pub bodies : length plain.bodies ≡ length plain.program.procs
   pub roots : (number : ℕ) (proc : Proc) → slice_get plain.program.procs number ≡ Some proc → proc.refines ≡ None → slice_get plain.bodies number ≡ Some true
 

@@ -19,7 +19,7 @@ use Rattle.civl_meaning.specs.declared.config.Change.{Change}
 use Rattle.civl_meaning.specs.declared.config.Change.TheVariants.{Stays, Goes, Acts, Enters, Leaves, Spawns}
 use Rattle.civl_values.specs.Values.{is_true}
 use Rattle.civl_firing.specs.Eval.{value_of, values_of}
-use Rattle.civl_firing.specs.Scope.{frame_scope}
+use Rattle.civl_firing.specs.Scope.{frame_values}
 use Rattle.civl_firing.specs.Fired.{gate_holds}
 use Rattle.civl_meaning.specs.Places.{Spot, spot_at}
 use Rattle.civl_meaning.specs.Meaning.{Meaning, Does, Runs, Missing, called, meaning_of}
@@ -35,8 +35,8 @@ call_fails plain store Missing args = false
 
 -- such a call, or an assert that is false; every other statement is neither
 abbrev pub layer_fails : Plain → Store → Proc → List Value → stmt.Stmt-F Stmt → Bool
-layer_fails plain store proc locals (stmt.Assert e) = not (is_true (value_of (frame_scope plain.program.globals proc locals) e))
-layer_fails plain store proc locals (stmt.Call f es rs) = call_fails plain store (called plain f) (values_of (frame_scope plain.program.globals proc locals) es)
+layer_fails plain store proc locals (stmt.Assert e) = not (is_true (value_of (frame_values plain.program.globals proc locals) e))
+layer_fails plain store proc locals (stmt.Call f es rs) = call_fails plain store (called plain f) (values_of (frame_values plain.program.globals proc locals) es)
 layer_fails plain store proc locals _ = false
 
 abbrev pub spot_fails : Plain → Store → Activation → Proc → Option Spot → Bool

@@ -1,7 +1,8 @@
--- What the code finds at a place, as a spot.
+-- For private functions alone: what the code finds at a place, as a spot.
 use Rattle.std.specs.Prelude.{Option, None, Some, ◌+◌, ◌^◌, ◌<◌, ⊤}
 use Rattle.civl_meaning.specs.declared.found.Found.{Found}
-use Rattle.civl_meaning.specs.Places.{Spot, size_of}
+use Rattle.civl_meaning.specs.Places.{Spot}
+use Rattle.civl_tree.specs.Numbering.{size_of}
 
 abbrev pub spot : Option Found → Option Spot
 spot None = None

@@ -9,7 +9,7 @@ use Rattle.civl_firing.specs.declared.store.Store.{Store}
 use Rattle.civl_values.specs.Values.{is_true}
 use Rattle.civl_firing.specs.Stores.{IsStore}
 use Rattle.civl_firing.specs.Eval.{value_of, values_of}
-use Rattle.civl_firing.specs.Scope.{global_scope}
+use Rattle.civl_firing.specs.Scope.{global_values}
 use Rattle.civl_meaning.specs.Meaning.{proc_number}
 use Rattle.civl_meaning.specs.Permissions.{pairwise_disjoint, of_globals, of_params}
 
@@ -20,7 +20,7 @@ of_args (Some proc) args = of_params proc.params args
 -- the permissions of each linear argument of a declared thread
 abbrev pub of_thread : Program → Store → Thread → List (List ℕ)
 of_thread program store thread =
-    of_args (slice_get program.procs (proc_number program thread.callee)) (values_of (global_scope program.globals store) thread.args)
+    of_args (slice_get program.procs (proc_number program thread.callee)) (values_of (global_values program.globals store) thread.args)
 
 -- those of each linear global and of each linear thread argument
 abbrev pub initial_permissions : Program → Store → List (List ℕ)
@@ -30,5 +30,5 @@ initial_permissions program store = of_globals program.globals store.values ++ f
 -- linear globals and of the linear thread arguments are pairwise disjoint
 pub record IsInitial (program : Program) (store : Store) : Type 0 where
   pub store_fits : IsStore program.globals store
-  pub init_holds : IsTrue (is_true (value_of (global_scope program.globals store) program.init))
+  pub init_holds : IsTrue (is_true (value_of (global_values program.globals store) program.init))
   pub disjoint : IsTrue (pairwise_disjoint (initial_permissions program store))

@@ -1,4 +1,5 @@
--- What stands at a place, without its number: the place then counts from where the statements begin.
+-- For private functions alone: what stands at a place, without its number. The place then counts from where the statements
+-- begin.
 use Rattle.std.specs.Prelude.{ℕ, List, Option, None, Some}
 use Rattle.civl_tree.specs.declared.stmt.Stmt.{Stmt}
 use Rattle.civl_meaning.specs.Places.{Spot, first_in, spot_among, inside_of}

@@ -5,6 +5,7 @@ use Rattle.civl_tree.specs.declared.action.Action.{Action}
 use Rattle.civl_tree.specs.declared.program.Proc.{Proc}
 use Rattle.civl_tree.specs.declared.program.Refines.{Refines}
 use Rattle.civl_tree.specs.declared.program.Program.{Program}
+use Rattle.civl_tree.specs.rules.Names.{action_named}
 use Rattle.civl_meaning.specs.declared.config.Plain.{Plain}
 use Rattle.civl_firing.specs.Truth.{place_of}
 
@@ -13,10 +14,6 @@ pub data Meaning : Type 0 where
   Does : Action → Meaning
   Runs : ℕ → Proc → Meaning
   Missing : Meaning
-
--- the action of this name
-abbrev pub action_named : Program → Name → Option Action
-action_named program name = slice_get program.actions (place_of (map (λ a. a.name) program.actions) name)
 
 -- the number of the procedure of this name
 abbrev pub proc_number : Program → Name → ℕ

@@ -1,14 +1,13 @@
 -- Linear permissions (Kragl, Qadeer, CAV 2018; linear variables of the Civl verifier): what a linear value carries, and
 -- which carriers are disjoint. A permission is its number.
-use Rattle.std.specs.Prelude.{ℕ, zero, suc, Bool, true, false, not, ◌&&◌, nat_eq, List, [], ◌∷◌, ◌++◌, if◌then◌else◌}
+use Rattle.std.specs.Prelude.{ℕ, zero, suc, Bool, true, not, ◌&&◌, nat_eq, List, [], ◌∷◌, ◌++◌, if◌then◌else◌}
 use Rattle.std.specs.Int.{bit_at}
 use Rattle.std.specs.List.{list_all, list_any}
 use Rattle.civl_bits.specs.declared.value.Value.{Value}
 use Rattle.civl_bits.specs.declared.value.Value.TheVariants as value
-use Rattle.civl_tree.specs.declared.action.Mode.{Mode}
-use Rattle.civl_tree.specs.declared.action.Mode.TheVariants.{Val, Lend, Take, Give}
 use Rattle.civl_tree.specs.declared.action.Param.{Param}
 use Rattle.civl_tree.specs.declared.program.Global.{Global}
+use Rattle.civl_tree.specs.rules.Width.{is_linear}
 
 -- the places of the set bits among the lowest w, from the lowest on
 abbrev pub set_bits : ℕ → ℕ → List ℕ
@@ -33,13 +32,6 @@ disjoint ps qs = list_all (λ p. not (list_any (nat_eq p) qs)) ps
 abbrev pub pairwise_disjoint : List (List ℕ) → Bool
 pairwise_disjoint [] = true
 pairwise_disjoint (ps ∷ rest) = list_all (disjoint ps) rest && pairwise_disjoint rest
-
--- lend, take and give are linear
-abbrev pub is_linear : Mode → Bool
-is_linear Val = false
-is_linear Lend = true
-is_linear Take = true
-is_linear Give = true
 
 -- the permissions of each linear global
 abbrev pub of_globals : List Global → List Value → List (List ℕ)

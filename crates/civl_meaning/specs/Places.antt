@@ -1,24 +1,10 @@
--- The numbers of a procedure's statements, and what stands at a place. Statements are numbered from 0 in text order, an
--- `if` or a loop before its parts, the first branch before the second. A plain program's statements are those that
--- aren't `yield`, `commit` or `intro`: these are passed over.
-use Rattle.std.specs.Prelude.{ℕ, ◌+◌, Bool, true, false, nat_lt, nat_eq, if◌then◌else◌, Option, None, Some, List, [], ◌∷◌, map, sum}
+-- What stands at a place of a procedure's body. A place is the number of a statement, as civl_tree numbers them. A plain
+-- program's statements are those that aren't `yield`, `commit` or `intro`: these are passed over.
+use Rattle.std.specs.Prelude.{ℕ, ◌+◌, Bool, true, false, nat_lt, nat_eq, if◌then◌else◌, Option, None, Some, List, [], ◌∷◌, map}
 use Rattle.civl_tree.specs.declared.stmt.Stmt.{Stmt, out-Stmt}
 use Rattle.civl_tree.specs.declared.stmt.Stmt.TheOpen.{Stmt-F, If, While, YieldLoop, RankLoop, Yield, Commit, Intro}
-use Rattle.civl_tree.specs.declared.stmt.Stmt.TheFolds.{fold-Stmt, para-Stmt}
-
--- how many statements a statement is, with those inside it
-abbrev pub size_step : Stmt-F ℕ → ℕ
-size_step (If e a b) = 1 + sum a + sum b
-size_step (While e a) = 1 + sum a
-size_step (YieldLoop e i a) = 1 + sum a
-size_step (RankLoop e r i a) = 1 + sum a
-size_step _ = 1
-
-abbrev pub size_of : Stmt → ℕ
-size_of = fold-Stmt ℕ size_step
-
-abbrev pub sizes_of : List Stmt → ℕ
-sizes_of ss = sum (map size_of ss)
+use Rattle.civl_tree.specs.declared.stmt.Stmt.TheFolds.{para-Stmt}
+use Rattle.civl_tree.specs.Numbering.{size_of, sizes_of}
 
 -- whether a plain program has no such statement
 abbrev pub skip_layer : Stmt-F Stmt → Bool

@@ -4,15 +4,12 @@ use Rattle.std.specs.Prelude.{ℕ, ◌+◌, ◌≡◌, nat_lt, nat_eq, if◌then
 use Rattle.civl_tree.specs.declared.stmt.Stmt.{Stmt}
 use Rattle.civl_tree.specs.declared.stmt.Stmt.TheOpen.{Stmt-F, If, While, YieldLoop, RankLoop}
 use Rattle.civl_tree.specs.declared.stmt.Stmt.TheFolds.{para-Stmt}
-use Rattle.civl_meaning.specs.Places.{Spot, size_of, sizes_of, is_skipped, spot_at}
+use Rattle.civl_tree.specs.Numbering.{size_of, sizes_of, numbered}
+use Rattle.civl_meaning.specs.Places.{Spot, is_skipped, spot_at}
 
+-- statements with their numbers
 abbrev pub Rest : Type 0
 Rest = List (ℕ × Stmt)
-
--- statements with their numbers, from `at` on
-abbrev pub numbered : ℕ → List Stmt → Rest
-numbered at [] = []
-numbered at (s ∷ ss) = (at, s) ∷ numbered (at + size_of s) ss
 
 -- what is still to run from a place inside a statement: the statement, its number, what comes behind it, the place
 abbrev pub Inner : Type 0

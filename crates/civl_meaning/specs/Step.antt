@@ -16,7 +16,7 @@ use Rattle.civl_meaning.specs.declared.config.Stepped.TheVariants as answer
 use Rattle.civl_meaning.specs.declared.config.Change.{Change}
 use Rattle.civl_meaning.specs.declared.config.Change.TheVariants.{Stays, Goes, Acts, Enters, Leaves, Spawns}
 use Rattle.civl_firing.specs.Eval.{values_of}
-use Rattle.civl_firing.specs.Scope.{global_scope}
+use Rattle.civl_firing.specs.Scope.{global_values}
 use Rattle.civl_meaning.specs.Meaning.{proc_number}
 use Rattle.civl_meaning.specs.Change.{change_of}
 
@@ -24,7 +24,7 @@ use Rattle.civl_meaning.specs.Change.{change_of}
 abbrev pub begun : Program → Store → Thread → Running
 begun program store thread = record {
   callee = proc_number program thread.callee;
-  args = values_of (global_scope program.globals store) thread.args;
+  args = values_of (global_values program.globals store) thread.args;
   state = Before;
 }
 

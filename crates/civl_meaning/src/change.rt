@@ -5,9 +5,11 @@ ghost use Rattle.civl_meaning.specs.declared.config.State.TheVariants.{Before};
 ghost use Rattle.civl_firing.specs.Truth.{place_of};
 ghost use Rattle.civl_values.specs.Values.{is_true};
 ghost use Rattle.civl_firing.specs.Eval.{value_of, values_of};
-ghost use Rattle.civl_firing.specs.Scope.{frame_names, frame_scope};
+ghost use Rattle.civl_firing.specs.Scope.{frame_values};
+ghost use Rattle.civl_tree.specs.rules.Names.{names_in_proc};
 ghost use Rattle.civl_firing.specs.Names.{names_of};
-ghost use Rattle.civl_meaning.specs.Places.{start_of, sizes_of, size_of};
+ghost use Rattle.civl_meaning.specs.Places.{start_of};
+ghost use Rattle.civl_tree.specs.Numbering.{sizes_of, size_of};
 ghost use Rattle.civl_meaning.specs.Found.{spot, Fits};
 ghost use Rattle.civl_meaning.specs.Callees.{meaning};
 ghost use Rattle.civl_meaning.specs.Meaning.{called, proc_number};
@@ -37,7 +39,7 @@ pub struct Standing<'a> {
 /// The names of a procedure's frame, as targets.
 #[tactic(auto, using(civl_firing::proofs::Joining::appending))]
 pub fn frame_targets<'a>(proc: &'a Proc) -> Names<'a>
-    ensures { names_of result ≡ frame_names proc.now }
+    ensures { names_of result ≡ names_in_proc proc.now }
 {
     Names {
         globals: &[],
@@ -201,7 +203,7 @@ fn assigned(
     name: &Name,
     expr: &Expr,
 ) -> Result<Change, Memory>
-    ensures { IfOk result (λ c. c ≡ Change.Goes (slice_set standing.now.locals.now (place_of (frame_names standing.now.proc.now) name.now) (value_of (frame_scope standing.now.plain.now.program.globals standing.now.proc.now standing.now.locals.now) expr.now)) next) }
+    ensures { IfOk result (λ c. c ≡ Change.Goes (slice_set standing.now.locals.now (place_of (names_in_proc standing.now.proc.now) name.now) (value_of (frame_values standing.now.plain.now.program.globals standing.now.proc.now standing.now.locals.now) expr.now)) next) }
 {
     let mut locals = Vec::from_slice(alloc, standing.locals)?;
     write(
@@ -214,7 +216,7 @@ fn assigned(
 
 /// The value of an expression in a frame.
 fn value_in(standing: &Standing<'_>, expr: &Expr) -> Value
-    ensures { result ≡ value_of (frame_scope standing.now.plain.now.program.globals standing.now.proc.now standing.now.locals.now) expr.now }
+    ensures { result ≡ value_of (frame_values standing.now.plain.now.program.globals standing.now.proc.now standing.now.locals.now) expr.now }
 {
     let globals = standing.plain.program.globals.as_slice();
     value(&in_frame(globals, standing.proc, standing.locals), expr)
@@ -222,7 +224,7 @@ fn value_in(standing: &Standing<'_>, expr: &Expr) -> Value
 
 /// Whether an expression is true in a frame.
 pub fn holds_in(standing: &Standing<'_>, expr: &Expr) -> bool
-    ensures { result ≡ is_true (value_of (frame_scope standing.now.plain.now.program.globals standing.now.proc.now standing.now.locals.now) expr.now) }
+    ensures { result ≡ is_true (value_of (frame_values standing.now.plain.now.program.globals standing.now.proc.now standing.now.locals.now) expr.now) }
 {
     let globals = standing.plain.program.globals.as_slice();
     holds(&in_frame(globals, standing.proc, standing.locals), expr)
@@ -234,7 +236,7 @@ fn values_in(
     standing: &Standing<'_>,
     exprs: &List<Expr>,
 ) -> Result<List<Value>, Memory>
-    ensures { IfOk result (λ vs. vs ≡ values_of (frame_scope standing.now.plain.now.program.globals standing.now.proc.now standing.now.locals.now) exprs.now) }
+    ensures { IfOk result (λ vs. vs ≡ values_of (frame_values standing.now.plain.now.program.globals standing.now.proc.now standing.now.locals.now) exprs.now) }
 {
     let globals = standing.plain.program.globals.as_slice();
     let setting = in_frame(globals, standing.proc, standing.locals);
@@ -250,7 +252,7 @@ fn spawned(
     name: &Name,
     args: &List<Expr>,
 ) -> Result<Change, Memory>
-    ensures { IfOk result (λ c. c ≡ Change.Spawns (record { callee = proc_number standing.now.plain.now.program name.now; args = values_of (frame_scope standing.now.plain.now.program.globals standing.now.proc.now standing.now.locals.now) args.now; state = Before }) next) }
+    ensures { IfOk result (λ c. c ≡ Change.Spawns (record { callee = proc_number standing.now.plain.now.program name.now; args = values_of (frame_values standing.now.plain.now.program.globals standing.now.proc.now standing.now.locals.now) args.now; state = Before }) next) }
 {
     let args = values_in(alloc, standing, args)?;
     let callee = proc(standing.plain.program.procs.as_slice(), name);
@@ -274,7 +276,7 @@ fn branch(
     b: &List<Stmt>,
 ) -> usize
     requires { at + 1 + sizes_of a.now + sizes_of b.now < 2 ^ 64 }
-    ensures { result ≡ (if is_true (value_of (frame_scope standing.now.plain.now.program.globals standing.now.proc.now standing.now.locals.now) test.now) then start_of a.now (at + 1) next else start_of b.now (at + 1 + sizes_of a.now) next) }
+    ensures { result ≡ (if is_true (value_of (frame_values standing.now.plain.now.program.globals standing.now.proc.now standing.now.locals.now) test.now) then start_of a.now (at + 1) next else start_of b.now (at + 1 + sizes_of a.now) next) }
 {
     if holds_in(standing, test) {
         begin(a.as_slice(), at + 1, next)
@@ -286,7 +288,7 @@ fn branch(
 /// Where a loop goes.
 fn turn(standing: &Standing<'_>, at: usize, next: usize, test: &Expr, body: &List<Stmt>) -> usize
     requires { at + 1 < 2 ^ 64 }
-    ensures { result ≡ (if is_true (value_of (frame_scope standing.now.plain.now.program.globals standing.now.proc.now standing.now.locals.now) test.now) then start_of body.now (at + 1) at else next) }
+    ensures { result ≡ (if is_true (value_of (frame_values standing.now.plain.now.program.globals standing.now.proc.now standing.now.locals.now) test.now) then start_of body.now (at + 1) at else next) }
 {
     if holds_in(standing, test) {
         begin(body.as_slice(), at + 1, at)
@@ -302,7 +304,7 @@ fn asserted(
     next: usize,
     expr: &Expr,
 ) -> Result<Change, Memory>
-    ensures { IfOk result (λ c. c ≡ (if is_true (value_of (frame_scope standing.now.plain.now.program.globals standing.now.proc.now standing.now.locals.now) expr.now) then Change.Goes standing.now.locals.now next else Change.Stays Stepped.Failing)) }
+    ensures { IfOk result (λ c. c ≡ (if is_true (value_of (frame_values standing.now.plain.now.program.globals standing.now.proc.now standing.now.locals.now) expr.now) then Change.Goes standing.now.locals.now next else Change.Stays Stepped.Failing)) }
 {
     if !holds_in(standing, expr) {
         return Ok(Change::Stays(Stepped::Failing));
@@ -323,7 +325,7 @@ fn calling(
     args: &List<Expr>,
     results: &List<Name>,
 ) -> Result<Change, Memory>
-    ensures { IfOk result (λ c. c ≡ call_change standing.now.plain.now store.now chosen.now (frame_names standing.now.proc.now) standing.now.locals.now results.now at next (called standing.now.plain.now name.now) (values_of (frame_scope standing.now.plain.now.program.globals standing.now.proc.now standing.now.locals.now) args.now)) }
+    ensures { IfOk result (λ c. c ≡ call_change standing.now.plain.now store.now chosen.now (names_in_proc standing.now.proc.now) standing.now.locals.now results.now at next (called standing.now.plain.now name.now) (values_of (frame_values standing.now.plain.now.program.globals standing.now.proc.now standing.now.locals.now) args.now)) }
 {
     let args = values_in(alloc, standing, args)?;
     let callee = of_name(standing.plain, name);

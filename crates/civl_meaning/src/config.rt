@@ -23,11 +23,19 @@ pub struct Plain {
 /// What came of a step. Anything but `Moved` leaves the configuration as it was.
 #[derive(Clone, Copy, Debug, PartialEq, Eq)]
 pub enum Stepped {
+    /// The step was made.
     Moved,
+    /// The thread stands before a call of an action whose gate is true and whose guard is false, and the choices fit. A call
+    /// of a name that isn't declared is blocked too.
     Blocked,
+    /// There is no thread of this number.
     NoThread,
+    /// The thread's call has returned: nothing is left to run.
     Ended,
+    /// The thread stands before a call of an action whose gate is false, or before a false assert.
     Failing,
+    /// The thread stands before a call of an action whose gate is true, and the choices differ from the action's in number
+    /// or in a sort.
     BadChoices,
 }
 

@@ -2,7 +2,7 @@
 ghost use Rattle.std.specs.Prelude.{◌≡◌, ◌<◌, ◌^◌, length, slice_get, option_copied};
 ghost use Rattle.civl_tree.specs.declared.stmt.Stmt.{out-Stmt};
 ghost use Rattle.civl_firing.specs.Eval.{values_of};
-ghost use Rattle.civl_firing.specs.Scope.{frame_scope};
+ghost use Rattle.civl_firing.specs.Scope.{frame_values};
 ghost use Rattle.civl_meaning.specs.Callees.{meaning};
 ghost use Rattle.civl_meaning.specs.Failing.{call_fails, layer_fails, proc_fails, state_fails, thread_fails, failing_thread};
 
@@ -28,7 +28,7 @@ fn first_call_fails(plain: &Plain, store: &Store, callee: Callee<'_>, args: &[Va
 
 /// Whether a call in a procedure fails.
 fn call_fails(standing: &Standing<'_>, store: &Store, callee: Callee<'_>, args: &[Expr]) -> bool
-    ensures { result ≡ call_fails standing.now.plain.now store.now (meaning callee.entry) (values_of (frame_scope standing.now.plain.now.program.globals standing.now.proc.now standing.now.locals.now) args.now) }
+    ensures { result ≡ call_fails standing.now.plain.now store.now (meaning callee.entry) (values_of (frame_values standing.now.plain.now.program.globals standing.now.proc.now standing.now.locals.now) args.now) }
 {
     let globals = standing.plain.program.globals.as_slice();
     match callee {

@@ -1,6 +1,7 @@
 // What stands at a place of a procedure's body.
 ghost use Rattle.std.specs.Prelude.{◌≡◌, ◌+◌, ◌^◌, ◌<◌, sum, map, IfOk, IfSome};
-ghost use Rattle.civl_meaning.specs.Places.{size_of, sizes_of, is_skipped, start_of, first_in, spot_among, inside_of, spot_at, loop_spot};
+ghost use Rattle.civl_meaning.specs.Places.{is_skipped, start_of, first_in, spot_among, inside_of, spot_at, loop_spot};
+ghost use Rattle.civl_tree.specs.Numbering.{size_of, sizes_of};
 ghost use Rattle.civl_meaning.specs.Found.{spot, Fits};
 
 use civl_tree::{List, Memory, Stmt};

@@ -2,7 +2,7 @@
 ghost use Rattle.std.specs.Prelude.{◌≡◌, ◌+◌, ◌-◌, ◌^◌, ◌<◌, ◌++◌, [], ◌∷◌, length, map, slice_get, Some, IfOk, IfSome, OnOk};
 ghost use Rattle.civl_meaning.specs.Depth.{depth_of};
 ghost use Rattle.civl_meaning.specs.Frame.{unnumbered, left_in, frame_in, bare_call, first_frame, frames_of};
-ghost use Rattle.civl_meaning.specs.Places.{size_of, sizes_of};
+ghost use Rattle.civl_tree.specs.Numbering.{size_of, sizes_of};
 ghost use Rattle.civl_meaning.specs.Rest.{rest_among, rest_inside};
 
 use crate::config::{Activation, Config, Plain, Running, State};

@@ -29,7 +29,7 @@ mod starting;
 pub use civl_firing::{
     Fired, Scope, Store, each_store_is_numbered, evaluate, fire, names, place, truth_table,
 };
-pub use config::{Activation, Change, Config, Move, Plain, Running, State, Stepped};
+pub use config::{Activation, Config, Move, Plain, Running, State, Stepped};
 pub use configs::{copy_config, depth, same, store, threads};
 pub use faults::failing;
 pub use frame_copy::Frame;

@@ -1,6 +1,7 @@
 // What stands at a place of a procedure's body, for bodies of any size.
 ghost use Rattle.std.specs.Prelude.{◌≡◌, ◌<◌, ◌≤◌, MatchOption, option_copied};
-ghost use Rattle.civl_meaning.specs.Places.{size_of, sizes_of, spot_at};
+ghost use Rattle.civl_meaning.specs.Places.{spot_at};
+ghost use Rattle.civl_tree.specs.Numbering.{size_of, sizes_of};
 ghost use Rattle.civl_meaning.specs.Left.{stmt_of, first_left, among_left, inside_left};
 
 use crate::found::skipped;

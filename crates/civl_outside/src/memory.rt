@@ -131,6 +131,10 @@ impl Model for MemorySink {
 
 impl MemorySink {
     /// Its calls are numbered from 0. Its memory is taken here.
+    ///
+    /// # Errors
+    ///
+    /// For want of memory.
     pub fn new(alloc: Global, room: usize, failing: Vec<u64>) -> Result<MemorySink, Memory>
         ensures { IfOk result (λ s. s ≡ record {
           sink = record { written = []; room = room; stalls = 0 };

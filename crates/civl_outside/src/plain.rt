@@ -83,6 +83,10 @@ impl Model for PlainSink {
 
 impl PlainSink {
     /// A sink that takes at most `room` bytes in all. Its memory is taken here.
+    ///
+    /// # Errors
+    ///
+    /// For want of memory.
     pub fn new(alloc: Global, room: usize) -> Result<PlainSink, Memory>
         ensures { IfOk result (λ s. s ≡ record { written = []; room = room; stalls = 0 }) }
     {

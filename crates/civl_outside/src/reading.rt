@@ -24,6 +24,11 @@ const PIECE: usize = 4096;
 
 /// Reads to the end, or to one byte past the limit, in pieces of up to 4096 bytes.
 /// A source is at its end where it says so or gives no bytes.
+///
+/// # Answers
+///
+/// [`Whole::Failed`] where the source failed, [`Whole::Memory`] for want of memory, [`Whole::Long`] where there are more bytes
+/// than the limit, and else [`Whole::Bytes`] with all of them.
 pub fn read_whole<S: Source>(alloc: Global, source: &mut S, limit: usize) -> Whole
     ensures bytes { WholeFrom (S.left source.old) (S.left source.new) limit result }
     ensures failed { result ≡ Whole.Failed → Rose (S.faults source.old) (S.faults source.new) }

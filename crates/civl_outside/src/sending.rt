@@ -1,5 +1,5 @@
 // Writing all of some bytes.
-ghost use Rattle.std.specs.Prelude.{◌≡◌, ◌≤◌};
+ghost use Rattle.std.specs.Prelude.{◌≡◌, ◌≤◌, []};
 ghost use Rattle.civl_outside.specs.Count.{Rose, Stayed};
 ghost use Rattle.civl_outside.specs.Sent.{SendsTo};
 
@@ -18,8 +18,16 @@ pub enum Sent {
 
 /// Writes all the bytes, in as many calls as it takes, up to the first that fails or takes nothing.
 /// It takes no memory, and no bytes want no call.
+///
+/// # Answers
+///
+/// [`Sent::Failed`] where a call failed, [`Sent::Stuck`] where one took nothing, and else [`Sent::All`].
 pub fn write_all<K: Sink>(sink: &mut K, bytes: &[u8]) -> Sent
     ensures bytes { SendsTo (K.written sink.old) (K.written sink.new) result bytes.now }
+
+    // No bytes want no call.
+    ensures unwritten { bytes.now ≡ [] → sink.new ≡ sink.old }
+    ensures empty { bytes.now ≡ [] → result ≡ Sent.All }
 
     // Each answer but `All` has its cause, so where neither count rose all the bytes were taken.
     ensures failed { result ≡ Sent.Failed → Rose (K.faults sink.old) (K.faults sink.new) }

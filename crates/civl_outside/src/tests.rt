@@ -58,18 +58,29 @@ fn a_long_source_is_read_in_many_pieces(rt: HostRuntime) -> Result<(), Fail> {
     Ok(())
 }
 
+/// Reads six bytes in pieces of two, which are four reads: three pieces and the end. The read with this number fails, and
+/// after the failure the rest is there.
+fn fails_at_read(
+    rt: &(impl Abort + AllocGlobal),
+    call: u64,
+    rest: &[u8],
+) -> Result<(), AllocError> {
+    let alloc = rt.alloc();
+    let failing = [call].to_vec(alloc)?;
+    let mut source = MemorySource::new(b"abcdef".to_vec(alloc)?, 2, failing);
+    let first = read_whole(alloc, &mut source, 100);
+    assert!(rt; matches!(&first, Whole::Failed), "at {call}");
+    let second = read_whole(alloc, &mut source, 100);
+    assert_eq!(rt; bytes_of(&second), Some(rest), "at {call}");
+    Ok(())
+}
+
 #[test]
 fn each_planned_read_fails_once(rt: HostRuntime) -> Result<(), Fail> {
-    let alloc = rt.alloc();
-    // Six bytes in pieces of two are four reads: three pieces and the end. After the failure the rest is there.
-    for (call, rest) in [(0, "abcdef"), (1, "cdef"), (2, "ef"), (3, "")] {
-        let failing = [call].to_vec(alloc)?;
-        let mut source = MemorySource::new(b"abcdef".to_vec(alloc)?, 2, failing);
-        let first = read_whole(alloc, &mut source, 100);
-        assert!(rt; matches!(&first, Whole::Failed), "at {call}");
-        let second = read_whole(alloc, &mut source, 100);
-        assert_eq!(rt; bytes_of(&second), Some(rest.as_bytes()), "at {call}");
-    }
+    fails_at_read(&rt, 0, b"abcdef")?;
+    fails_at_read(&rt, 1, b"cdef")?;
+    fails_at_read(&rt, 2, b"ef")?;
+    fails_at_read(&rt, 3, b"")?;
     Ok(())
 }
 
@@ -91,20 +102,25 @@ fn a_sink_is_full_at_its_room(rt: HostRuntime) -> Result<(), Fail> {
     Ok(())
 }
 
+/// Sends two texts to a sink with room for both, whose write with this number fails. Each text is one write.
+fn fails_at_write(
+    rt: &(impl Abort + AllocGlobal),
+    call: u64,
+    answers: [Sent; 2],
+    bytes: &[u8],
+) -> Result<(), Fail> {
+    let mut sink = MemorySink::new(rt.alloc(), 6, [call].to_vec(rt.alloc())?)?;
+    assert_eq!(rt; write_all(&mut sink, b"one"), answers[0], "at {call}");
+    assert_eq!(rt; write_all(&mut sink, b"now"), answers[1], "at {call}");
+    assert_eq!(rt; sink.bytes(), bytes, "at {call}");
+    Ok(())
+}
+
 #[test]
 fn each_planned_write_fails_once(rt: HostRuntime) -> Result<(), Fail> {
-    let alloc = rt.alloc();
-    // A sink with room takes all in one call, so a plan for the second fails the second sending.
-    for (call, first, second, bytes) in [
-        (0, Sent::Failed, Sent::All, "now"),
-        (1, Sent::All, Sent::Failed, "one"),
-        (2, Sent::All, Sent::All, "onenow"),
-    ] {
-        let mut sink = MemorySink::new(alloc, 6, [call].to_vec(alloc)?)?;
-        assert_eq!(rt; write_all(&mut sink, b"one"), first, "at {call}");
-        assert_eq!(rt; write_all(&mut sink, b"now"), second, "at {call}");
-        assert_eq!(rt; sink.bytes(), bytes.as_bytes(), "at {call}");
-    }
+    fails_at_write(&rt, 0, [Sent::Failed, Sent::All], b"now")?;
+    fails_at_write(&rt, 1, [Sent::All, Sent::Failed], b"one")?;
+    fails_at_write(&rt, 2, [Sent::All, Sent::All], b"onenow")?;
     Ok(())
 }
 
@@ -145,20 +161,24 @@ impl<W: Write> Write for Breaking<W> {
 
 #[test]
 fn a_reader_of_std_is_a_source(rt: HostRuntime) -> Result<(), Fail> {
-    let alloc = rt.alloc();
+    let text: &[u8] = b"abcdef";
+    let mut source = RealSource::new(text);
+    let whole = read_whole(rt.alloc(), &mut source, 6);
+    assert_eq!(rt; bytes_of(&whole), Some(text));
+    Ok(())
+}
+
+#[test]
+fn a_reader_that_fails_is_one_that_failed(rt: HostRuntime) -> Result<(), Fail> {
     let text: &[u8] = b"abcdef";
     let mut source = RealSource::new(Breaking {
         below: text,
         calls: 0,
     });
-    let first = read_whole(alloc, &mut source, 6);
+    let first = read_whole(rt.alloc(), &mut source, 6);
     assert!(rt; matches!(&first, Whole::Failed));
-    let second = read_whole(alloc, &mut source, 6);
+    let second = read_whole(rt.alloc(), &mut source, 6);
     assert_eq!(rt; bytes_of(&second), Some(b"".as_slice()));
-
-    let mut whole = RealSource::new(text);
-    let third = read_whole(alloc, &mut whole, 6);
-    assert_eq!(rt; bytes_of(&third), Some(text));
     Ok(())
 }
 
@@ -168,15 +188,19 @@ fn a_writer_of_std_is_a_sink(rt: HostRuntime) -> Result<(), Fail> {
     let mut sink = RealSink::new(room.as_mut_slice());
     assert_eq!(rt; write_all(&mut sink, b"abcd"), Sent::Stuck);
     assert_eq!(rt; room.as_slice(), b"abc".as_slice());
+    Ok(())
+}
 
+#[test]
+fn a_writer_that_fails_is_one_that_failed(rt: HostRuntime) -> Result<(), Fail> {
     let mut written = Vec::new(rt.alloc());
-    let mut breaking = RealSink::new(Breaking {
+    let mut sink = RealSink::new(Breaking {
         below: &mut written,
         calls: 0,
     });
-    assert_eq!(rt; write_all(&mut breaking, b"abc"), Sent::All);
-    assert_eq!(rt; write_all(&mut breaking, b"def"), Sent::Failed);
-    assert_eq!(rt; write_all(&mut breaking, b"ghi"), Sent::All);
+    assert_eq!(rt; write_all(&mut sink, b"abc"), Sent::All);
+    assert_eq!(rt; write_all(&mut sink, b"def"), Sent::Failed);
+    assert_eq!(rt; write_all(&mut sink, b"ghi"), Sent::All);
     assert_eq!(rt; written.as_slice(), b"abcghi".as_slice());
     Ok(())
 }

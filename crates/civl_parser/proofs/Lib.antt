@@ -9,3 +9,4 @@ pub mod OfPrograms
 pub mod Shallow
 pub mod Sizes
 pub mod OfScripts
+pub mod Printed

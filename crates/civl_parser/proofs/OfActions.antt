@@ -29,9 +29,9 @@ use Rattle.civl_phrases.proofs.Leaves.{number_is}
 use Rattle.civl_parser.specs.declared.params.Heading.{Heading}
 use Rattle.civl_parser.specs.declared.actions.Offer.{Offer}
 use Rattle.civl_parser.specs.declared.actions.Effect.{Effect}
-use Rattle.civl_parser.specs.Names.{FitsName}
-use Rattle.civl_parser.specs.Exprs.{FitsExpr}
-use Rattle.civl_parser.specs.Actions.{mode_table, has_mode, mode_of, mode_at, make_param, param_at, params_at, make_heading, heading_at, make_choice, choice_at, choices_at, make_update, update_at, updates_at, mover_table, mover_of, mover_at, range_at, make_offer, offer_at, make_effect, effect_at, make_action, action_word, action_at}
+use Rattle.civl_parser.specs.readers.Names.{FitsName}
+use Rattle.civl_parser.specs.readers.Exprs.{FitsExpr}
+use Rattle.civl_parser.specs.readers.Actions.{mode_table, has_mode, mode_of, mode_at, make_param, param_at, params_at, make_heading, heading_at, make_choice, choice_at, choices_at, make_update, update_at, updates_at, mover_table, mover_of, mover_at, range_at, make_offer, offer_at, make_effect, effect_at, make_action, action_word, action_at}
 use Rattle.civl_parser.proofs.Lists.{all_from, all_to}
 use Rattle.civl_parser.proofs.OfNames.{name_is}
 use Rattle.civl_parser.proofs.OfExprs.{sort_is, expr_is}

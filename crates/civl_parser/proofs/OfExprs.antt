@@ -29,8 +29,8 @@ use Rattle.civl_parser.specs.declared.forms.SortForm.{SortForm}
 use Rattle.civl_parser.specs.declared.forms.SortForm.TheVariants as sort_forms
 use Rattle.civl_parser.specs.declared.forms.ExprForm.{ExprForm}
 use Rattle.civl_parser.specs.declared.forms.ExprForm.TheVariants as forms
-use Rattle.civl_parser.specs.Names.{FitsName}
-use Rattle.civl_parser.specs.Exprs.{sort_form, bool_at, word_at, row_at, sort_as, sort_at, one_table, one_at, two_table, two_at, expr_form, expr_next, Tail, TwoTail, PickTail, Inside, OneInside, TailInside, of_inside, pick_at, binary_at, tail_at, inside_at, paren_at, literal_at, constant_at, of_old, olden_at, old_at, pair_at, exprs_at, get_at, join_at, set_at, fill_at, slice_at, widen_at, expr_as, expr_by, inner_expr, expr_at, FitsExpr}
+use Rattle.civl_parser.specs.readers.Names.{FitsName}
+use Rattle.civl_parser.specs.readers.Exprs.{sort_form, bool_at, word_at, row_at, sort_as, sort_at, one_table, one_at, two_table, two_at, expr_form, expr_next, Tail, TwoTail, PickTail, Inside, OneInside, TailInside, of_inside, pick_at, binary_at, tail_at, inside_at, paren_at, literal_at, constant_at, of_old, olden_at, old_at, pair_at, exprs_at, get_at, join_at, set_at, fill_at, slice_at, widen_at, expr_as, expr_by, inner_expr, expr_at, FitsExpr}
 use Rattle.civl_parser.proofs.OfNames.{name_is}
 
 -- ---- sorts

@@ -7,7 +7,7 @@ use Rattle.civl_tree.specs.SpellingDomain.{allows_name}
 use Rattle.civl_tree.specs.declared.name.Name.{Name}
 use Rattle.civl_phrases.specs.Phrase.{Any, IsReader, IsLeaf}
 use Rattle.civl_phrases.proofs.Tokens.{leaf_is}
-use Rattle.civl_parser.specs.Names.{proper_name, name_at, FitsName}
+use Rattle.civl_parser.specs.readers.Names.{proper_name, name_at, FitsName}
 
 named_puts : (b : Bool) (m n : Name) → allows_name m ≡ b → cond b (Some m) None ≡ Some n → (Named m.bytes ≡ name_token n) × FitsName n
 named_puts true m n h e = let same : m ≡ n = cc in (ap name_token same, ap allows_name (sym same) ∙ h)

@@ -5,7 +5,7 @@ use Rattle.std.specs.List.{AllByRecursion, list_all}
 use Rattle.civl_tree.specs.Token.{Token, Reserved, Number}
 use Rattle.civl_tree.specs.Spelling.{open_brace, close_brace, semicolon, colon, arrow, name_token, joined, enclosed, spell_expr}
 use Rattle.civl_tree.specs.SpellingStmt.{spell_stmt}
-use Rattle.civl_tree.specs.SpellingProgram.{spell_param, spell_rank_of, spell_local, spell_proc}
+use Rattle.civl_tree.specs.SpellingProgram.{local_token, spell_param, spell_rank_of, spell_local, spell_proc}
 use Rattle.civl_tree.specs.SpellingDomain.{allows_name, allows_expr, allows_stmt, allows_param, allows_out, allows_rank_of, allows_local, allows_proc}
 use Rattle.civl_tree.specs.declared.stmt.Stmt.{Stmt}
 use Rattle.civl_tree.specs.declared.program.Refines.{Refines}
@@ -23,10 +23,10 @@ use Rattle.civl_phrases.proofs.Tables.{table_leaf, and_parts, and_join}
 use Rattle.civl_phrases.proofs.Leaves.{number_is}
 use Rattle.civl_parser.specs.declared.params.Heading.{Heading}
 use Rattle.civl_parser.specs.declared.procedures.Body.{Body}
-use Rattle.civl_parser.specs.Names.{FitsName}
-use Rattle.civl_parser.specs.Exprs.{FitsExpr}
-use Rattle.civl_parser.specs.Stmts.{FitsStmt, stmt_next}
-use Rattle.civl_parser.specs.Procs.{make_refines, refines_at, rank_of_at, local_token, local_table, local_of, local_word_at, local_next, make_local, local_at, make_body, body_at, make_proc, proc_word, proc_at}
+use Rattle.civl_parser.specs.readers.Names.{FitsName}
+use Rattle.civl_parser.specs.readers.Exprs.{FitsExpr}
+use Rattle.civl_parser.specs.readers.Stmts.{FitsStmt, stmt_next}
+use Rattle.civl_parser.specs.readers.Procs.{make_refines, refines_at, rank_of_at, local_table, local_of, local_word_at, local_next, make_local, local_at, make_body, body_at, make_proc, proc_word, proc_at}
 use Rattle.civl_parser.proofs.Lists.{all_from, all_to}
 use Rattle.civl_parser.proofs.OfNames.{name_is}
 use Rattle.civl_parser.proofs.OfExprs.{sort_is}

@@ -28,11 +28,11 @@ use Rattle.civl_phrases.proofs.Leaves.{number_is}
 use Rattle.civl_parser.specs.declared.program.Header.{Header}
 use Rattle.civl_parser.specs.declared.program.Claims.{Claims}
 use Rattle.civl_parser.specs.declared.program.Bodies.{Bodies}
-use Rattle.civl_parser.specs.Names.{FitsName}
-use Rattle.civl_parser.specs.Exprs.{FitsExpr}
-use Rattle.civl_parser.specs.Actions.{action_word, action_at}
-use Rattle.civl_parser.specs.Procs.{proc_word, proc_at}
-use Rattle.civl_parser.specs.Programs.{global_word, invariant_word, thread_word, make_global, global_at, init_at, make_invariant, invariant_at, make_thread, thread_at, number_line_at, sizes_at, make_header, header_at, make_bodies, bodies_at, make_claims, claims_at, make_program, program_at, program_text_at}
+use Rattle.civl_parser.specs.readers.Names.{FitsName}
+use Rattle.civl_parser.specs.readers.Exprs.{FitsExpr}
+use Rattle.civl_parser.specs.readers.Actions.{action_word, action_at}
+use Rattle.civl_parser.specs.readers.Procs.{proc_word, proc_at}
+use Rattle.civl_parser.specs.readers.Programs.{global_word, invariant_word, thread_word, make_global, global_at, init_at, make_invariant, invariant_at, make_thread, thread_at, number_line_at, sizes_at, make_header, header_at, make_bodies, bodies_at, make_claims, claims_at, make_program, program_at, program_text_at}
 use Rattle.civl_parser.proofs.Lists.{all_from, all_to}
 use Rattle.civl_parser.proofs.Nests.{nested}
 use Rattle.civl_parser.proofs.OfNames.{name_is}

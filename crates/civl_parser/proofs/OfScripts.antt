@@ -25,10 +25,10 @@ use Rattle.civl_parser.specs.declared.forms.LiteralForm.{LiteralForm}
 use Rattle.civl_parser.specs.declared.forms.LiteralForm.TheVariants as forms
 use Rattle.civl_parser.specs.declared.script.Value.{Value}
 use Rattle.civl_parser.specs.declared.script.Schedule.{Schedule}
-use Rattle.civl_parser.specs.Actions.{action_word}
-use Rattle.civl_parser.specs.Procs.{proc_word}
-use Rattle.civl_parser.specs.Programs.{invariant_word, thread_word}
-use Rattle.civl_parser.specs.Scripts.{literal_form, flag_at, number_literal_at, literal_as, literal_at, open_row, close_row, row_value, plain_value, value_at, make_entry, entry_at, make_chosen, chosen_at, chosens_at, make_told, move_word, step_at, make_schedule, schedule_at, make_script, script_text_at}
+use Rattle.civl_parser.specs.readers.Actions.{action_word}
+use Rattle.civl_parser.specs.readers.Procs.{proc_word}
+use Rattle.civl_parser.specs.readers.Programs.{invariant_word, thread_word}
+use Rattle.civl_parser.specs.readers.Scripts.{literal_form, flag_at, number_literal_at, literal_as, literal_at, open_row, close_row, row_value, plain_value, value_at, make_entry, entry_at, make_chosen, chosen_at, chosens_at, make_told, move_word, step_at, make_schedule, schedule_at, make_script, script_text_at}
 use Rattle.civl_parser.proofs.Lists.{all_from, all_to}
 use Rattle.civl_parser.proofs.OfNames.{name_is}
 use Rattle.civl_parser.proofs.OfPrograms.{BeginsNone, program_then_is}

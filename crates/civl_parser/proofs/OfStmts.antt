@@ -23,9 +23,9 @@ use Rattle.civl_phrases.proofs.Heads.{heads_after, heads_leaf, heads_both, heads
 use Rattle.civl_phrases.proofs.Tables.{and_parts, and_join, form_has}
 use Rattle.civl_parser.specs.declared.forms.StmtForm.{StmtForm}
 use Rattle.civl_parser.specs.declared.forms.StmtForm.TheVariants as forms
-use Rattle.civl_parser.specs.Names.{FitsName}
-use Rattle.civl_parser.specs.Exprs.{expr_at, FitsExpr}
-use Rattle.civl_parser.specs.Stmts.{stmt_table, has_form, stmt_form, stmt_next, args_at, results_at, assign_at, assert_at, call_at, yield_at, commit_at, intro_at, spawn_at, block_at, if_at, Loop, Plain, Yields, Ranked, of_loop, plain_loop_at, inv_body_at, yield_loop_at, by_body_at, rank_loop_at, while_at, stmt_as, stmt_by, inner_stmt, stmt_at, FitsStmt}
+use Rattle.civl_parser.specs.readers.Names.{FitsName}
+use Rattle.civl_parser.specs.readers.Exprs.{expr_at, FitsExpr}
+use Rattle.civl_parser.specs.readers.Stmts.{stmt_table, has_form, stmt_form, stmt_next, args_at, results_at, assign_at, assert_at, call_at, yield_at, commit_at, intro_at, spawn_at, block_at, if_at, Loop, Plain, Yields, Ranked, of_loop, plain_loop_at, inv_body_at, yield_loop_at, by_body_at, rank_loop_at, while_at, stmt_as, stmt_by, inner_stmt, stmt_at, FitsStmt}
 use Rattle.civl_parser.proofs.OfNames.{name_is}
 use Rattle.civl_parser.proofs.Lists.{all_from, all_to, held_from, held_to}
 use Rattle.civl_parser.proofs.OfExprs.{expr_is, expr_not, ExprReader}

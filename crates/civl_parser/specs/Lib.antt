@@ -1,8 +1,2 @@
-pub mod Names
-pub mod Exprs
-pub mod Stmts
-pub mod Actions
-pub mod Procs
-pub mod Programs
 pub mod Parsing
-pub mod Scripts
+pub mod readers

@@ -4,7 +4,7 @@ ghost use Rattle.civl_lex.specs.Spelled.{spelled, spelled_token};
 ghost use Rattle.civl_phrases.specs.Reader.{Gives, begins};
 ghost use Rattle.civl_phrases.specs.Leaf.{is_named};
 ghost use Rattle.civl_phrases.specs.Table.{lookup};
-ghost use Rattle.civl_parser.specs.Actions.{choice_at, choices_at, update_at, updates_at, mover_table, mover_at, range_at, offer_at, effect_at, make_action, action_at, action_word};
+ghost use Rattle.civl_parser.specs.readers.Actions.{choice_at, choices_at, update_at, updates_at, mover_table, mover_at, range_at, offer_at, effect_at, make_action, action_at, action_word};
 
 use crate::brackets::open_bracket;
 use crate::expressions::expr;
@@ -19,7 +19,7 @@ use civl_phrases::{
 use civl_tree::{Action, Choice, Expr, List, Mover, Update};
 use std::alloc::Global;
 
-#[tactic(auto, unfolding(crate::specs::Actions::choice_at, civl_phrases::specs::Reader::mapped, civl_phrases::specs::Reader::both, civl_phrases::specs::Reader::after))]
+#[tactic(auto, unfolding(crate::specs::readers::Actions::choice_at, civl_phrases::specs::Reader::mapped, civl_phrases::specs::Reader::both, civl_phrases::specs::Reader::after))]
 fn choice<'t, 'a>(
     alloc: Global,
     new: bool,
@@ -57,7 +57,7 @@ impl Phrase for ChoicePhrase {
     }
 }
 
-#[tactic(auto, unfolding(crate::specs::Actions::choices_at, civl_phrases::specs::Reader::opened))]
+#[tactic(auto, unfolding(crate::specs::readers::Actions::choices_at, civl_phrases::specs::Reader::opened))]
 fn choices<'t, 'a>(
     alloc: Global,
     new: bool,
@@ -78,7 +78,7 @@ fn choices<'t, 'a>(
     )
 }
 
-#[tactic(auto, unfolding(crate::specs::Actions::update_at, civl_phrases::specs::Reader::mapped, civl_phrases::specs::Reader::both, civl_phrases::specs::Reader::after))]
+#[tactic(auto, unfolding(crate::specs::readers::Actions::update_at, civl_phrases::specs::Reader::mapped, civl_phrases::specs::Reader::both, civl_phrases::specs::Reader::after))]
 fn update<'t, 'a>(
     alloc: Global,
     new: bool,
@@ -122,7 +122,7 @@ impl Headed for UpdatePhrase {
     }
 }
 
-#[tactic(auto, unfolding(crate::specs::Actions::updates_at, civl_phrases::specs::Reader::opened, civl_phrases::specs::Reader::then_token, civl_phrases::specs::Reader::mapped, civl_phrases::specs::Reader::both, civl_phrases::specs::Reader::after, civl_phrases::specs::Reader::done))]
+#[tactic(auto, unfolding(crate::specs::readers::Actions::updates_at, civl_phrases::specs::Reader::opened, civl_phrases::specs::Reader::then_token, civl_phrases::specs::Reader::mapped, civl_phrases::specs::Reader::both, civl_phrases::specs::Reader::after, civl_phrases::specs::Reader::done))]
 fn updates<'t, 'a>(
     alloc: Global,
     new: bool,
@@ -160,7 +160,7 @@ fn mover_of(token: &Token<'_>) -> Option<Mover>
     }
 }
 
-#[tactic(auto, unfolding(crate::specs::Actions::mover_at, civl_phrases::specs::Reader::leaf))]
+#[tactic(auto, unfolding(crate::specs::readers::Actions::mover_at, civl_phrases::specs::Reader::leaf))]
 fn mover<'t, 'a>(tokens: &'t [Token<'a>]) -> Result<(Mover, &'t [Token<'a>]), Halt>
     ensures { Gives (λ x. (x.0, spelled x.1.now)) result (mover_at (spelled tokens.now)) }
 {
@@ -178,7 +178,7 @@ fn mover<'t, 'a>(tokens: &'t [Token<'a>]) -> Result<(Mover, &'t [Token<'a>]), Ha
 /// # Errors
 ///
 /// `NotHere` at the first token with which no range goes on.
-#[tactic(auto, unfolding(crate::specs::Actions::range_at, civl_phrases::specs::Reader::both, civl_phrases::specs::Reader::after))]
+#[tactic(auto, unfolding(crate::specs::readers::Actions::range_at, civl_phrases::specs::Reader::both, civl_phrases::specs::Reader::after))]
 pub fn range<'t, 'a>(tokens: &'t [Token<'a>]) -> Result<((u32, u32), &'t [Token<'a>]), Halt>
     ensures { Gives (λ x. (x.0, spelled x.1.now)) result (range_at (spelled tokens.now)) }
 {
@@ -206,7 +206,7 @@ pub struct Effect {
     pub updates: List<Update>,
 }
 
-#[tactic(auto, unfolding(crate::specs::Actions::offer_at, civl_phrases::specs::Reader::mapped, civl_phrases::specs::Reader::both, civl_phrases::specs::Reader::after))]
+#[tactic(auto, unfolding(crate::specs::readers::Actions::offer_at, civl_phrases::specs::Reader::mapped, civl_phrases::specs::Reader::both, civl_phrases::specs::Reader::after))]
 fn read_offer<'t, 'a>(
     alloc: Global,
     new: bool,
@@ -228,7 +228,7 @@ fn read_offer<'t, 'a>(
     Ok((offer, rest))
 }
 
-#[tactic(auto, unfolding(crate::specs::Actions::effect_at, civl_phrases::specs::Reader::mapped, civl_phrases::specs::Reader::both, civl_phrases::specs::Reader::after))]
+#[tactic(auto, unfolding(crate::specs::readers::Actions::effect_at, civl_phrases::specs::Reader::mapped, civl_phrases::specs::Reader::both, civl_phrases::specs::Reader::after))]
 fn read_effect<'t, 'a>(
     alloc: Global,
     new: bool,
@@ -287,7 +287,7 @@ fn action_of(heading: Heading, offer: Offer, effect: Effect) -> Action
 ///
 /// - `NotHere` at the first token with which none goes on.
 /// - `Deep` at a bracket that may stand there and may not be opened.
-#[tactic(auto, unfolding(crate::specs::Actions::action_at, civl_phrases::specs::Reader::mapped, civl_phrases::specs::Reader::both))]
+#[tactic(auto, unfolding(crate::specs::readers::Actions::action_at, civl_phrases::specs::Reader::mapped, civl_phrases::specs::Reader::both))]
 fn action<'t, 'a>(
     alloc: Global,
     new: bool,

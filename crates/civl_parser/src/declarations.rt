@@ -2,7 +2,7 @@
 ghost use Rattle.std.specs.Prelude.{◌≡◌};
 ghost use Rattle.civl_lex.specs.Spelled.{spelled};
 ghost use Rattle.civl_phrases.specs.Reader.{Gives, begins};
-ghost use Rattle.civl_parser.specs.Programs.{global_at, init_at, invariant_at, thread_at, global_word, invariant_word, thread_word};
+ghost use Rattle.civl_parser.specs.readers.Programs.{global_at, init_at, invariant_at, thread_at, global_word, invariant_word, thread_word};
 
 use crate::actions::range;
 use crate::names::name;
@@ -19,7 +19,7 @@ use std::alloc::Global;
 ///
 /// - `NotHere` at the first token with which none goes on.
 /// - `Deep` at a bracket that may stand there and may not be opened.
-#[tactic(auto, unfolding(crate::specs::Programs::global_at, civl_phrases::specs::Reader::mapped, civl_phrases::specs::Reader::both, civl_phrases::specs::Reader::after, civl_phrases::specs::Reader::then_token, civl_phrases::specs::Reader::done))]
+#[tactic(auto, unfolding(crate::specs::readers::Programs::global_at, civl_phrases::specs::Reader::mapped, civl_phrases::specs::Reader::both, civl_phrases::specs::Reader::after, civl_phrases::specs::Reader::then_token, civl_phrases::specs::Reader::done))]
 fn global<'t, 'a>(
     alloc: Global,
     most: usize,
@@ -78,7 +78,7 @@ impl Headed for GlobalPhrase {
 ///
 /// - `NotHere` at the first token with which none goes on.
 /// - `Deep` at a bracket that may stand there and may not be opened.
-#[tactic(auto, unfolding(crate::specs::Programs::init_at, civl_phrases::specs::Reader::after))]
+#[tactic(auto, unfolding(crate::specs::readers::Programs::init_at, civl_phrases::specs::Reader::after))]
 pub fn init<'t, 'a>(
     alloc: Global,
     new: bool,
@@ -91,7 +91,7 @@ pub fn init<'t, 'a>(
     ended_expr(alloc, new, most, rest)
 }
 
-#[tactic(auto, unfolding(crate::specs::Programs::invariant_at, civl_phrases::specs::Reader::mapped, civl_phrases::specs::Reader::both, civl_phrases::specs::Reader::after))]
+#[tactic(auto, unfolding(crate::specs::readers::Programs::invariant_at, civl_phrases::specs::Reader::mapped, civl_phrases::specs::Reader::both, civl_phrases::specs::Reader::after))]
 fn invariant<'t, 'a>(
     alloc: Global,
     new: bool,
@@ -135,7 +135,7 @@ impl Headed for InvariantPhrase {
     }
 }
 
-#[tactic(auto, unfolding(crate::specs::Programs::thread_at, civl_phrases::specs::Reader::mapped, civl_phrases::specs::Reader::both, civl_phrases::specs::Reader::after, civl_phrases::specs::Reader::then_token, civl_phrases::specs::Reader::done))]
+#[tactic(auto, unfolding(crate::specs::readers::Programs::thread_at, civl_phrases::specs::Reader::mapped, civl_phrases::specs::Reader::both, civl_phrases::specs::Reader::after, civl_phrases::specs::Reader::then_token, civl_phrases::specs::Reader::done))]
 fn thread<'t, 'a>(
     alloc: Global,
     new: bool,

@@ -5,9 +5,9 @@ ghost use Rattle.civl_tree.specs.Spelling.{close_paren};
 ghost use Rattle.civl_lex.specs.Spelled.{spelled, spelled_token};
 ghost use Rattle.civl_tree.specs.declared.expr.Expr.TheVariants as expr;
 ghost use Rattle.civl_phrases.specs.Reader.{Gives, lookahead, mapped, both, then_token};
-ghost use Rattle.civl_parser.specs.Names.{name_at};
+ghost use Rattle.civl_parser.specs.readers.Names.{name_at};
 ghost use Rattle.civl_phrases.specs.Table.{lookup};
-ghost use Rattle.civl_parser.specs.Exprs.{expr_table, word_forms, expr_form_of, expr_form, expr_next, with_tail, of_old, pick_at, binary_at, tail_at, paren_at, one_at, exprs_at, literal_at, constant_at, olden_at, old_at, pair_at, get_at, join_at, set_at, fill_at, slice_at, widen_at, expr_at, inner_expr};
+ghost use Rattle.civl_parser.specs.readers.Exprs.{expr_table, word_forms, expr_form_of, expr_form, expr_next, with_tail, of_old, pick_at, binary_at, tail_at, paren_at, one_at, exprs_at, literal_at, constant_at, olden_at, old_at, pair_at, get_at, join_at, set_at, fill_at, slice_at, widen_at, expr_at, inner_expr};
 
 use crate::brackets::open_bracket;
 use crate::forms::ExprForm;
@@ -101,7 +101,7 @@ fn name_expr<'t, 'a>(
     Ok((Expr::Name(name), rest))
 }
 
-#[tactic(auto, unfolding(crate::specs::Exprs::literal_at, civl_phrases::specs::Reader::mapped, civl_phrases::specs::Reader::both, civl_phrases::specs::Reader::after))]
+#[tactic(auto, unfolding(crate::specs::readers::Exprs::literal_at, civl_phrases::specs::Reader::mapped, civl_phrases::specs::Reader::both, civl_phrases::specs::Reader::after))]
 fn literal<'t, 'a>(tokens: &'t [Token<'a>]) -> Result<(Expr, &'t [Token<'a>]), Halt>
     ensures { Gives (λ x. (x.0, spelled x.1.now)) result (literal_at (spelled tokens.now)) }
 {
@@ -111,7 +111,7 @@ fn literal<'t, 'a>(tokens: &'t [Token<'a>]) -> Result<(Expr, &'t [Token<'a>]), H
     Ok((Expr::Literal(value, width), rest))
 }
 
-#[tactic(auto, unfolding(crate::specs::Exprs::constant_at, civl_phrases::specs::Reader::mapped, civl_phrases::specs::Reader::after, civl_phrases::specs::Reader::done))]
+#[tactic(auto, unfolding(crate::specs::readers::Exprs::constant_at, civl_phrases::specs::Reader::mapped, civl_phrases::specs::Reader::after, civl_phrases::specs::Reader::done))]
 fn constant<'t, 'a>(
     text: &[u8],
     value: Expr,
@@ -124,7 +124,7 @@ fn constant<'t, 'a>(
 }
 
 /// A name, or `done`.
-#[tactic(auto, unfolding(crate::specs::Exprs::olden_at, civl_phrases::specs::Reader::chosen, civl_phrases::specs::Reader::mapped, civl_phrases::specs::Reader::after, civl_phrases::specs::Reader::done))]
+#[tactic(auto, unfolding(crate::specs::readers::Exprs::olden_at, civl_phrases::specs::Reader::chosen, civl_phrases::specs::Reader::mapped, civl_phrases::specs::Reader::after, civl_phrases::specs::Reader::done))]
 fn olden<'t, 'a>(
     alloc: Global,
     tokens: &'t [Token<'a>],
@@ -149,7 +149,7 @@ fn of_old(old: Option<Name>) -> Expr
     }
 }
 
-#[tactic(auto, unfolding(crate::specs::Exprs::old_at, civl_phrases::specs::Reader::mapped, civl_phrases::specs::Reader::opened, civl_phrases::specs::Reader::after, civl_phrases::specs::Reader::then_token, civl_phrases::specs::Reader::both, civl_phrases::specs::Reader::done))]
+#[tactic(auto, unfolding(crate::specs::readers::Exprs::old_at, civl_phrases::specs::Reader::mapped, civl_phrases::specs::Reader::opened, civl_phrases::specs::Reader::after, civl_phrases::specs::Reader::then_token, civl_phrases::specs::Reader::both, civl_phrases::specs::Reader::done))]
 fn old<'t, 'a>(
     alloc: Global,
     most: usize,
@@ -183,7 +183,7 @@ fn two_boxes(alloc: Global, first: Expr, second: Expr) -> Result<(Boxed<Expr>, B
 /// - `NotHere` at the first token with which no expression goes on.
 /// - `Deep` at a bracket that may stand there and may not be opened.
 #[cycle(expr)]
-#[tactic(auto, unfolding(crate::specs::Exprs::expr_at, crate::specs::Exprs::expr_by, civl_phrases::specs::Reader::by_form))]
+#[tactic(auto, unfolding(crate::specs::readers::Exprs::expr_at, crate::specs::readers::Exprs::expr_by, civl_phrases::specs::Reader::by_form))]
 pub fn expr<'t, 'a>(
     alloc: Global,
     new: bool,
@@ -211,7 +211,7 @@ pub fn expr<'t, 'a>(
 }
 
 #[cycle(expr)]
-#[tactic(auto, unfolding(crate::specs::Exprs::paren_at, crate::specs::Exprs::inside_at, civl_phrases::specs::Reader::mapped, civl_phrases::specs::Reader::opened, civl_phrases::specs::Reader::chosen, civl_phrases::specs::Reader::both))]
+#[tactic(auto, unfolding(crate::specs::readers::Exprs::paren_at, crate::specs::readers::Exprs::inside_at, civl_phrases::specs::Reader::mapped, civl_phrases::specs::Reader::opened, civl_phrases::specs::Reader::chosen, civl_phrases::specs::Reader::both))]
 fn paren<'t, 'a>(
     alloc: Global,
     new: bool,
@@ -248,7 +248,7 @@ fn one<'t, 'a>(
 
 /// What stands behind the first expression in parentheses, up to the closing bracket.
 #[cycle(expr)]
-#[tactic(auto, unfolding(crate::specs::Exprs::tail_at, civl_phrases::specs::Reader::mapped, civl_phrases::specs::Reader::chosen))]
+#[tactic(auto, unfolding(crate::specs::readers::Exprs::tail_at, civl_phrases::specs::Reader::mapped, civl_phrases::specs::Reader::chosen))]
 fn tail<'t, 'a>(
     alloc: Global,
     new: bool,
@@ -268,7 +268,7 @@ fn tail<'t, 'a>(
 
 /// `?`, two expressions and the closing bracket, behind a test.
 #[cycle(expr)]
-#[tactic(auto, unfolding(crate::specs::Exprs::pick_at, civl_phrases::specs::Reader::mapped, civl_phrases::specs::Reader::both, civl_phrases::specs::Reader::after))]
+#[tactic(auto, unfolding(crate::specs::readers::Exprs::pick_at, civl_phrases::specs::Reader::mapped, civl_phrases::specs::Reader::both, civl_phrases::specs::Reader::after))]
 fn pick<'t, 'a>(
     alloc: Global,
     new: bool,
@@ -290,7 +290,7 @@ fn pick<'t, 'a>(
 
 /// An operator, an expression and the closing bracket, behind the first operand.
 #[cycle(expr)]
-#[tactic(auto, unfolding(crate::specs::Exprs::binary_at, civl_phrases::specs::Reader::mapped, civl_phrases::specs::Reader::both))]
+#[tactic(auto, unfolding(crate::specs::readers::Exprs::binary_at, civl_phrases::specs::Reader::mapped, civl_phrases::specs::Reader::both))]
 fn two<'t, 'a>(
     alloc: Global,
     new: bool,
@@ -309,7 +309,7 @@ fn two<'t, 'a>(
 
 /// A word, and two expressions in parentheses.
 #[cycle(expr)]
-#[tactic(auto, unfolding(crate::specs::Exprs::pair_at, civl_phrases::specs::Reader::opened, civl_phrases::specs::Reader::after, civl_phrases::specs::Reader::both))]
+#[tactic(auto, unfolding(crate::specs::readers::Exprs::pair_at, civl_phrases::specs::Reader::opened, civl_phrases::specs::Reader::after, civl_phrases::specs::Reader::both))]
 fn pair<'t, 'a>(
     alloc: Global,
     new: bool,
@@ -328,7 +328,7 @@ fn pair<'t, 'a>(
 }
 
 #[cycle(expr)]
-#[tactic(auto, unfolding(crate::specs::Exprs::get_at, civl_phrases::specs::Reader::mapped))]
+#[tactic(auto, unfolding(crate::specs::readers::Exprs::get_at, civl_phrases::specs::Reader::mapped))]
 fn get<'t, 'a>(
     alloc: Global,
     new: bool,
@@ -343,7 +343,7 @@ fn get<'t, 'a>(
 }
 
 #[cycle(expr)]
-#[tactic(auto, unfolding(crate::specs::Exprs::join_at, civl_phrases::specs::Reader::mapped))]
+#[tactic(auto, unfolding(crate::specs::readers::Exprs::join_at, civl_phrases::specs::Reader::mapped))]
 fn join<'t, 'a>(
     alloc: Global,
     new: bool,
@@ -359,7 +359,7 @@ fn join<'t, 'a>(
 
 /// Two expressions with a comma between.
 #[cycle(expr)]
-#[tactic(auto, unfolding(crate::specs::Exprs::exprs_at, civl_phrases::specs::Reader::after, civl_phrases::specs::Reader::both))]
+#[tactic(auto, unfolding(crate::specs::readers::Exprs::exprs_at, civl_phrases::specs::Reader::after, civl_phrases::specs::Reader::both))]
 fn exprs<'t, 'a>(
     alloc: Global,
     new: bool,
@@ -376,7 +376,7 @@ fn exprs<'t, 'a>(
 }
 
 #[cycle(expr)]
-#[tactic(auto, unfolding(crate::specs::Exprs::set_at, civl_phrases::specs::Reader::mapped, civl_phrases::specs::Reader::opened, civl_phrases::specs::Reader::after, civl_phrases::specs::Reader::both))]
+#[tactic(auto, unfolding(crate::specs::readers::Exprs::set_at, civl_phrases::specs::Reader::mapped, civl_phrases::specs::Reader::opened, civl_phrases::specs::Reader::after, civl_phrases::specs::Reader::both))]
 fn set<'t, 'a>(
     alloc: Global,
     new: bool,
@@ -396,7 +396,7 @@ fn set<'t, 'a>(
 }
 
 #[cycle(expr)]
-#[tactic(auto, unfolding(crate::specs::Exprs::fill_at, civl_phrases::specs::Reader::mapped, civl_phrases::specs::Reader::opened, civl_phrases::specs::Reader::after, civl_phrases::specs::Reader::both))]
+#[tactic(auto, unfolding(crate::specs::readers::Exprs::fill_at, civl_phrases::specs::Reader::mapped, civl_phrases::specs::Reader::opened, civl_phrases::specs::Reader::after, civl_phrases::specs::Reader::both))]
 fn fill<'t, 'a>(
     alloc: Global,
     new: bool,
@@ -414,7 +414,7 @@ fn fill<'t, 'a>(
 }
 
 #[cycle(expr)]
-#[tactic(auto, unfolding(crate::specs::Exprs::slice_at, civl_phrases::specs::Reader::mapped, civl_phrases::specs::Reader::opened, civl_phrases::specs::Reader::after, civl_phrases::specs::Reader::then_token, civl_phrases::specs::Reader::both, civl_phrases::specs::Reader::done))]
+#[tactic(auto, unfolding(crate::specs::readers::Exprs::slice_at, civl_phrases::specs::Reader::mapped, civl_phrases::specs::Reader::opened, civl_phrases::specs::Reader::after, civl_phrases::specs::Reader::then_token, civl_phrases::specs::Reader::both, civl_phrases::specs::Reader::done))]
 fn slice<'t, 'a>(
     alloc: Global,
     new: bool,
@@ -435,7 +435,7 @@ fn slice<'t, 'a>(
 }
 
 #[cycle(expr)]
-#[tactic(auto, unfolding(crate::specs::Exprs::widen_at, civl_phrases::specs::Reader::mapped, civl_phrases::specs::Reader::opened, civl_phrases::specs::Reader::after, civl_phrases::specs::Reader::then_token, civl_phrases::specs::Reader::both, civl_phrases::specs::Reader::done))]
+#[tactic(auto, unfolding(crate::specs::readers::Exprs::widen_at, civl_phrases::specs::Reader::mapped, civl_phrases::specs::Reader::opened, civl_phrases::specs::Reader::after, civl_phrases::specs::Reader::then_token, civl_phrases::specs::Reader::both, civl_phrases::specs::Reader::done))]
 fn widen<'t, 'a>(
     alloc: Global,
     new: bool,

@@ -17,8 +17,6 @@ mod program;
 mod script;
 mod sorts;
 mod statements;
-#[cfg(test)]
-mod tests;
 mod texts;
 
 pub use fault::ParseFault;

@@ -1,7 +1,7 @@
 // Names.
 ghost use Rattle.civl_lex.specs.Spelled.{spelled};
 ghost use Rattle.civl_phrases.specs.Reader.{Gives};
-ghost use Rattle.civl_parser.specs.Names.{name_at};
+ghost use Rattle.civl_parser.specs.readers.Names.{name_at};
 
 use civl_lex::{Kind, Token, is_name};
 use civl_phrases::{Halt, Phrase, not_here};
@@ -14,7 +14,7 @@ use std::alloc::Global;
 ///
 /// `NotHere` exactly where another token is next, or none. A token that says it is a name, and has the text of none,
 /// is another token.
-#[tactic(auto, unfolding(crate::specs::Names::name_at, civl_phrases::specs::Reader::leaf))]
+#[tactic(auto, unfolding(crate::specs::readers::Names::name_at, civl_phrases::specs::Reader::leaf))]
 pub fn name<'t, 'a>(alloc: Global, tokens: &'t [Token<'a>]) -> Result<(Name, &'t [Token<'a>]), Halt>
     ensures { Gives (λ x. (x.0, spelled x.1.now)) result (name_at (spelled tokens.now)) }
 {

@@ -4,7 +4,7 @@ ghost use Rattle.civl_tree.specs.SpellingDomain.{allows_op};
 ghost use Rattle.civl_lex.specs.Spelled.{spelled, spelled_token};
 ghost use Rattle.civl_phrases.specs.Reader.{Gives};
 ghost use Rattle.civl_phrases.specs.Table.{lookup};
-ghost use Rattle.civl_parser.specs.Exprs.{one_table, one_at, word_table, bool_table, two_table, two_at};
+ghost use Rattle.civl_parser.specs.readers.Exprs.{one_table, one_at, word_table, bool_table, two_table, two_at};
 
 use civl_lex::Token;
 use civl_phrases::{Halt, is_sign, is_word, not_here};
@@ -25,7 +25,7 @@ fn one_of(token: &Token<'_>) -> Option<One>
 }
 
 /// An operator with one operand, and the tokens behind it.
-#[tactic(auto, unfolding(crate::specs::Exprs::one_at, civl_phrases::specs::Reader::leaf))]
+#[tactic(auto, unfolding(crate::specs::readers::Exprs::one_at, civl_phrases::specs::Reader::leaf))]
 pub fn one_op<'t, 'a>(tokens: &'t [Token<'a>]) -> Result<(One, &'t [Token<'a>]), Halt>
     ensures { Gives (λ x. (x.0, spelled x.1.now)) result (one_at (spelled tokens.now)) }
 {
@@ -133,7 +133,7 @@ fn has_op(new: bool, op: Two) -> bool
 /// # Errors
 ///
 /// `NotHere` exactly where another token is next, or none.
-#[tactic(auto, unfolding(crate::specs::Exprs::two_at, civl_phrases::specs::Reader::leaf))]
+#[tactic(auto, unfolding(crate::specs::readers::Exprs::two_at, civl_phrases::specs::Reader::leaf))]
 pub fn two_op<'t, 'a>(new: bool, tokens: &'t [Token<'a>]) -> Result<(Two, &'t [Token<'a>]), Halt>
     ensures { Gives (λ x. (x.0, spelled x.1.now)) result (two_at new (spelled tokens.now)) }
 {

@@ -4,7 +4,7 @@ ghost use Rattle.civl_tree.specs.Token.{Reserved};
 ghost use Rattle.civl_lex.specs.Spelled.{spelled, spelled_token};
 ghost use Rattle.civl_phrases.specs.Reader.{Gives};
 ghost use Rattle.civl_phrases.specs.Table.{lookup};
-ghost use Rattle.civl_parser.specs.Actions.{mode_table, has_mode, mode_at, param_at, params_at, heading_at};
+ghost use Rattle.civl_parser.specs.readers.Actions.{mode_table, has_mode, mode_at, param_at, params_at, heading_at};
 
 use crate::brackets::open_bracket;
 use crate::names::name;
@@ -41,7 +41,7 @@ fn has_mode(out: bool, mode: Mode) -> bool
     }
 }
 
-#[tactic(auto, unfolding(crate::specs::Actions::mode_at, civl_phrases::specs::Reader::leaf))]
+#[tactic(auto, unfolding(crate::specs::readers::Actions::mode_at, civl_phrases::specs::Reader::leaf))]
 fn mode<'t, 'a>(out: bool, tokens: &'t [Token<'a>]) -> Result<(Mode, &'t [Token<'a>]), Halt>
     ensures { Gives (λ x. (x.0, spelled x.1.now)) result (mode_at out (spelled tokens.now)) }
 {
@@ -60,7 +60,7 @@ fn mode<'t, 'a>(out: bool, tokens: &'t [Token<'a>]) -> Result<(Mode, &'t [Token<
     }
 }
 
-#[tactic(auto, unfolding(crate::specs::Actions::param_at, civl_phrases::specs::Reader::mapped, civl_phrases::specs::Reader::both, civl_phrases::specs::Reader::after))]
+#[tactic(auto, unfolding(crate::specs::readers::Actions::param_at, civl_phrases::specs::Reader::mapped, civl_phrases::specs::Reader::both, civl_phrases::specs::Reader::after))]
 fn param<'t, 'a>(
     alloc: Global,
     out: bool,
@@ -97,7 +97,7 @@ impl Phrase for ParamPhrase {
     }
 }
 
-#[tactic(auto, unfolding(crate::specs::Actions::params_at, civl_phrases::specs::Reader::opened))]
+#[tactic(auto, unfolding(crate::specs::readers::Actions::params_at, civl_phrases::specs::Reader::opened))]
 fn params<'t, 'a>(
     alloc: Global,
     out: bool,
@@ -132,7 +132,7 @@ pub struct Heading {
 ///
 /// - `NotHere` at the first token with which none goes on.
 /// - `Deep` at a bracket that may stand there and may not be opened.
-#[tactic(auto, unfolding(crate::specs::Actions::heading_at, civl_phrases::specs::Reader::mapped, civl_phrases::specs::Reader::both, civl_phrases::specs::Reader::after))]
+#[tactic(auto, unfolding(crate::specs::readers::Actions::heading_at, civl_phrases::specs::Reader::mapped, civl_phrases::specs::Reader::both, civl_phrases::specs::Reader::after))]
 pub fn read_heading<'t, 'a>(
     alloc: Global,
     text: &[u8],

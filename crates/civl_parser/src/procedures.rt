@@ -3,7 +3,7 @@ ghost use Rattle.std.specs.Prelude.{◌≡◌, ◌<◌};
 ghost use Rattle.civl_lex.specs.Spelled.{spelled, spelled_token};
 ghost use Rattle.civl_phrases.specs.Reader.{Gives, begins, lookahead};
 ghost use Rattle.civl_phrases.specs.Table.{lookup};
-ghost use Rattle.civl_parser.specs.Procs.{refines_at, rank_of_at, local_table, local_word_at, local_next, local_at, body_at, make_proc, proc_at, proc_word};
+ghost use Rattle.civl_parser.specs.readers.Procs.{refines_at, rank_of_at, local_table, local_word_at, local_next, local_at, body_at, make_proc, proc_at, proc_word};
 
 use crate::brackets::open_bracket;
 use crate::names::name;
@@ -17,7 +17,7 @@ use std::alloc::Global;
 
 // ---- root, or what is refined
 
-#[tactic(auto, unfolding(crate::specs::Procs::refines_at, civl_phrases::specs::Reader::mapped, civl_phrases::specs::Reader::both, civl_phrases::specs::Reader::after))]
+#[tactic(auto, unfolding(crate::specs::readers::Procs::refines_at, civl_phrases::specs::Reader::mapped, civl_phrases::specs::Reader::both, civl_phrases::specs::Reader::after))]
 fn refines<'t, 'a>(
     alloc: Global,
     new: bool,
@@ -42,7 +42,7 @@ fn refines<'t, 'a>(
     ))
 }
 
-#[tactic(auto, unfolding(crate::specs::Procs::rank_of_at, civl_phrases::specs::Reader::chosen, civl_phrases::specs::Reader::mapped, civl_phrases::specs::Reader::after, civl_phrases::specs::Reader::done))]
+#[tactic(auto, unfolding(crate::specs::readers::Procs::rank_of_at, civl_phrases::specs::Reader::chosen, civl_phrases::specs::Reader::mapped, civl_phrases::specs::Reader::after, civl_phrases::specs::Reader::done))]
 fn rank_of<'t, 'a>(
     alloc: Global,
     new: bool,
@@ -75,7 +75,7 @@ fn local_of(token: &Token<'_>) -> Option<bool>
     }
 }
 
-#[tactic(auto, unfolding(crate::specs::Procs::local_word_at, civl_phrases::specs::Reader::leaf))]
+#[tactic(auto, unfolding(crate::specs::readers::Procs::local_word_at, civl_phrases::specs::Reader::leaf))]
 fn local_word<'t, 'a>(tokens: &'t [Token<'a>]) -> Result<(bool, &'t [Token<'a>]), Halt>
     ensures { Gives (λ x. (x.0, spelled x.1.now)) result (local_word_at (spelled tokens.now)) }
 {
@@ -100,7 +100,7 @@ fn is_local_next(tokens: &[Token<'_>]) -> bool
     }
 }
 
-#[tactic(auto, unfolding(crate::specs::Procs::local_at, civl_phrases::specs::Reader::mapped, civl_phrases::specs::Reader::both, civl_phrases::specs::Reader::after, civl_phrases::specs::Reader::then_token, civl_phrases::specs::Reader::done))]
+#[tactic(auto, unfolding(crate::specs::readers::Procs::local_at, civl_phrases::specs::Reader::mapped, civl_phrases::specs::Reader::both, civl_phrases::specs::Reader::after, civl_phrases::specs::Reader::then_token, civl_phrases::specs::Reader::done))]
 fn local<'t, 'a>(
     alloc: Global,
     most: usize,
@@ -154,7 +154,7 @@ pub struct Body {
 }
 
 /// Locals, statements and the closing bracket.
-#[tactic(auto, unfolding(crate::specs::Procs::body_at, civl_phrases::specs::Reader::both, civl_phrases::specs::Reader::then_token, civl_phrases::specs::Reader::mapped, civl_phrases::specs::Reader::after, civl_phrases::specs::Reader::done))]
+#[tactic(auto, unfolding(crate::specs::readers::Procs::body_at, civl_phrases::specs::Reader::both, civl_phrases::specs::Reader::then_token, civl_phrases::specs::Reader::mapped, civl_phrases::specs::Reader::after, civl_phrases::specs::Reader::done))]
 fn read_body<'t, 'a>(
     alloc: Global,
     new: bool,
@@ -190,7 +190,7 @@ fn proc_of(heading: Heading, refines: Option<Refines>, body: Body) -> Proc
 ///
 /// - `NotHere` at the first token with which none goes on.
 /// - `Deep` at a bracket that may stand there and may not be opened.
-#[tactic(auto, unfolding(crate::specs::Procs::proc_at, civl_phrases::specs::Reader::mapped, civl_phrases::specs::Reader::both, civl_phrases::specs::Reader::opened))]
+#[tactic(auto, unfolding(crate::specs::readers::Procs::proc_at, civl_phrases::specs::Reader::mapped, civl_phrases::specs::Reader::both, civl_phrases::specs::Reader::opened))]
 fn proc<'t, 'a>(
     alloc: Global,
     new: bool,

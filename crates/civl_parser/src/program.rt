@@ -3,7 +3,7 @@ ghost use Rattle.std.specs.Prelude.{◌≡◌, [], ◌==◌};
 ghost use Rattle.civl_tree.specs.Token.{Reserved};
 ghost use Rattle.civl_lex.specs.Spelled.{spelled};
 ghost use Rattle.civl_phrases.specs.Reader.{Gives};
-ghost use Rattle.civl_parser.specs.Programs.{number_line_at, sizes_at, header_at, bodies_at, claims_at, make_program, program_at, program_text_at};
+ghost use Rattle.civl_parser.specs.readers.Programs.{number_line_at, sizes_at, header_at, bodies_at, claims_at, make_program, program_at, program_text_at};
 
 use crate::actions::ActionPhrase;
 use crate::declarations::{GlobalPhrase, InvariantPhrase, ThreadPhrase, init};
@@ -38,7 +38,7 @@ pub struct Claims {
 }
 
 /// The word, a number and a semicolon.
-#[tactic(auto, unfolding(crate::specs::Programs::number_line_at, civl_phrases::specs::Reader::after, civl_phrases::specs::Reader::then_token, civl_phrases::specs::Reader::mapped, civl_phrases::specs::Reader::both, civl_phrases::specs::Reader::done))]
+#[tactic(auto, unfolding(crate::specs::readers::Programs::number_line_at, civl_phrases::specs::Reader::after, civl_phrases::specs::Reader::then_token, civl_phrases::specs::Reader::mapped, civl_phrases::specs::Reader::both, civl_phrases::specs::Reader::done))]
 fn number_line<'t, 'a>(text: &[u8], tokens: &'t [Token<'a>]) -> Result<(u32, &'t [Token<'a>]), Halt>
     ensures { Gives (λ x. (x.0, spelled x.1.now)) result (number_line_at (Reserved text.now) (spelled tokens.now)) }
 {
@@ -49,7 +49,7 @@ fn number_line<'t, 'a>(text: &[u8], tokens: &'t [Token<'a>]) -> Result<(u32, &'t
 }
 
 /// The number of layers and the width of a permission.
-#[tactic(auto, unfolding(crate::specs::Programs::sizes_at, civl_phrases::specs::Reader::both))]
+#[tactic(auto, unfolding(crate::specs::readers::Programs::sizes_at, civl_phrases::specs::Reader::both))]
 fn sizes<'t, 'a>(tokens: &'t [Token<'a>]) -> Result<((u32, u32), &'t [Token<'a>]), Halt>
     ensures { Gives (λ x. (x.0, spelled x.1.now)) result (sizes_at (spelled tokens.now)) }
 {
@@ -58,7 +58,7 @@ fn sizes<'t, 'a>(tokens: &'t [Token<'a>]) -> Result<((u32, u32), &'t [Token<'a>]
     Ok(((layers, permissions), rest))
 }
 
-#[tactic(auto, unfolding(crate::specs::Programs::header_at, civl_phrases::specs::Reader::mapped, civl_phrases::specs::Reader::both))]
+#[tactic(auto, unfolding(crate::specs::readers::Programs::header_at, civl_phrases::specs::Reader::mapped, civl_phrases::specs::Reader::both))]
 fn read_header<'t, 'a>(tokens: &'t [Token<'a>]) -> Result<(Header, &'t [Token<'a>]), Halt>
     ensures { Gives (λ x. (x.0, spelled x.1.now)) result (header_at (spelled tokens.now)) }
 {
@@ -72,7 +72,7 @@ fn read_header<'t, 'a>(tokens: &'t [Token<'a>]) -> Result<(Header, &'t [Token<'a
     Ok((header, rest))
 }
 
-#[tactic(auto, unfolding(crate::specs::Programs::bodies_at, civl_phrases::specs::Reader::mapped, civl_phrases::specs::Reader::both))]
+#[tactic(auto, unfolding(crate::specs::readers::Programs::bodies_at, civl_phrases::specs::Reader::mapped, civl_phrases::specs::Reader::both))]
 fn read_bodies<'t, 'a>(
     alloc: Global,
     new: bool,
@@ -92,7 +92,7 @@ fn read_bodies<'t, 'a>(
     Ok((bodies, rest))
 }
 
-#[tactic(auto, unfolding(crate::specs::Programs::claims_at, civl_phrases::specs::Reader::mapped, civl_phrases::specs::Reader::both))]
+#[tactic(auto, unfolding(crate::specs::readers::Programs::claims_at, civl_phrases::specs::Reader::mapped, civl_phrases::specs::Reader::both))]
 fn read_claims<'t, 'a>(
     alloc: Global,
     new: bool,
@@ -144,7 +144,7 @@ fn program_of(header: Header, globals: List<GlobalItem>, claims: Claims) -> Prog
 ///
 /// - `NotHere` at the first token with which no program goes on.
 /// - `Deep` at a bracket that may stand there and may not be opened.
-#[tactic(auto, unfolding(crate::specs::Programs::program_at, civl_phrases::specs::Reader::mapped, civl_phrases::specs::Reader::both))]
+#[tactic(auto, unfolding(crate::specs::readers::Programs::program_at, civl_phrases::specs::Reader::mapped, civl_phrases::specs::Reader::both))]
 pub fn program<'t, 'a>(
     alloc: Global,
     most: usize,
@@ -163,7 +163,7 @@ pub fn program<'t, 'a>(
 /// # Errors
 ///
 /// As those of `program`, and `NotHere` at a token behind it.
-#[tactic(auto, unfolding(crate::specs::Programs::program_text_at, civl_phrases::specs::Reader::mapped, civl_phrases::specs::Reader::both))]
+#[tactic(auto, unfolding(crate::specs::readers::Programs::program_text_at, civl_phrases::specs::Reader::mapped, civl_phrases::specs::Reader::both))]
 pub fn program_text(alloc: Global, most: usize, tokens: &[Token<'_>]) -> Result<Program, Halt>
     ensures { Gives (λ x. (x, [])) result (program_text_at most (spelled tokens.now)) }
 {

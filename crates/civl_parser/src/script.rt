@@ -5,7 +5,7 @@ ghost use Rattle.civl_lex.specs.Spelled.{spelled, spelled_token};
 ghost use Rattle.civl_phrases.specs.Reader.{Gives, begins, lookahead};
 ghost use Rattle.civl_phrases.specs.Leaf.{is_named};
 ghost use Rattle.civl_phrases.specs.Table.{lookup};
-ghost use Rattle.civl_parser.specs.Scripts.{literal_table, literal_form_of, literal_form, flag_at, number_literal_at, literal_at, value_at, make_entry, entry_at, make_chosen, chosen_at, chosens_at, move_word, step_at, schedule_at, script_text_at};
+ghost use Rattle.civl_parser.specs.readers.Scripts.{literal_table, literal_form_of, literal_form, flag_at, number_literal_at, literal_at, value_at, make_entry, entry_at, make_chosen, chosen_at, chosens_at, move_word, step_at, schedule_at, script_text_at};
 ghost use Rattle.civl_parser.specs.Parsing.{ScriptParses, ScriptIsOnly};
 
 use crate::brackets::open_bracket;
@@ -54,7 +54,7 @@ fn next_form(tokens: &[Token<'_>]) -> Option<LiteralForm>
     }
 }
 
-#[tactic(auto, unfolding(crate::specs::Scripts::flag_at, civl_phrases::specs::Reader::mapped, civl_phrases::specs::Reader::after, civl_phrases::specs::Reader::done))]
+#[tactic(auto, unfolding(crate::specs::readers::Scripts::flag_at, civl_phrases::specs::Reader::mapped, civl_phrases::specs::Reader::after, civl_phrases::specs::Reader::done))]
 fn flag<'t, 'a>(
     text: &[u8],
     value: bool,
@@ -66,7 +66,7 @@ fn flag<'t, 'a>(
     Ok((Literal::Flag(value), rest))
 }
 
-#[tactic(auto, unfolding(crate::specs::Scripts::number_literal_at, civl_phrases::specs::Reader::mapped, civl_phrases::specs::Reader::both, civl_phrases::specs::Reader::after))]
+#[tactic(auto, unfolding(crate::specs::readers::Scripts::number_literal_at, civl_phrases::specs::Reader::mapped, civl_phrases::specs::Reader::both, civl_phrases::specs::Reader::after))]
 fn number_literal<'t, 'a>(tokens: &'t [Token<'a>]) -> Result<(Literal, &'t [Token<'a>]), Halt>
     ensures { Gives (λ x. (x.0, spelled x.1.now)) result (number_literal_at (spelled tokens.now)) }
 {
@@ -76,7 +76,7 @@ fn number_literal<'t, 'a>(tokens: &'t [Token<'a>]) -> Result<(Literal, &'t [Toke
     Ok((Literal::Number(value, width), rest))
 }
 
-#[tactic(auto, unfolding(crate::specs::Scripts::literal_at, civl_phrases::specs::Reader::by_form))]
+#[tactic(auto, unfolding(crate::specs::readers::Scripts::literal_at, civl_phrases::specs::Reader::by_form))]
 fn literal<'t, 'a>(tokens: &'t [Token<'a>]) -> Result<(Literal, &'t [Token<'a>]), Halt>
     ensures { Gives (λ x. (x.0, spelled x.1.now)) result (literal_at (spelled tokens.now)) }
 {
@@ -115,7 +115,7 @@ pub struct Value {
     pub row: bool,
 }
 
-#[tactic(auto, unfolding(crate::specs::Scripts::value_at, civl_phrases::specs::Reader::chosen, civl_phrases::specs::Reader::mapped, civl_phrases::specs::Reader::opened))]
+#[tactic(auto, unfolding(crate::specs::readers::Scripts::value_at, civl_phrases::specs::Reader::chosen, civl_phrases::specs::Reader::mapped, civl_phrases::specs::Reader::opened))]
 fn read_value<'t, 'a>(
     alloc: Global,
     most: usize,
@@ -144,7 +144,7 @@ fn entry_of(name: Name, value: Value) -> Entry
     Entry { name, cells, row }
 }
 
-#[tactic(auto, unfolding(crate::specs::Scripts::entry_at, civl_phrases::specs::Reader::mapped, civl_phrases::specs::Reader::both, civl_phrases::specs::Reader::after, civl_phrases::specs::Reader::then_token, civl_phrases::specs::Reader::done))]
+#[tactic(auto, unfolding(crate::specs::readers::Scripts::entry_at, civl_phrases::specs::Reader::mapped, civl_phrases::specs::Reader::both, civl_phrases::specs::Reader::after, civl_phrases::specs::Reader::then_token, civl_phrases::specs::Reader::done))]
 fn entry<'t, 'a>(
     alloc: Global,
     most: usize,
@@ -197,7 +197,7 @@ fn chosen_of(alloc: Global, value: Value) -> Entry
     entry_of(name, value)
 }
 
-#[tactic(auto, unfolding(crate::specs::Scripts::chosen_at, civl_phrases::specs::Reader::mapped))]
+#[tactic(auto, unfolding(crate::specs::readers::Scripts::chosen_at, civl_phrases::specs::Reader::mapped))]
 fn chosen<'t, 'a>(
     alloc: Global,
     most: usize,
@@ -229,7 +229,7 @@ impl Phrase for ChosenPhrase {
     }
 }
 
-#[tactic(auto, unfolding(crate::specs::Scripts::chosens_at, civl_phrases::specs::Reader::opened))]
+#[tactic(auto, unfolding(crate::specs::readers::Scripts::chosens_at, civl_phrases::specs::Reader::opened))]
 fn chosens<'t, 'a>(
     alloc: Global,
     most: usize,
@@ -241,7 +241,7 @@ fn chosens<'t, 'a>(
     commas(alloc, &ChosenPhrase { most: most - 1 }, b")", rest)
 }
 
-#[tactic(auto, unfolding(crate::specs::Scripts::step_at, civl_phrases::specs::Reader::mapped, civl_phrases::specs::Reader::both, civl_phrases::specs::Reader::after, civl_phrases::specs::Reader::then_token, civl_phrases::specs::Reader::done))]
+#[tactic(auto, unfolding(crate::specs::readers::Scripts::step_at, civl_phrases::specs::Reader::mapped, civl_phrases::specs::Reader::both, civl_phrases::specs::Reader::after, civl_phrases::specs::Reader::then_token, civl_phrases::specs::Reader::done))]
 fn step<'t, 'a>(
     alloc: Global,
     most: usize,
@@ -293,7 +293,7 @@ pub struct Schedule {
     pub moves: List<Told>,
 }
 
-#[tactic(auto, unfolding(crate::specs::Scripts::schedule_at, civl_phrases::specs::Reader::mapped, civl_phrases::specs::Reader::both, civl_phrases::specs::Reader::after))]
+#[tactic(auto, unfolding(crate::specs::readers::Scripts::schedule_at, civl_phrases::specs::Reader::mapped, civl_phrases::specs::Reader::both, civl_phrases::specs::Reader::after))]
 fn read_schedule(alloc: Global, most: usize, tokens: &[Token<'_>]) -> Result<Schedule, Halt>
     ensures { Gives (λ x. (x, [])) result (schedule_at most (spelled tokens.now)) }
 {
@@ -310,7 +310,7 @@ fn read_schedule(alloc: Global, most: usize, tokens: &[Token<'_>]) -> Result<Sch
 ///
 /// - `NotHere` at the first token with which no script goes on.
 /// - `Deep` at a bracket that may stand there and may not be opened.
-#[tactic(auto, unfolding(crate::specs::Scripts::script_text_at, civl_phrases::specs::Reader::mapped, civl_phrases::specs::Reader::both))]
+#[tactic(auto, unfolding(crate::specs::readers::Scripts::script_text_at, civl_phrases::specs::Reader::mapped, civl_phrases::specs::Reader::both))]
 pub fn script_text(alloc: Global, most: usize, tokens: &[Token<'_>]) -> Result<Script, Halt>
     ensures { Gives (λ x. (x, [])) result (script_text_at most (spelled tokens.now)) }
 {

@@ -3,7 +3,7 @@ ghost use Rattle.std.specs.Prelude.{◌≡◌};
 ghost use Rattle.civl_lex.specs.Spelled.{spelled, spelled_token};
 ghost use Rattle.civl_phrases.specs.Reader.{Gives, lookahead};
 ghost use Rattle.civl_phrases.specs.Table.{lookup};
-ghost use Rattle.civl_parser.specs.Exprs.{sort_table, sort_form, bool_at, word_at, row_at, sort_at};
+ghost use Rattle.civl_parser.specs.readers.Exprs.{sort_table, sort_form, bool_at, word_at, row_at, sort_at};
 
 use crate::forms::SortForm;
 use civl_lex::Token;
@@ -33,7 +33,7 @@ fn sort_form(tokens: &[Token<'_>]) -> Option<SortForm>
     }
 }
 
-#[tactic(auto, unfolding(crate::specs::Exprs::bool_at, civl_phrases::specs::Reader::mapped, civl_phrases::specs::Reader::after, civl_phrases::specs::Reader::done))]
+#[tactic(auto, unfolding(crate::specs::readers::Exprs::bool_at, civl_phrases::specs::Reader::mapped, civl_phrases::specs::Reader::after, civl_phrases::specs::Reader::done))]
 fn bool_sort<'t, 'a>(tokens: &'t [Token<'a>]) -> Result<(Sort, &'t [Token<'a>]), Halt>
     ensures { Gives (λ x. (x.0, spelled x.1.now)) result (bool_at (spelled tokens.now)) }
 {
@@ -41,7 +41,7 @@ fn bool_sort<'t, 'a>(tokens: &'t [Token<'a>]) -> Result<(Sort, &'t [Token<'a>]),
     Ok((Sort::Bool, rest))
 }
 
-#[tactic(auto, unfolding(crate::specs::Exprs::word_at, civl_phrases::specs::Reader::mapped, civl_phrases::specs::Reader::opened, civl_phrases::specs::Reader::after, civl_phrases::specs::Reader::then_token, civl_phrases::specs::Reader::both, civl_phrases::specs::Reader::done))]
+#[tactic(auto, unfolding(crate::specs::readers::Exprs::word_at, civl_phrases::specs::Reader::mapped, civl_phrases::specs::Reader::opened, civl_phrases::specs::Reader::after, civl_phrases::specs::Reader::then_token, civl_phrases::specs::Reader::both, civl_phrases::specs::Reader::done))]
 fn word_sort<'t, 'a>(most: usize, tokens: &'t [Token<'a>]) -> Result<(Sort, &'t [Token<'a>]), Halt>
     ensures { Gives (λ x. (x.0, spelled x.1.now)) result (word_at most (spelled tokens.now)) }
 {
@@ -52,7 +52,7 @@ fn word_sort<'t, 'a>(most: usize, tokens: &'t [Token<'a>]) -> Result<(Sort, &'t 
     Ok((Sort::Word(width), rest))
 }
 
-#[tactic(auto, unfolding(crate::specs::Exprs::row_at, civl_phrases::specs::Reader::mapped, civl_phrases::specs::Reader::opened, civl_phrases::specs::Reader::after, civl_phrases::specs::Reader::then_token, civl_phrases::specs::Reader::both, civl_phrases::specs::Reader::done))]
+#[tactic(auto, unfolding(crate::specs::readers::Exprs::row_at, civl_phrases::specs::Reader::mapped, civl_phrases::specs::Reader::opened, civl_phrases::specs::Reader::after, civl_phrases::specs::Reader::then_token, civl_phrases::specs::Reader::both, civl_phrases::specs::Reader::done))]
 fn row_sort<'t, 'a>(most: usize, tokens: &'t [Token<'a>]) -> Result<(Sort, &'t [Token<'a>]), Halt>
     ensures { Gives (λ x. (x.0, spelled x.1.now)) result (row_at most (spelled tokens.now)) }
 {
@@ -71,7 +71,7 @@ fn row_sort<'t, 'a>(most: usize, tokens: &'t [Token<'a>]) -> Result<(Sort, &'t [
 ///
 /// - `NotHere` at the first token with which no sort goes on.
 /// - `Deep` where it has a bracket and none may be opened.
-#[tactic(auto, unfolding(crate::specs::Exprs::sort_at, civl_phrases::specs::Reader::by_form))]
+#[tactic(auto, unfolding(crate::specs::readers::Exprs::sort_at, civl_phrases::specs::Reader::by_form))]
 pub fn sort<'t, 'a>(most: usize, tokens: &'t [Token<'a>]) -> Result<(Sort, &'t [Token<'a>]), Halt>
     ensures { Gives (λ x. (x.0, spelled x.1.now)) result (sort_at most (spelled tokens.now)) }
 {

@@ -5,8 +5,8 @@ ghost use Rattle.civl_lex.specs.Spelled.{spelled, spelled_token};
 ghost use Rattle.civl_phrases.specs.Reader.{Gives, lookahead, mapped, then_token};
 ghost use Rattle.civl_phrases.specs.List.{repeated};
 ghost use Rattle.civl_phrases.specs.Table.{lookup, guarded};
-ghost use Rattle.civl_parser.specs.Exprs.{expr_at};
-ghost use Rattle.civl_parser.specs.Stmts.{stmt_table, more_table, has_form, stmt_form_of, stmt_form, stmt_next, args_at, results_at, assign_at, assert_at, call_at, yield_at, commit_at, intro_at, spawn_at, block_at, if_at, of_loop, plain_loop_at, inv_body_at, yield_loop_at, by_body_at, rank_loop_at, while_at, inner_stmt, stmt_at};
+ghost use Rattle.civl_parser.specs.readers.Exprs.{expr_at};
+ghost use Rattle.civl_parser.specs.readers.Stmts.{stmt_table, more_table, has_form, stmt_form_of, stmt_form, stmt_next, args_at, results_at, assign_at, assert_at, call_at, yield_at, commit_at, intro_at, spawn_at, block_at, if_at, of_loop, plain_loop_at, inv_body_at, yield_loop_at, by_body_at, rank_loop_at, while_at, inner_stmt, stmt_at};
 
 use crate::brackets::open_bracket;
 use crate::expressions::{ExprPhrase, expr};
@@ -119,7 +119,7 @@ fn is_stmt_next(new: bool, tokens: &[Token<'_>]) -> bool
 ///
 /// - `NotHere` at the first token with which no list of arguments goes on.
 /// - `Deep` at a bracket that may stand there and may not be opened.
-#[tactic(auto, unfolding(crate::specs::Stmts::args_at, civl_phrases::specs::Reader::opened))]
+#[tactic(auto, unfolding(crate::specs::readers::Stmts::args_at, civl_phrases::specs::Reader::opened))]
 pub fn args<'t, 'a>(
     alloc: Global,
     new: bool,
@@ -140,7 +140,7 @@ pub fn args<'t, 'a>(
     )
 }
 
-#[tactic(auto, unfolding(crate::specs::Stmts::results_at, civl_phrases::specs::Reader::opened))]
+#[tactic(auto, unfolding(crate::specs::readers::Stmts::results_at, civl_phrases::specs::Reader::opened))]
 fn results<'t, 'a>(
     alloc: Global,
     most: usize,
@@ -169,7 +169,7 @@ pub fn ended_expr<'t, 'a>(
 
 // ---- statements without statements
 
-#[tactic(auto, unfolding(crate::specs::Stmts::assign_at, civl_phrases::specs::Reader::mapped, civl_phrases::specs::Reader::both, civl_phrases::specs::Reader::after))]
+#[tactic(auto, unfolding(crate::specs::readers::Stmts::assign_at, civl_phrases::specs::Reader::mapped, civl_phrases::specs::Reader::both, civl_phrases::specs::Reader::after))]
 fn assign<'t, 'a>(
     alloc: Global,
     new: bool,
@@ -184,7 +184,7 @@ fn assign<'t, 'a>(
     Ok((Stmt::Assign(target, value), rest))
 }
 
-#[tactic(auto, unfolding(crate::specs::Stmts::assert_at, civl_phrases::specs::Reader::mapped, civl_phrases::specs::Reader::after))]
+#[tactic(auto, unfolding(crate::specs::readers::Stmts::assert_at, civl_phrases::specs::Reader::mapped, civl_phrases::specs::Reader::after))]
 fn assert<'t, 'a>(
     alloc: Global,
     new: bool,
@@ -198,7 +198,7 @@ fn assert<'t, 'a>(
     Ok((Stmt::Assert(fact), rest))
 }
 
-#[tactic(auto, unfolding(crate::specs::Stmts::call_at, civl_phrases::specs::Reader::mapped, civl_phrases::specs::Reader::both, civl_phrases::specs::Reader::after, civl_phrases::specs::Reader::then_token, civl_phrases::specs::Reader::done))]
+#[tactic(auto, unfolding(crate::specs::readers::Stmts::call_at, civl_phrases::specs::Reader::mapped, civl_phrases::specs::Reader::both, civl_phrases::specs::Reader::after, civl_phrases::specs::Reader::then_token, civl_phrases::specs::Reader::done))]
 fn call<'t, 'a>(
     alloc: Global,
     new: bool,
@@ -216,7 +216,7 @@ fn call<'t, 'a>(
     Ok((Stmt::Call(callee, args, results), rest))
 }
 
-#[tactic(auto, unfolding(crate::specs::Stmts::yield_at, civl_phrases::specs::Reader::mapped, civl_phrases::specs::Reader::after))]
+#[tactic(auto, unfolding(crate::specs::readers::Stmts::yield_at, civl_phrases::specs::Reader::mapped, civl_phrases::specs::Reader::after))]
 fn yield_stmt<'t, 'a>(
     alloc: Global,
     new: bool,
@@ -230,7 +230,7 @@ fn yield_stmt<'t, 'a>(
     Ok((Stmt::Yield(inv), rest))
 }
 
-#[tactic(auto, unfolding(crate::specs::Stmts::commit_at, civl_phrases::specs::Reader::mapped, civl_phrases::specs::Reader::after, civl_phrases::specs::Reader::done))]
+#[tactic(auto, unfolding(crate::specs::readers::Stmts::commit_at, civl_phrases::specs::Reader::mapped, civl_phrases::specs::Reader::after, civl_phrases::specs::Reader::done))]
 fn commit<'t, 'a>(tokens: &'t [Token<'a>]) -> Result<(Stmt, &'t [Token<'a>]), Halt>
     ensures { Gives (λ x. (x.0, spelled x.1.now)) result (commit_at (spelled tokens.now)) }
 {
@@ -239,7 +239,7 @@ fn commit<'t, 'a>(tokens: &'t [Token<'a>]) -> Result<(Stmt, &'t [Token<'a>]), Ha
     Ok((Stmt::Commit, rest))
 }
 
-#[tactic(auto, unfolding(crate::specs::Stmts::intro_at, civl_phrases::specs::Reader::mapped, civl_phrases::specs::Reader::both, civl_phrases::specs::Reader::after))]
+#[tactic(auto, unfolding(crate::specs::readers::Stmts::intro_at, civl_phrases::specs::Reader::mapped, civl_phrases::specs::Reader::both, civl_phrases::specs::Reader::after))]
 fn intro<'t, 'a>(
     alloc: Global,
     new: bool,
@@ -255,7 +255,7 @@ fn intro<'t, 'a>(
     Ok((Stmt::Intro(target, value), rest))
 }
 
-#[tactic(auto, unfolding(crate::specs::Stmts::spawn_at, civl_phrases::specs::Reader::mapped, civl_phrases::specs::Reader::both, civl_phrases::specs::Reader::after, civl_phrases::specs::Reader::then_token, civl_phrases::specs::Reader::done))]
+#[tactic(auto, unfolding(crate::specs::readers::Stmts::spawn_at, civl_phrases::specs::Reader::mapped, civl_phrases::specs::Reader::both, civl_phrases::specs::Reader::after, civl_phrases::specs::Reader::then_token, civl_phrases::specs::Reader::done))]
 fn spawn<'t, 'a>(
     alloc: Global,
     new: bool,
@@ -280,7 +280,7 @@ fn spawn<'t, 'a>(
 /// - `NotHere` at the first token with which no statement goes on.
 /// - `Deep` at a bracket that may stand there and may not be opened.
 #[cycle(stmt)]
-#[tactic(auto, unfolding(crate::specs::Stmts::stmt_at, crate::specs::Stmts::stmt_by, civl_phrases::specs::Reader::by_form))]
+#[tactic(auto, unfolding(crate::specs::readers::Stmts::stmt_at, crate::specs::readers::Stmts::stmt_by, civl_phrases::specs::Reader::by_form))]
 pub fn stmt<'t, 'a>(
     alloc: Global,
     new: bool,
@@ -304,7 +304,7 @@ pub fn stmt<'t, 'a>(
 }
 
 #[cycle(stmt)]
-#[tactic(auto, unfolding(crate::specs::Stmts::if_at, civl_phrases::specs::Reader::mapped, civl_phrases::specs::Reader::both, civl_phrases::specs::Reader::after))]
+#[tactic(auto, unfolding(crate::specs::readers::Stmts::if_at, civl_phrases::specs::Reader::mapped, civl_phrases::specs::Reader::both, civl_phrases::specs::Reader::after))]
 fn if_stmt<'t, 'a>(
     alloc: Global,
     new: bool,
@@ -322,7 +322,7 @@ fn if_stmt<'t, 'a>(
 }
 
 #[cycle(stmt)]
-#[tactic(auto, unfolding(crate::specs::Stmts::while_at, civl_phrases::specs::Reader::mapped, civl_phrases::specs::Reader::after, civl_phrases::specs::Reader::chosen))]
+#[tactic(auto, unfolding(crate::specs::readers::Stmts::while_at, civl_phrases::specs::Reader::mapped, civl_phrases::specs::Reader::after, civl_phrases::specs::Reader::chosen))]
 fn while_stmt<'t, 'a>(
     alloc: Global,
     new: bool,
@@ -342,7 +342,7 @@ fn while_stmt<'t, 'a>(
 }
 
 #[cycle(stmt)]
-#[tactic(auto, unfolding(crate::specs::Stmts::plain_loop_at, civl_phrases::specs::Reader::mapped, civl_phrases::specs::Reader::both))]
+#[tactic(auto, unfolding(crate::specs::readers::Stmts::plain_loop_at, civl_phrases::specs::Reader::mapped, civl_phrases::specs::Reader::both))]
 fn plain_loop<'t, 'a>(
     alloc: Global,
     new: bool,
@@ -357,7 +357,7 @@ fn plain_loop<'t, 'a>(
 }
 
 #[cycle(stmt)]
-#[tactic(auto, unfolding(crate::specs::Stmts::yield_loop_at, civl_phrases::specs::Reader::mapped, civl_phrases::specs::Reader::both, civl_phrases::specs::Reader::after))]
+#[tactic(auto, unfolding(crate::specs::readers::Stmts::yield_loop_at, civl_phrases::specs::Reader::mapped, civl_phrases::specs::Reader::both, civl_phrases::specs::Reader::after))]
 fn yield_loop<'t, 'a>(
     alloc: Global,
     new: bool,
@@ -373,7 +373,7 @@ fn yield_loop<'t, 'a>(
 }
 
 #[cycle(stmt)]
-#[tactic(auto, unfolding(crate::specs::Stmts::rank_loop_at, civl_phrases::specs::Reader::mapped, civl_phrases::specs::Reader::both, civl_phrases::specs::Reader::after))]
+#[tactic(auto, unfolding(crate::specs::readers::Stmts::rank_loop_at, civl_phrases::specs::Reader::mapped, civl_phrases::specs::Reader::both, civl_phrases::specs::Reader::after))]
 fn rank_loop<'t, 'a>(
     alloc: Global,
     new: bool,
@@ -390,7 +390,7 @@ fn rank_loop<'t, 'a>(
 
 /// A rank, an invariant and the body of a loop.
 #[cycle(stmt)]
-#[tactic(auto, unfolding(crate::specs::Stmts::by_body_at, civl_phrases::specs::Reader::both, civl_phrases::specs::Reader::after))]
+#[tactic(auto, unfolding(crate::specs::readers::Stmts::by_body_at, civl_phrases::specs::Reader::both, civl_phrases::specs::Reader::after))]
 fn by_body<'t, 'a>(
     alloc: Global,
     new: bool,
@@ -407,7 +407,7 @@ fn by_body<'t, 'a>(
 
 /// An invariant and the body of a loop.
 #[cycle(stmt)]
-#[tactic(auto, unfolding(crate::specs::Stmts::inv_body_at, civl_phrases::specs::Reader::both, civl_phrases::specs::Reader::after))]
+#[tactic(auto, unfolding(crate::specs::readers::Stmts::inv_body_at, civl_phrases::specs::Reader::both, civl_phrases::specs::Reader::after))]
 fn inv_body<'t, 'a>(
     alloc: Global,
     new: bool,
@@ -423,7 +423,7 @@ fn inv_body<'t, 'a>(
 }
 
 #[cycle(stmt)]
-#[tactic(auto, unfolding(crate::specs::Stmts::block_at, civl_phrases::specs::Reader::opened, civl_phrases::specs::Reader::then_token, civl_phrases::specs::Reader::mapped, civl_phrases::specs::Reader::both, civl_phrases::specs::Reader::after, civl_phrases::specs::Reader::done))]
+#[tactic(auto, unfolding(crate::specs::readers::Stmts::block_at, civl_phrases::specs::Reader::opened, civl_phrases::specs::Reader::then_token, civl_phrases::specs::Reader::mapped, civl_phrases::specs::Reader::both, civl_phrases::specs::Reader::after, civl_phrases::specs::Reader::done))]
 fn block<'t, 'a>(
     alloc: Global,
     new: bool,

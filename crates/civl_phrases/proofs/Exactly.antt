@@ -7,7 +7,7 @@ use Rattle.civl_phrases.specs.declared.halt.Stop.TheVariants.{NotHere, Deep}
 use Rattle.civl_phrases.specs.Bracket.{opens, IsShallow, Opens, side, turn, and_then, room}
 use Rattle.civl_phrases.specs.Reader.{lookahead, Answer, Reader}
 use Rattle.civl_phrases.specs.Phrase.{AtEnd, Missed, Sank, Says, Again, IsReader}
-use Rattle.civl_phrases.specs.Exact.{Begins, IsRead, IsNotHere, IsDeep, IsRight, placed}
+use Rattle.civl_phrases.specs.Exact.{IsPrefix, IsRead, IsNotHere, IsDeep, IsRight, placed}
 use Rattle.civl_phrases.proofs.Nesting.{room_then, lookahead_join, to_shallow, from_shallow, no_room}
 
 -- ---- lists
@@ -151,7 +151,7 @@ module _ {A : Type 0} (d : ℕ) (s : A → List Token) (f : A → Type 0) (r : R
   cut_past ts b c i parts h = ap (take i) parts ∙ take_past b c i h
 
   -- a spelling that goes on behind the place where another went wrong
-  past_missed : (ts : List Token) (n i : ℕ) (h : Missed d s f r ts n) → Begins s f (take i ts) → length h.before < i → i ≤ length ts → ⊥
+  past_missed : (ts : List Token) (n i : ℕ) (h : Missed d s f r ts n) → IsPrefix s f (take i ts) → length h.before < i → i ≤ length ts → ⊥
   past_missed ts n i h (a, more, fits, e) lt le =
       let long : length ts ≡ length h.before + length h.rest = ap length h.parts ∙ length-append h.before h.rest in
       let w : List Token = take (i - length h.before) h.rest in

@@ -3,7 +3,8 @@ use Rattle.std.proofs.Common.{◌≡◌, Bool, true, false, List, [], ◌∷◌,
 use Rattle.std.specs.List.{AllByRecursion}
 use Rattle.civl_tree.specs.Token.{Token}
 use Rattle.civl_phrases.specs.Reader.{lookahead, is_same, begins}
-use Rattle.civl_phrases.specs.List.{joined, perhaps}
+use Rattle.civl_tree.specs.Spelling.{joined}
+use Rattle.civl_phrases.specs.List.{perhaps}
 use Rattle.civl_phrases.specs.Phrase.{Any, AtEnd, PerhapsFits, Heads, Image}
 use Rattle.civl_phrases.proofs.Tokens.{same_token}
 

@@ -3,7 +3,8 @@ use Rattle.std.proofs.Common.{◌≡◌, ℕ, [], ◌∷◌, Some, refl, ap}
 use Rattle.civl_tree.specs.Token.{Token, Named, Reserved, Sign, Number}
 use Rattle.civl_phrases.specs.Phrase.{Any, IsReader, IsLeaf}
 use Rattle.civl_tree.specs.declared.name.Name.{Name}
-use Rattle.civl_phrases.specs.Leaf.{name_of, name_token, number_of, a_name, a_number}
+use Rattle.civl_tree.specs.Spelling.{name_token}
+use Rattle.civl_phrases.specs.Leaf.{name_of, number_of, a_name, a_number}
 use Rattle.civl_phrases.proofs.Tokens.{leaf_is}
 
 name_leaf : IsLeaf (λ (n : Name). Unit {0}) name_of name_token

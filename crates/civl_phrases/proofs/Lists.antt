@@ -5,7 +5,8 @@ use Rattle.civl_tree.specs.Token.{Token}
 use Rattle.civl_phrases.specs.declared.halt.Stop.{Stop}
 use Rattle.civl_phrases.specs.Bracket.{opens, closes, Opens, Closes, side, turn}
 use Rattle.civl_phrases.specs.Reader.{lookahead, is_same, begins, Answer, Reader, ◌>>=◌, expect, after, opened, done, both, mapped, then_token, chosen, flagged}
-use Rattle.civl_phrases.specs.List.{joined, comma, separated, perhaps, repeated, cons, series, enclosed, option_of, flag_spelled}
+use Rattle.civl_tree.specs.Spelling.{comma, joined, separated}
+use Rattle.civl_phrases.specs.List.{perhaps, repeated, cons, series, enclosed, option_of, flag_spelled}
 use Rattle.civl_phrases.specs.Phrase.{Any, PerhapsFits, IsReader, Heads, Image}
 use Rattle.civl_phrases.proofs.Joins.{both_is, mapped_is, image_is, refit_is, chosen_is}
 use Rattle.civl_phrases.proofs.Tokens.{after_is, done_is, opened_is}

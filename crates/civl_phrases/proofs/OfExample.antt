@@ -18,8 +18,8 @@ use Rattle.civl_tree.specs.declared.stmt.Stmt.TheFolds.{fold-Stmt, fold-roll-Stm
 use Rattle.civl_phrases.specs.declared.example.StmtForm.{StmtForm}
 use Rattle.civl_phrases.specs.declared.example.StmtForm.TheVariants as forms
 use Rattle.civl_phrases.specs.Reader.{Reader, Answer, lookahead, begins, is_same, after, done, ended}
-use Rattle.civl_phrases.specs.List.{joined, separated, enclosed}
-use Rattle.civl_phrases.specs.Leaf.{name_token}
+use Rattle.civl_tree.specs.Spelling.{open_paren, close_paren, open_brace, close_brace, semicolon, name_token, joined, separated}
+use Rattle.civl_phrases.specs.List.{enclosed}
 use Rattle.civl_phrases.specs.Table.{is_form}
 use Rattle.civl_phrases.specs.Phrase.{Any, AtEnd, IsReader, Heads, Image}
 use Rattle.civl_phrases.proofs.Joins.{both_is, mapped_is, image_is, refit_is, chosen_is, by_form_is}
@@ -28,7 +28,7 @@ use Rattle.civl_phrases.proofs.Lists.{repeated_is, bracketed_is, braced_is}
 use Rattle.civl_phrases.proofs.Heads.{heads_after, heads_leaf, heads_image, heads_refit, heads_either, heads_end}
 use Rattle.civl_phrases.proofs.Tables.{and_parts, and_join}
 use Rattle.civl_phrases.proofs.Leaves.{name_is}
-use Rattle.civl_phrases.specs.Example.{open_paren, close_paren, open_brace, close_brace, semicolon, bang, expr_step, spell_expr, stmt_step, spell_stmt, spell, expr_fits, all_true, stmt_fits, FitsExpr, FitsStmt, HasSpelling, not_at, expr_by, inner_expr, expr_at, stmt_form, stmt_next, commit_at, spawn_at, block_at, while_at, stmt_as, stmt_by, inner_stmt, stmt_at, text_at}
+use Rattle.civl_phrases.specs.Example.{bang, expr_step, spell_expr, stmt_step, spell_stmt, spell, expr_fits, all_true, stmt_fits, FitsExpr, FitsStmt, HasSpelling, not_at, expr_by, inner_expr, expr_at, stmt_form, stmt_next, commit_at, spawn_at, block_at, while_at, stmt_as, stmt_by, inner_stmt, stmt_at, text_at}
 
 -- ---- expressions
 

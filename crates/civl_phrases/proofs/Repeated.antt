@@ -7,7 +7,8 @@ use Rattle.civl_phrases.specs.declared.halt.Stop.{Stop}
 use Rattle.civl_phrases.specs.declared.halt.Halt.{Halt}
 use Rattle.civl_phrases.specs.declared.halt.Halt.TheVariants as halts
 use Rattle.civl_phrases.specs.Reader.{lookahead, Answer, Reader, ◌>>=◌, Fails, miss, done, both, mapped, chosen}
-use Rattle.civl_phrases.specs.List.{joined, repeated_by, repeated, front, cons}
+use Rattle.civl_tree.specs.Spelling.{joined}
+use Rattle.civl_phrases.specs.List.{repeated_by, repeated, front, cons}
 use Rattle.civl_phrases.specs.Phrase.{Any, Says, Again, IsReader, Heads, IsLoop}
 use Rattle.civl_phrases.proofs.Joins.{both_says, both_again, mapped_says, mapped_again, weaker_says, chosen_says, chosen_true, chosen_false}
 

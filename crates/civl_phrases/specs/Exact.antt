@@ -7,9 +7,9 @@ use Rattle.civl_phrases.specs.declared.halt.Stop.TheVariants.{NotHere, Deep}
 use Rattle.civl_phrases.specs.Bracket.{IsShallow}
 use Rattle.civl_phrases.specs.Reader.{lookahead, Answer}
 
--- These tokens begin the spelling of a value that has one.
-abbrev pub Begins : {A : Type 0} → (A → List Token) → (A → Type 0) → List Token → Type 0
-Begins {A} s f tokens = (a : A) × (more : List Token) × f a × (s a ≡ tokens ++ more)
+-- These tokens are a prefix of the spelling of a value that has one.
+abbrev pub IsPrefix : {A : Type 0} → (A → List Token) → (A → Type 0) → List Token → Type 0
+IsPrefix {A} s f tokens = (a : A) × (more : List Token) × f a × (s a ≡ tokens ++ more)
 
 -- The tokens spell a, and nowhere are more than d brackets unclosed.
 pub record IsRead {A : Type 0} (d : ℕ) (s : A → List Token) (f : A → Type 0) (tokens : List Token) (a : A) : Type 0 where
@@ -21,14 +21,14 @@ pub record IsRead {A : Type 0} (d : ℕ) (s : A → List Token) (f : A → Type 
 -- they alone.
 pub record IsNotHere {A : Type 0} (d : ℕ) (s : A → List Token) (f : A → Type 0) (tokens : List Token) (i : ℕ) : Type 0 where
   pub within : i ≤ length tokens
-  pub begun : Begins s f (take i tokens)
+  pub begun : IsPrefix s f (take i tokens)
   pub shallow : IsShallow d (take i tokens)
   pub stops : (a : A) (more : List Token) → f a → s a ≡ take i tokens ++ more → lookahead more ≡ lookahead (drop i tokens) → ⊥
 
 -- The tokens up to the one at the place i begin a spelling, and this one opens the first bracket too many.
 pub record IsDeep {A : Type 0} (d : ℕ) (s : A → List Token) (f : A → Type 0) (tokens : List Token) (i : ℕ) : Type 0 where
   pub within : i < length tokens
-  pub begun : Begins s f (take (i + 1) tokens)
+  pub begun : IsPrefix s f (take (i + 1) tokens)
   pub shallow : IsShallow d (take i tokens)
   pub deep : IsShallow d (take (i + 1) tokens) → ⊥
 

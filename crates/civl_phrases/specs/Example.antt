@@ -1,4 +1,5 @@
--- A small grammar, to show how one is written. Its values are some of the statements and expressions of the language:
+-- Serves private functions: a small grammar, to show how one is written. Its values are some of the statements and
+-- expressions of the language:
 --
 --     text = stmt*
 --     stmt = commit ; | spawn name ( list(expr) ) ; | while expr { stmt* }
@@ -6,6 +7,7 @@
 use Rattle.std.specs.Prelude.{◌≡◌, ℕ, zero, suc, ◌-◌, ◌&&◌, Bool, true, false, List, [], ◌∷◌, ◌++◌, map, codes, IsTrue, Option, Result, Ok, Err, ⊤}
 use Rattle.std.specs.List.{AllByRecursion}
 use Rattle.civl_tree.specs.Token.{Token, Reserved, Sign}
+use Rattle.civl_tree.specs.Spelling.{open_paren, close_paren, open_brace, close_brace, semicolon, name_token, joined, separated}
 use Rattle.civl_tree.specs.declared.expr.One.TheVariants as ones
 use Rattle.civl_tree.specs.declared.expr.Expr.{Expr}
 use Rattle.civl_tree.specs.declared.expr.Expr.TheVariants as expr
@@ -22,27 +24,12 @@ use Rattle.civl_phrases.specs.declared.halt.Halt.TheVariants as halts
 use Rattle.civl_phrases.specs.declared.example.StmtForm.{StmtForm}
 use Rattle.civl_phrases.specs.declared.example.StmtForm.TheVariants as forms
 use Rattle.civl_phrases.specs.Reader.{Reader, begins, after, opened, both, mapped, then_token, done, ended, chosen, by_form}
-use Rattle.civl_phrases.specs.List.{joined, separated, repeated, enclosed}
-use Rattle.civl_phrases.specs.Leaf.{name_token, a_name}
+use Rattle.civl_phrases.specs.List.{repeated, enclosed}
+use Rattle.civl_phrases.specs.Leaf.{a_name}
 use Rattle.civl_phrases.specs.Table.{form_in, is_form}
 use Rattle.civl_phrases.specs.Exact.{IsRight}
 
 -- ---- spellings
-
-abbrev pub open_paren : Token
-open_paren = Sign (codes "(")
-
-abbrev pub close_paren : Token
-close_paren = Sign (codes ")")
-
-abbrev pub open_brace : Token
-open_brace = Sign (codes "{")
-
-abbrev pub close_brace : Token
-close_brace = Sign (codes "}")
-
-abbrev pub semicolon : Token
-semicolon = Sign (codes ";")
 
 abbrev pub bang : Token
 bang = Sign (codes "!")

@@ -8,9 +8,6 @@ abbrev pub name_of : Token → Option Name
 name_of (Named bytes) = Some (record { bytes = bytes })
 name_of _ = None
 
-abbrev pub name_token : Name → Token
-name_token name = Named name.bytes
-
 -- a name is next
 abbrev pub is_named : Option Token → Bool
 is_named (Some (Named bytes)) = true

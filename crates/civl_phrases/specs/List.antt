@@ -1,21 +1,10 @@
--- Readers of lists and of optional parts, and how lists are spelled.
-use Rattle.std.specs.Prelude.{ℕ, zero, suc, Bool, if◌then◌else◌, List, [], ◌∷◌, ◌++◌, length, map, Option, Some, None, Ok, codes}
-use Rattle.civl_tree.specs.Token.{Token, Sign}
+-- Readers of lists and of optional parts, and how optional parts are spelled.
+use Rattle.std.specs.Prelude.{ℕ, zero, suc, Bool, List, [], ◌∷◌, ◌++◌, length, Option, Some, None, Ok}
+use Rattle.civl_tree.specs.Token.{Token}
+use Rattle.civl_tree.specs.Spelling.{comma, optional}
 use Rattle.civl_phrases.specs.Reader.{Answer, Reader, ◌>>=◌, miss, begins, after, both, mapped, then_token, chosen, done}
 
 -- ---- spellings
-
-abbrev pub joined : List (List Token) → List Token
-joined [] = []
-joined (spelling ∷ spellings) = spelling ++ joined spellings
-
-abbrev pub comma : Token
-comma = Sign (codes ",")
-
--- with a comma before each but the first
-abbrev pub separated : {A : Type 0} → (A → List Token) → List A → List Token
-separated s [] = []
-separated s (x ∷ xs) = s x ++ joined (map (λ y. comma ∷ s y) xs)
 
 -- nothing, or the value's spelling
 abbrev pub perhaps : {A : Type 0} → (A → List Token) → Option A → List Token
@@ -24,7 +13,7 @@ perhaps s (Some a) = s a
 
 -- the word or sign where it stands, and then the value's spelling
 abbrev pub flag_spelled : {A : Type 0} → Token → (A → List Token) → Bool × A → List Token
-flag_spelled token s p = if p.0 then token ∷ s p.1 else s p.1
+flag_spelled token s p = optional p.0 token (s p.1)
 
 -- ---- lists
 

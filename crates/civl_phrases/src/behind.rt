@@ -1,6 +1,6 @@
 // A phrase behind a comma.
+ghost use Rattle.civl_tree.specs.Spelling.{comma};
 ghost use Rattle.civl_phrases.specs.Reader.{after, begins};
-ghost use Rattle.civl_phrases.specs.List.{comma};
 
 use crate::halt::Halt;
 use crate::phrase::{Headed, Phrase};

@@ -13,7 +13,8 @@ use std::alloc::Global;
 ///
 /// # Errors
 ///
-/// `NotHere` exactly where another token is next, or none.
+/// - `NotHere` exactly where another token is next, or none.
+/// - `Memory` where memory is wanting.
 #[tactic(auto, unfolding(crate::specs::Leaf::a_name, crate::specs::Reader::leaf))]
 pub fn name<'t, 'a>(alloc: Global, tokens: &'t [Token<'a>]) -> Result<(Name, &'t [Token<'a>]), Halt>
     ensures { Gives (λ x. (x.0, spelled x.1.now)) result (a_name (spelled tokens.now)) }

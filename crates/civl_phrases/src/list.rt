@@ -57,7 +57,8 @@ fn more<'t, 'a, P: Headed>(
 ///
 /// # Errors
 ///
-/// Those of a phrase that begins and goes wrong.
+/// - Those of a phrase that begins and goes wrong.
+/// - `Memory` where memory is wanting.
 pub fn many<'t, 'a, P: Headed>(
     alloc: Global,
     phrase: &P,
@@ -93,6 +94,7 @@ fn one_or_more<'t, 'a, P: Phrase>(
 ///
 /// - Those of a phrase that goes wrong, also behind a comma.
 /// - `NotHere` where neither a comma nor the bracket stands behind a phrase.
+/// - `Memory` where memory is wanting.
 #[tactic(auto, unfolding(crate::specs::List::enclosed, crate::specs::Reader::chosen, crate::specs::Reader::then_token, crate::specs::Reader::mapped, crate::specs::Reader::both))]
 pub fn commas<'t, 'a, P: Phrase>(
     alloc: Global,
@@ -115,7 +117,8 @@ pub fn commas<'t, 'a, P: Phrase>(
 ///
 /// # Errors
 ///
-/// Those of a phrase that begins and goes wrong.
+/// - Those of a phrase that begins and goes wrong.
+/// - `Memory` where memory is wanting.
 #[tactic(auto, unfolding(crate::specs::List::option_of, crate::specs::Reader::chosen, crate::specs::Reader::mapped, crate::specs::Reader::done))]
 pub fn optional<'t, 'a, P: Headed>(
     alloc: Global,

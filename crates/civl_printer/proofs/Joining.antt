@@ -1,15 +1,15 @@
 -- The parts that are printed make the whole spelling.
-use Rattle.std.proofs.Common.{◌≡◌, Bool, true, false, cond, List, [], ◌∷◌, ◌++◌, map, append_assoc, refl, ap, ◌∙◌}
-use Rattle.std.specs.Prelude.{codes, ◌==◌}
+use Rattle.std.proofs.Common.{◌≡◌, Bool, true, false, cond, List, [], ◌∷◌, ◌++◌, append_assoc, refl, ap, ◌∙◌}
+use Rattle.std.specs.Prelude.{codes}
 use Rattle.civl_tree.specs.declared.action.Action.{Action}
 use Rattle.civl_tree.specs.declared.program.Global.{Global}
 use Rattle.civl_tree.specs.declared.program.Proc.{Proc}
 use Rattle.civl_tree.specs.declared.program.Program.{Program}
 use Rattle.civl_tree.specs.Token.{Token, Reserved}
-use Rattle.civl_tree.specs.Spelling.{semicolon, colon, arrow, name_token, joined, enclosed, spell_sort, spell_expr}
-use Rattle.civl_tree.specs.SpellingProgram.{mover_token, spell_param, spell_out, spell_choice, spell_rank_of, spell_global, spell_action, spell_proc, spell_program}
+use Rattle.civl_tree.specs.Spelling.{semicolon, colon, arrow, name_token, enclosed, spell_sort, spell_expr}
+use Rattle.civl_tree.specs.SpellingProgram.{mover_token, spell_param, spell_out, spell_rank_of, spell_global, spell_action, spell_proc, spell_program}
 use Rattle.civl_tree.specs.Raised.{raised}
-use Rattle.civl_printer.specs.Parts.{signature, choices_of, layers_of, conditions, updates_of, body_of, linear_of, header_number, header_of, items_of}
+use Rattle.civl_printer.specs.Parts.{signature, choices_of, layers_of, conditions, updates_of, body_of, linear_of, header_number, header_of, declarations_of}
 
 -- two phrases with a token between them, and what follows
 between : (xs ys zs : List Token) (token : Token) → (xs ++ (token ∷ ys)) ++ zs ≡ xs ++ (token ∷ (ys ++ zs))
@@ -44,10 +44,6 @@ global_tokens global =
     ap (λ ts. Reserved (codes "global") ∷ ts)
     (flagged global.linear (Reserved (codes "linear")) ((name_token global.name ∷ colon ∷ spell_sort global.sort) ++ (layers_of global.first global.last ++ semicolon ∷ [])))
 
-program_by : (program : Program) (b : Bool) → (program.version == 1) ≡ b → header_of program ++ items_of program ≡ spell_program (cond b (record program { version = 2 }) program)
-unfolding header_number header_of items_of
-program_by program true h = rw h refl
-program_by program false h = rw h refl
-
-pub program_tokens : (program : Program) → header_of program ++ items_of program ≡ spell_program (raised program)
-program_tokens program = program_by program (program.version == 1) refl
+pub program_tokens : (program : Program) → header_of program ++ declarations_of program ≡ spell_program (raised program)
+unfolding header_number header_of declarations_of
+program_tokens program = refl

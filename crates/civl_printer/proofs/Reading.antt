@@ -1,11 +1,10 @@
 -- Canonical texts have their tokens.
-use Rattle.std.proofs.Common.{◌≡◌, ℕ, ◌<◌, ◌^◌, Bool, true, false, cond, ◌&&◌, List, [], ◌∷◌, ◌++◌, map, refl, sym, ap, subst, ◌∙◌}
-use Rattle.std.specs.Prelude.{IsTrue, ◌==◌, ◌||◌}
-use Rattle.std.specs.List.{AllByRecursion, list_all, flat_map}
-use Rattle.std.specs.Str.{bytes_eq}
+use Rattle.std.proofs.Common.{◌≡◌, ℕ, ◌^◌, Bool, true, false, cond, List, [], ◌∷◌, ◌++◌, map, refl, ap, subst}
+use Rattle.std.specs.Prelude.{◌==◌}
+use Rattle.std.specs.List.{AllByRecursion, list_all}
 use Rattle.std.proofs.lemmas.Bool.{and_parts, ltb-true}
 use Rattle.civl_tree.specs.declared.program.Program.{Program}
-use Rattle.civl_tree.specs.Token.{Token, Named, Reserved, Sign, Number, text_of, IsToken}
+use Rattle.civl_tree.specs.Token.{Token, Named, Reserved, Sign, Number, IsToken}
 use Rattle.civl_tree.specs.SpellingProgram.{spell_program}
 use Rattle.civl_tree.specs.SpellingDomain.{HasSpelling}
 use Rattle.civl_tree.specs.SpellingLaws.{may_stand}
@@ -15,9 +14,10 @@ use Rattle.civl_tree.proofs.Raising.{raised_has_spelling}
 use Rattle.civl_tree.proofs.Standing.{tokens_may_stand}
 use Rattle.civl_lex.specs.Gap.{is_blank}
 use Rattle.civl_lex.specs.Laws.{AreSpaced, spaced, SpacedTokens}
+use Rattle.civl_lex.specs.Spells.{Spells}
 use Rattle.civl_lex.specs.Text.{HasTokens, Leads}
 use Rattle.civl_lex.proofs.Spaces.{spaced_right}
-use Rattle.civl_printer.specs.Laws.{has_32_bits, Spells, CanonicalTokens, ReadsBack, ReadsBackFromText}
+use Rattle.civl_printer.specs.Laws.{has_32_bits, CanonicalTokens, ReadsBack, ReadsBackFromText}
 
 -- the byte behind a token
 abbrev byte_behind : Token → ℕ
@@ -69,7 +69,7 @@ led_tokens (token ∷ tokens) bytes rest h = (h.1.longest.begins.is_token, led_t
 
 -- ---- the version that is printed
 
-raised_by : (program : Program) (b : Bool) → AllByRecursion IsToken (spell_program program) → AllByRecursion IsToken (spell_program (cond b (record program { version = 2 }) program))
+raised_by : (program : Program) (b : Bool) → AllByRecursion IsToken (spell_program program) → AllByRecursion IsToken (spell_program (record program { version = cond b 2 program.version }))
 raised_by program true h = (h.0, (ltb-true 2 (2 ^ 32) refl, h.1.1))
 raised_by program false h = h
 
@@ -78,13 +78,16 @@ raised_tokens program h = raised_by program (program.version == 1) h
 
 -- ---- what is printed spells the program
 
-spells : (program : Program) → HasSpelling program → AllByRecursion IsToken (spell_program program) → Spells (canonical_text (spell_program (raised program))) (raised program)
-spells program spelled tokens =
-    (spell_program (raised program), canonical_tokens spaced_right (spell_program (raised program)) (raised_tokens program tokens), (raised_has_spelling program spelled, refl))
+spells : (program : Program) → HasSpelling program → AllByRecursion IsToken (spell_program program) → Spells spell_program HasSpelling (canonical_text (spell_program (raised program))) (raised program)
+spells program spelled tokens = record {
+  tokens = spell_program (raised program);
+  has = canonical_tokens spaced_right (spell_program (raised program)) (raised_tokens program tokens);
+  spelled = (raised_has_spelling program spelled, refl);
+}
 
 pub again : ReadsBack
 again program spelled numbers = spells program spelled (are_tokens (spell_program program) (tokens_may_stand.0 program spelled) numbers)
 
 pub again_from_text : ReadsBackFromText
 again_from_text bytes program h =
-    spells program h.2.0 (subst (AllByRecursion IsToken) h.2.1 (led_tokens h.0 bytes h.1.0 h.1.1))
+    spells program h.spelled.0 (subst (AllByRecursion IsToken) h.spelled.1 (led_tokens h.tokens bytes h.has.0 h.has.1))

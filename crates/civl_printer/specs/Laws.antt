@@ -1,12 +1,13 @@
 -- That what is printed is read back.
-use Rattle.std.specs.Prelude.{ℕ, ◌<◌, ◌^◌, Bool, true, nat_lt, IsTrue, List}
+use Rattle.std.specs.Prelude.{ℕ, ◌^◌, Bool, true, nat_lt, IsTrue, List}
 use Rattle.std.specs.List.{AllByRecursion, list_all}
 use Rattle.civl_tree.specs.declared.program.Program.{Program}
 use Rattle.civl_tree.specs.Token.{Token, Named, Reserved, Sign, Number, IsToken}
 use Rattle.civl_tree.specs.SpellingProgram.{spell_program}
-use Rattle.civl_tree.specs.SpellingDomain.{HasSpelling, IsSpelledBy}
+use Rattle.civl_tree.specs.SpellingDomain.{HasSpelling}
 use Rattle.civl_tree.specs.SpellingText.{canonical_text}
 use Rattle.civl_tree.specs.Raised.{raised}
+use Rattle.civl_lex.specs.Spells.{Spells}
 use Rattle.civl_lex.specs.Text.{HasTokens}
 
 -- Tokens that may stand in a text are the tokens of their canonical text: each is the longest that begins at its place.
@@ -24,18 +25,14 @@ has_32_bits (Number value) = nat_lt value (2 ^ 32)
 abbrev pub HasNumbersOf32Bits : Program → Type 0
 HasNumbersOf32Bits program = IsTrue (list_all has_32_bits (spell_program program))
 
--- The bytes spell the program: they have tokens, and these are its spelling.
-abbrev pub Spells : List ℕ → Program → Type 0
-Spells bytes program = (tokens : List Token) × HasTokens bytes tokens × IsSpelledBy tokens program
-
 -- Where a program has a spelling, its canonical text spells it, with version 2 in place of version 1.
 abbrev pub ReadsBack : Type 0
 ReadsBack =
     (program : Program) → HasSpelling program → HasNumbersOf32Bits program
-    → Spells (canonical_text (spell_program (raised program))) (raised program)
+    → Spells spell_program HasSpelling (canonical_text (spell_program (raised program))) (raised program)
 
 -- Where a text spells a program, the program's canonical text spells it again, with version 2 in place of version 1.
 abbrev pub ReadsBackFromText : Type 0
 ReadsBackFromText =
-    (bytes : List ℕ) (program : Program) → Spells bytes program
-    → Spells (canonical_text (spell_program (raised program))) (raised program)
+    (bytes : List ℕ) (program : Program) → Spells spell_program HasSpelling bytes program
+    → Spells spell_program HasSpelling (canonical_text (spell_program (raised program))) (raised program)

@@ -1,6 +1,6 @@
--- Parts of phrases that are printed by functions of their own. Each is a part of the spelling of civl_tree, and no more:
--- that these parts make the whole spelling is proved. They stay folded in the clauses of private functions.
-use Rattle.std.specs.Prelude.{ℕ, Bool, if◌then◌else◌, ◌==◌, List, [], ◌∷◌, ◌++◌, map, codes}
+-- Serves private functions: parts of phrases that are printed by functions of their own. Each is a part of the spelling
+-- of civl_tree, and no more: that these parts make the whole spelling is proved. They stay folded in clauses.
+use Rattle.std.specs.Prelude.{ℕ, Bool, List, [], ◌∷◌, ◌++◌, map, codes}
 use Rattle.civl_tree.specs.declared.name.Name.{Name}
 use Rattle.civl_tree.specs.declared.expr.Expr.{Expr}
 use Rattle.civl_tree.specs.declared.stmt.Stmt.{Stmt}
@@ -10,7 +10,8 @@ use Rattle.civl_tree.specs.declared.action.Update.{Update}
 use Rattle.civl_tree.specs.declared.program.Local.{Local}
 use Rattle.civl_tree.specs.declared.program.Program.{Program}
 use Rattle.civl_tree.specs.Token.{Token, Reserved, Number}
-use Rattle.civl_tree.specs.Spelling.{semicolon, arrow, name_token, joined, enclosed, block, open_brace, close_brace, spell_expr}
+use Rattle.civl_tree.specs.Spelling.{semicolon, arrow, name_token, joined, enclosed, block, optional, open_brace, close_brace, spell_expr}
+use Rattle.civl_tree.specs.Raised.{raised_version}
 use Rattle.civl_tree.specs.SpellingStmt.{spell_stmt}
 use Rattle.civl_tree.specs.SpellingProgram.{spell_global, spell_init, spell_invariant, spell_param, spell_out, spell_choice, spell_update, spell_action, spell_local, spell_proc, spell_thread}
 
@@ -34,21 +35,13 @@ conditions gate guard = Reserved (codes "gate") ∷ spell_expr gate ++ (Reserved
 unfoldable pub updates_of : List Update → List Token
 updates_of updates = block (map spell_update updates)
 
--- linear or var
-abbrev pub kind_token : Bool → Token
-kind_token linear = if linear then Reserved (codes "linear") else Reserved (codes "var")
-
 -- { local* stmt* }
 unfoldable pub body_of : List Local → List Stmt → List Token
 body_of locals body = open_brace ∷ joined (map spell_local locals) ++ (joined (map spell_stmt body) ++ close_brace ∷ [])
 
 -- [linear]
 abbrev pub linear_of : Bool → List Token
-linear_of linear = if linear then Reserved (codes "linear") ∷ [] else []
-
--- the version in which a program of this version is printed
-abbrev pub raised_version : ℕ → ℕ
-raised_version version = if version == 1 then 2 else version
+linear_of linear = optional linear (Reserved (codes "linear")) []
 
 -- a word of the header, and then number ;
 unfoldable pub header_number : List ℕ → ℕ → List Token
@@ -61,8 +54,8 @@ header_of program =
     ++ (header_number (codes "layers") program.layers ++ header_number (codes "permissions") program.permissions)
 
 -- global* init invariant* action* proc* thread*
-unfoldable pub items_of : Program → List Token
-items_of program =
+unfoldable pub declarations_of : Program → List Token
+declarations_of program =
     joined (map spell_global program.globals)
     ++ (spell_init program.init
     ++ (joined (map spell_invariant program.invariants)

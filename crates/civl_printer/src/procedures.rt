@@ -1,8 +1,8 @@
 // Procedures.
 ghost use Rattle.std.specs.Prelude.{◌≡◌, ◌++◌, OnOk, Some};
-ghost use Rattle.civl_tree.specs.SpellingProgram.{spell_rank_of, spell_local, spell_proc};
+ghost use Rattle.civl_tree.specs.SpellingProgram.{local_token, spell_rank_of, spell_local, spell_proc};
 ghost use Rattle.civl_printer.specs.Written.{written, written_token};
-ghost use Rattle.civl_printer.specs.Parts.{kind_token, body_of};
+ghost use Rattle.civl_printer.specs.Parts.{body_of};
 
 use crate::actions::{put_signature, put_typed};
 use crate::phrases::{Phrase, put_each, put_list};
@@ -43,7 +43,7 @@ fn put_rank_of(out: &mut Vec<u8>, refines: &Option<Refines>) -> Result<(), Memor
 
 /// `linear | var`
 fn put_kind(out: &mut Vec<u8>, linear: bool) -> Result<(), Memory>
-    ensures { OnOk result (out.new.items ≡ out.old.items ++ written_token (kind_token linear)) }
+    ensures { OnOk result (out.new.items ≡ out.old.items ++ written_token (local_token linear)) }
 {
     if linear {
         put_word(out, b"linear")

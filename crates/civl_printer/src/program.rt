@@ -1,10 +1,10 @@
 // Programs.
 ghost use Rattle.std.specs.Prelude.{◌≡◌, ◌++◌, OnOk, IfOk};
-ghost use Rattle.civl_tree.specs.Raised.{raised};
+ghost use Rattle.civl_tree.specs.Raised.{raised, raised_version};
 ghost use Rattle.civl_tree.specs.SpellingProgram.{spell_program};
 ghost use Rattle.civl_tree.specs.SpellingText.{canonical_text};
 ghost use Rattle.civl_printer.specs.Written.{written};
-ghost use Rattle.civl_printer.specs.Parts.{raised_version, header_number, header_of, items_of};
+ghost use Rattle.civl_printer.specs.Parts.{header_number, header_of, declarations_of};
 
 use crate::declarations::put_init;
 use crate::phrases::put_each;
@@ -42,9 +42,9 @@ fn put_header(out: &mut Vec<u8>, program: &Program) -> Result<(), Memory>
 }
 
 /// `global* init invariant* action* proc* thread*`
-#[tactic(auto, using(crate::proofs::Writing::joins), unfolding(crate::specs::Parts::items_of))]
-fn put_items(out: &mut Vec<u8>, program: &Program) -> Result<(), Memory>
-    ensures { OnOk result (out.new.items ≡ out.old.items ++ written (items_of program.now)) }
+#[tactic(auto, using(crate::proofs::Writing::joins), unfolding(crate::specs::Parts::declarations_of))]
+fn put_declarations(out: &mut Vec<u8>, program: &Program) -> Result<(), Memory>
+    ensures { OnOk result (out.new.items ≡ out.old.items ++ written (declarations_of program.now)) }
 {
     put_each(out, &program.globals)?;
     put_init(out, &program.init)?;
@@ -59,7 +59,7 @@ fn put_program(out: &mut Vec<u8>, program: &Program) -> Result<(), Memory>
     ensures { OnOk result (out.new.items ≡ out.old.items ++ written (spell_program (raised program.now))) }
 {
     put_header(out, program)?;
-    put_items(out, program)?;
+    put_declarations(out, program)?;
     Ok(())
 }
 

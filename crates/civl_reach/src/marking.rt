@@ -34,6 +34,10 @@ fn mark_parts(marks: &mut [bool], node: &Node)
 /// The marks of the nodes that a term reaches, up to the term.
 ///
 /// Goes down from the term. Each part has a smaller number, so a node is marked before its turn comes.
+///
+/// # Errors
+///
+/// For want of memory.
 pub fn marks(alloc: Global, terms: &Terms, id: Id) -> Result<Vec<bool>, Memory>
     requires { id < length terms.now }
     ensures { IfOk result (λ marks. IsMarking terms.now id 0 marks.items) }

@@ -6,7 +6,7 @@ use Rattle.std.proofs.Math.Nat.{pow-suc, mul_comm}
 use Rattle.civl_bits.specs.Word.{IsWord}
 use Rattle.civl_tree.specs.declared.expr.Sort.{Sort}
 use Rattle.civl_tree.specs.declared.expr.Sort.TheVariants as sort
-use Rattle.civl_values.specs.Operators.{is_width, is_index}
+use Rattle.civl_tree.specs.rules.Exprs.{is_width, is_index}
 use Rattle.civl_values.specs.Values.{is_sort}
 use Rattle.civl_values.specs.Weights.{bits_in}
 use Rattle.civl_rows.specs.Cells.{cells_in, cell_sort}

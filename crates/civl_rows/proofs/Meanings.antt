@@ -15,7 +15,8 @@ use Rattle.civl_tree.specs.declared.expr.Sort.{Sort}
 use Rattle.civl_tree.specs.declared.expr.Sort.TheVariants as sort
 use Rattle.civl_tree.specs.declared.expr.Two.{Two}
 use Rattle.civl_tree.specs.declared.expr.Two.TheVariants.{Eq, Ne, And, Or}
-use Rattle.civl_values.specs.Operators.{nothing, is_index, two_value, pick_value, get_value, set_value, fill_value}
+use Rattle.civl_values.specs.Operators.{nothing, two_value, pick_value, get_value, set_value, fill_value}
+use Rattle.civl_tree.specs.rules.Exprs.{is_index}
 use Rattle.civl_values.specs.Values.{HasSort}
 use Rattle.civl_values.proofs.Sorting.{bool_of, word_of, row_of}
 use Rattle.civl_reach.specs.Reaching.{is_plain}

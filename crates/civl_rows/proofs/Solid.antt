@@ -7,7 +7,7 @@ use Rattle.civl_terms.specs.Graphs.{sorts, sort_at}
 use Rattle.civl_terms.specs.Weights.{is_part, node_weight, weight_in, own_weight}
 use Rattle.civl_terms.specs.Building.{Grows}
 use Rattle.civl_reach.specs.Reaching.{is_plain}
-use Rattle.civl_rows.specs.Making.{Has, AllIn, Covers, IsSolid, set_weight, Adds}
+use Rattle.civl_rows.specs.Making.{Has, AllIn, Covers, IsSolid, nodes_weight, Adds}
 use Rattle.civl_rows.proofs.Growth.{node_stays, own_weight_stays, parts_from, same_node}
 
 pub all_covered : (s t xs : List ℕ) → Covers s t → AllIn s xs → AllIn t xs
@@ -30,7 +30,7 @@ solid_grown {old} {new} {s} g h = record {
   plain = λ i y. ap is_plain (g.sorts i (h.within i y)) ∙ h.plain i y;
 }
 
-weights_stay : (old new : List Node) (s xs : List ℕ) → Grows old new → IsSolid old s → Covers xs s → set_weight new xs ≡ set_weight old xs
+weights_stay : (old new : List Node) (s xs : List ℕ) → Grows old new → IsSolid old s → Covers xs s → nodes_weight new xs ≡ nodes_weight old xs
 weights_stay old new s [] g h c = refl
 weights_stay old new s (x ∷ xs) g h c =
     let y = c x (inl refl) in
@@ -38,13 +38,13 @@ weights_stay old new s (x ∷ xs) g h c =
     let rest = weights_stay old new s xs g h (λ i z. c i (inr z)) in
     omega (arith, own, rest)
 
-pub set_weight_stays : {old new : List Node} {s : List ℕ} → Grows old new → IsSolid old s → set_weight new s ≡ set_weight old s
-set_weight_stays {old} {new} {s} g h = weights_stay old new s s g h (λ i y. y)
+pub nodes_weight_stays : {old new : List Node} {s : List ℕ} → Grows old new → IsSolid old s → nodes_weight new s ≡ nodes_weight old s
+nodes_weight_stays {old} {new} {s} g h = weights_stay old new s s g h (λ i y. y)
 
 -- nothing is added
 pub adds_none : {old new : List Node} (Uses : List ℕ → Type 0) (made : List ℕ) (cost : ℕ) → Grows old new → ((s : List ℕ) → Uses s → AllIn s made) → Adds old new Uses made cost
 adds_none {old} {new} Uses made cost g h = record {
-  set = λ s solid u. (s, record { solid = solid_grown g solid; covers = λ i y. y; all = h s u; weighs = omega (arith, set_weight_stays g solid) });
+  set = λ s solid u. (s, record { solid = solid_grown g solid; covers = λ i y. y; all = h s u; weighs = omega (arith, nodes_weight_stays g solid) });
 }
 
 -- a node is added, whose parts are there
@@ -68,7 +68,7 @@ adds_node {old} {new} Uses id cost n g e plain parts light = record {
           };
           covers = λ i y. inr y;
           all = (inl refl, tt);
-          weighs = omega (arith, own, light, set_weight_stays g solid);
+          weighs = omega (arith, own, light, nodes_weight_stays g solid);
         },
       );
 }

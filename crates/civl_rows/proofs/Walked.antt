@@ -7,7 +7,8 @@ use Rattle.std.proofs.lemmas.Option.{slice_get-get_or}
 use Rattle.std.proofs.lemmas.List.{get_or_append_left, get_or_push, length_push}
 use Rattle.civl_bits.specs.declared.value.Value.{Value}
 use Rattle.civl_tree.specs.declared.expr.Sort.TheVariants as sort
-use Rattle.civl_values.specs.Operators.{nothing, is_index, is_width}
+use Rattle.civl_values.specs.Operators.{nothing}
+use Rattle.civl_tree.specs.rules.Exprs.{is_index, is_width}
 use Rattle.civl_values.specs.Values.{is_sort}
 use Rattle.civl_terms.specs.declared.node.Node.{Node}
 use Rattle.civl_terms.specs.declared.node.Node.TheVariants.{Constant}
@@ -17,7 +18,7 @@ use Rattle.civl_terms.specs.Building.{Grows}
 use Rattle.civl_reach.specs.Reaching.{Reaches, is_plain, IsRowless}
 use Rattle.civl_rows.specs.Cells.{cell_of, cells_in, cell_sort, next_number, Reads, HasEntries}
 use Rattle.civl_reach.specs.Marks.{marked, weight_from, IsMarking}
-use Rattle.civl_rows.specs.Making.{Has, AllIn, IsSolid, set_weight, HasShape, HasCells, PartsShaped, cells_at}
+use Rattle.civl_rows.specs.Making.{Has, AllIn, IsSolid, nodes_weight, HasShape, HasCells, PartsShaped, cells_at}
 use Rattle.civl_rows.specs.Expanding.{Steps, entries_of}
 use Rattle.civl_rows.specs.declared.flat.Cell.{Cell}
 use Rattle.civl_reach.proofs.Marked.{weight-more, part_is_below}
@@ -52,7 +53,7 @@ pub record Flattening (source ns : List Node) (id : ℕ) (marks : List Bool) (ce
   pub set : List ℕ
   pub solid : IsSolid ns set
   pub all : (i : ℕ) → i < at → IsTrue (marked marks i) → AllIn set (cells_at table i)
-  pub weighs : set_weight ns set + 2 * weight_from source marks at (id + 1 - at) ≤ 2 * weight_from source marks 0 (id + 1)
+  pub weighs : nodes_weight ns set + 2 * weight_from source marks at (id + 1 - at) ≤ 2 * weight_from source marks 0 (id + 1)
   pub few : length cells + weight_from source marks at (id + 1 - at) ≤ weight_from source marks 0 (id + 1)
   pub entries : EntriesTo source marks at cells
 
@@ -248,7 +249,7 @@ below_one ns [] i h = absurd h
 below_one ns (x ∷ xs) i (inl e) = omega (arith, below_more ns xs i, if-false (ltb x i) (own_weight ns x) 0 (le-ltb x i (omega arith)), if-true (ltb x (i + 1)) (own_weight ns x) 0 (lt-ltb x (i + 1) (omega arith)), ap (own_weight ns) e)
 below_one ns (x ∷ xs) i (inr h) = omega (arith, below_one ns xs i h, part_more x i (own_weight ns x))
 
-below_all : (ns : List Node) (set : List ℕ) (n : ℕ) → below_weight ns set n ≤ set_weight ns set
+below_all : (ns : List Node) (set : List ℕ) (n : ℕ) → below_weight ns set n ≤ nodes_weight ns set
 below_all ns [] n = omega arith
 below_all ns (x ∷ xs) n = elim (cases_Bool (ltb x n)) [
   | inl y ↦ omega (arith, below_all ns xs n, if-true (ltb x n) (own_weight ns x) 0 y)
@@ -270,7 +271,7 @@ reached_at_most ns set s (suc i) wanted h = elim (cases_Bool (wanted i)) [
   next : below_weight ns set (i + 1) ≡ below_weight ns set (suc i)
   next = ap (below_weight ns set) (add-one i)
 
-pub term_at_most : {ns : List Node} {set : List ℕ} (id : ℕ) → IsSolid ns set → Has set id → term_weight ns id ≤ set_weight ns set
+pub term_at_most : {ns : List Node} {set : List ℕ} (id : ℕ) → IsSolid ns set → Has set id → term_weight ns id ≤ nodes_weight ns set
 unfolding term_weight
 term_at_most {ns} {set} id s h =
     let P : ℕ → Type 0 = λ i. Has set i in

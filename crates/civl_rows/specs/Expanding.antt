@@ -1,4 +1,4 @@
--- The variables that stand for the cells of a row.
+-- For private functions alone: the variables that stand for the cells of a row.
 use Rattle.std.specs.Prelude.{◌≡◌, ℕ, zero, suc, ◌+◌, ◌*◌, ◌^◌, Bool, true, false, List, [], ◌∷◌, ◌++◌, length, Some}
 use Rattle.civl_bits.specs.declared.value.Value.{Value}
 use Rattle.civl_tree.specs.declared.expr.Sort.TheVariants as sort

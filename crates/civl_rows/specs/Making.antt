@@ -1,5 +1,5 @@
--- What building terms without rows does to a graph: what is reached together, what it weighs, and that the cells of a node
--- are made from those of its parts.
+-- For private functions alone: what building terms without rows does to a graph: what is reached together, what it weighs,
+-- and that the cells of a node are made from those of its parts.
 use Rattle.std.specs.Prelude.{◌≡◌, ◌⊎◌, ℕ, zero, suc, ◌+◌, ◌*◌, ◌<◌, ◌≤◌, Bool, true, false, List, [], ◌∷◌, length, get_or, slice_get, Option, Some, IsTrue}
 use Rattle.civl_bits.specs.declared.value.Value.{Value}
 use Rattle.civl_bits.specs.declared.value.Value.TheVariants as value
@@ -36,16 +36,17 @@ pub record IsSolid (ns : List Node) (set : List ℕ) : Type 0 where
   pub closed : (i k : ℕ) (n : Node) → Has set i → slice_get ns i ≡ Some n → IsTrue (is_part n k) → Has set k
   pub plain : (i : ℕ) → Has set i → IsTrue (is_plain (sort_at ns i))
 
-abbrev pub set_weight : List Node → List ℕ → ℕ
-set_weight ns [] = 0
-set_weight ns (x ∷ xs) = own_weight ns x + set_weight ns xs
+-- the own weights of these nodes together
+abbrev pub nodes_weight : List Node → List ℕ → ℕ
+nodes_weight ns [] = 0
+nodes_weight ns (x ∷ xs) = own_weight ns x + nodes_weight ns xs
 
 -- a set grew by these nodes and what they reach, at this cost
 pub record IsExtended (old new : List Node) (set more made : List ℕ) (cost : ℕ) : Type 0 where
   pub solid : IsSolid new more
   pub covers : Covers set more
   pub all : AllIn more made
-  pub weighs : set_weight new more ≤ set_weight old set + cost
+  pub weighs : nodes_weight new more ≤ nodes_weight old set + cost
 
 -- any set of which this holds can grow so
 pub record Adds (old new : List Node) (Uses : List ℕ → Type 0) (made : List ℕ) (cost : ℕ) : Type 0 where

@@ -20,7 +20,7 @@ use Rattle.civl_tree.specs.SpellingDomain.{IsSpelledBy, ScriptIsSpelledBy}
 use Rattle.civl_tree.proofs.Numbers.{sizes_more}
 use Rattle.civl_lex.specs.Text.{Leads, HasTokens}
 use Rattle.civl_lex.proofs.Spellings.{text_some}
-use Rattle.civl_types.specs.Numbered.{IsNumbered}
+use Rattle.civl_tree.specs.Numbered.{IsNumbered}
 
 -- ---- tokens and bytes
 

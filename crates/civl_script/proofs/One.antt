@@ -37,7 +37,7 @@ pub numbers_of : (width : ℕ) (cells : List ℕ) → numbers_in (cells_of width
 numbers_of width [] = refl
 numbers_of width (x ∷ xs) = ap (λ ys. x ∷ ys) (numbers_of width xs)
 
-width_of : (width : ℕ) (cells : List ℕ) → 0 < length cells → width_in (cells_of width cells) ≡ width
+pub width_of : (width : ℕ) (cells : List ℕ) → 0 < length cells → width_in (cells_of width cells) ≡ width
 width_of width [] h = absurd (omega (arith, h))
 width_of width (x ∷ xs) h = refl
 
@@ -48,13 +48,13 @@ same_rows r s i w c =
     ap (λ n. record { index = n; width = r.width; cells = r.cells }) i
     ∙ (ap (λ n. record { index = s.index; width = n; cells = r.cells }) w ∙ ap (λ xs. record { index = s.index; width = s.width; cells = xs }) c)
 
-some : (r : Cells) → IsRow r → 0 < length r.cells
-some r h = let is = is_size r.index h.low h.high in let size = h.size in omega (arith, is, size)
+pub some_cells : (r : Cells) → IsRow r → 0 < length r.cells
+some_cells r h = let is = is_size r.index h.low h.high in let size = h.size in omega (arith, is, size)
 
 one_row : (r s : Cells) → IsRow r → IsRow s → cells_of r.width r.cells ≡ cells_of s.width s.cells → r ≡ s
 one_row r s h k same =
     let cells : r.cells ≡ s.cells = sym (numbers_of r.width r.cells) ∙ ap numbers_in same ∙ numbers_of s.width s.cells in
-    let width : r.width ≡ s.width = sym (width_of r.width r.cells (some r h)) ∙ ap width_in same ∙ width_of s.width s.cells (some s k) in
+    let width : r.width ≡ s.width = sym (width_of r.width r.cells (some_cells r h)) ∙ ap width_in same ∙ width_of s.width s.cells (some_cells s k) in
     let index : r.index ≡ s.index = one_power r.index s.index (sym h.size ∙ ap length cells ∙ k.size) in
     same_rows r s index width cells
 

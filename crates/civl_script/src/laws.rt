@@ -1,10 +1,16 @@
 // Laws of the definitions, each the contract of a function that does nothing.
-ghost use Rattle.civl_script.specs.Laws.{OneValue, TextsAreNumbered, ScriptsAreNumbered, ScriptsAreCounted};
+ghost use Rattle.civl_script.specs.Laws.{OneValue, OneSchedule, SchedulesExist, TextsAreNumbered, ScriptsAreNumbered, ScriptsAreCounted};
 ghost use Rattle.civl_script.specs.Examples.{Written, Said};
 
 /// An entry writes at most one value.
 pub fn one_value()
     ensures { OneValue }
+{}
+
+/// A script says one schedule: the store and the moves, or the number of what first doesn't fit.
+pub fn one_schedule()
+    ensures most { OneSchedule }
+    ensures some { SchedulesExist }
 {}
 
 /// What some entries write.

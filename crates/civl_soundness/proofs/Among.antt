@@ -4,9 +4,9 @@ use Rattle.std.specs.Prelude.{nat_lt, nat_eq, if◌then◌else◌}
 use Rattle.civl_tree.specs.declared.stmt.Stmt.{Stmt, roll-Stmt, out-roll-Stmt, map-Stmt}
 use Rattle.civl_tree.specs.declared.stmt.Stmt.TheOpen.{Stmt-F, If, While, YieldLoop, RankLoop}
 use Rattle.civl_tree.specs.declared.stmt.Stmt.TheFolds.{ind-Stmt}
-use Rattle.civl_tree.specs.Numbering.{inner_of, statements_of}
+use Rattle.civl_tree.specs.Numbering.{inner_of, statements_of, size_of, sizes_of}
 use Rattle.civl_tree.proofs.Preorder.{inner_layer, inner_is}
-use Rattle.civl_meaning.specs.Places.{Spot, size_of, sizes_of, is_skipped, skip_layer, start_of, first_in, spot_among, spot_at, inside_of, loop_spot}
+use Rattle.civl_meaning.specs.Places.{Spot, is_skipped, skip_layer, start_of, first_in, spot_among, spot_at, inside_of, loop_spot}
 use Rattle.civl_meaning.proofs.Placing.{inside_is, inside_layer}
 use Rattle.civl_meaning.proofs.Finding.{among_is}
 

@@ -8,23 +8,18 @@ use Rattle.civl_tree.specs.declared.action.Param.{Param}
 use Rattle.civl_tree.specs.declared.program.Proc.{Proc}
 use Rattle.civl_tree.specs.declared.program.Refines.{Refines}
 use Rattle.civl_tree.specs.declared.program.Program.{Program}
-use Rattle.civl_tree.specs.rules.Names.{Signature, action_named as first_action, proc_named, action_signature, proc_signature, proc_signature_of, first_signature, callee_signature}
+use Rattle.civl_tree.specs.rules.Names.{Signature, action_named, proc_named, action_signature, proc_signature, proc_signature_of, first_signature, callee_signature}
 use Rattle.civl_tree.specs.rules.Signature.{same_mode, same_params, signature_differs, refined_differs}
 use Rattle.civl_tree.specs.rules.Sorts.{same_sort}
 use Rattle.civl_tree.specs.rules.Uses.{param_sorts}
 use Rattle.civl_values.proofs.Sorting.{both, same_sort-true}
 use Rattle.civl_meaning.specs.declared.config.Plain.{Plain}
 use Rattle.civl_firing.specs.Truth.{place_of}
-use Rattle.civl_meaning.specs.Meaning.{Meaning, Does, Runs, Missing, action_named, proc_number, meaning_of_action, refined, meaning_by, meaning_of, meaning_else, called}
+use Rattle.civl_meaning.specs.Meaning.{Meaning, Does, Runs, Missing, proc_number, meaning_of_action, refined, meaning_by, meaning_of, meaning_else, called}
 use Rattle.civl_meaning.specs.Config.{IsPlain}
 use Rattle.civl_firing.proofs.Finding.{found_at}
 use Rattle.civl_meaning.proofs.Begun.{proc_is}
 use Rattle.civl_soundness.proofs.Kept.{signature_kept}
-
--- ---- the action of a name
-
-pub action_is : (program : Program) (name : Name) → action_named program name ≡ first_action program name
-action_is program name = found_at (λ (a : Action). a.name) program.actions name
 
 -- ---- signatures
 
@@ -55,11 +50,11 @@ module _ (plain : Plain) (ok : IsPlain plain) where
       by_action r None e h = tt
       by_action r (Some action) e h =
           let same = both (same_params proc.params action.params) (same_params proc.outs action.outs) (not-false _ h) in
-          (place_of (map (λ a. a.name) program.actions) r.action, e, sym (same_sorts proc.params action.params same.0), sym (same_sorts proc.outs action.outs same.1))
+          (place_of (map (λ a. a.name) program.actions) r.action, found_at (λ (a : Action). a.name) program.actions r.action ∙ e, sym (same_sorts proc.params action.params same.0), sym (same_sorts proc.outs action.outs same.1))
 
       by_refines : (o : Option Refines) → refined_differs program proc o ≡ false → Serves program (param_sorts proc.params) (param_sorts proc.outs) (refined program o)
       by_refines None h = tt
-      by_refines (Some r) h = by_action r (action_named program r.action) refl (ap (signature_differs proc) (action_is program r.action) ∙ h)
+      by_refines (Some r) h = by_action r (action_named program r.action) refl h
 
   -- a procedure's meaning
   pub number_serves : (k : ℕ) (proc : Proc) → slice_get program.procs k ≡ Some proc → Serves program (param_sorts proc.params) (param_sorts proc.outs) (meaning_of plain k)
@@ -83,8 +78,8 @@ module _ (plain : Plain) (ok : IsPlain plain) where
 
       by_action : (o : Option Action) → action_named program name ≡ o → Serves program (param_sorts signature.params) (param_sorts signature.outs) (meaning_else plain name o)
       by_action None q =
-          by_proc (proc_named program name) refl (ap (λ (o : Option Action). first_signature o (proc_named program name)) (sym q ∙ action_is program name) ∙ e)
+          by_proc (proc_named program name) refl (ap (λ (o : Option Action). first_signature o (proc_named program name)) (sym q) ∙ e)
       by_action (Some action) q =
-          let s : Some (action_signature action) ≡ Some signature = ap (λ (o : Option Action). first_signature o (proc_named program name)) (sym q ∙ action_is program name) ∙ e in
+          let s : Some (action_signature action) ≡ Some signature = ap (λ (o : Option Action). first_signature o (proc_named program name)) (sym q) ∙ e in
           let r : action_signature action ≡ signature = cc in
-          (place_of (map (λ a. a.name) program.actions) name, q, ap (λ (x : Signature). param_sorts x.params) r, ap (λ (x : Signature). param_sorts x.outs) r)
+          (place_of (map (λ a. a.name) program.actions) name, found_at (λ (a : Action). a.name) program.actions name ∙ q, ap (λ (x : Signature). param_sorts x.params) r, ap (λ (x : Signature). param_sorts x.outs) r)

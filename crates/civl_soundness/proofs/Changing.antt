@@ -17,15 +17,16 @@ use Rattle.civl_tree.specs.declared.program.Thread.{Thread}
 use Rattle.civl_tree.specs.declared.stmt.Stmt.{Stmt, out-Stmt}
 use Rattle.civl_tree.specs.declared.stmt.Stmt.TheOpen.{Stmt-F, Assign, Assert, If, While, YieldLoop, RankLoop, Call, Yield, Commit, Intro, Spawn}
 use Rattle.civl_tree.specs.Numbering.{statements_of}
-use Rattle.civl_tree.specs.rules.Names.{Signature, callee_signature, proc_named, proc_signature_of}
+use Rattle.civl_tree.specs.rules.Names.{Signature, callee_signature, proc_named, proc_signature_of, names_in_proc}
 use Rattle.civl_tree.specs.rules.Scopes.{Scope as Sorts, bind_proc, body_scope}
-use Rattle.civl_tree.specs.rules.Uses.{Only, serves, param_sorts, taken_sorts, given_sorts, place_sort, argument_uses, layer_uses}
-use Rattle.civl_tree.specs.rules.Sorted.{any_missorted, results_missorted, layer_missorted}
+use Rattle.civl_tree.specs.rules.Uses.{Only, serves, param_sorts, taken_sorts, given_sorts, place_sort, argument_uses, form_uses, stmt_uses}
+use Rattle.civl_tree.specs.rules.Sorted.{any_missorted, results_missorted, form_missorted, stmt_missorted}
 use Rattle.civl_tree.specs.rules.Width.{any_width}
 use Rattle.civl_tree.specs.rules.Index.{any_index}
-use Rattle.civl_tree.specs.rules.Unknown.{any_unknown, place_unknown, layer_unknown}
-use Rattle.civl_tree.specs.rules.Arity.{call_arity, thread_arity, layer_arity}
-use Rattle.civl_tree.specs.rules.Places.{E11, E20, E21, E22, E23, stmt_breaks}
+use Rattle.civl_tree.specs.rules.Unknown.{any_unknown, place_unknown, form_unknown, stmt_unknown}
+use Rattle.civl_tree.specs.rules.Arity.{call_arity, thread_arity, form_arity, stmt_arity}
+use Rattle.civl_tree.specs.rules.Typing.{typing_rules, unknown_rule, width_rule, sort_rule, index_rule, arity_rule}
+use Rattle.civl_tree.proofs.Kept.{statement_kept, unknown_among, width_among, sort_among, index_among, arity_among}
 use Rattle.civl_values.specs.Values.{is_true, HasSort, HaveSorts}
 use Rattle.civl_firing.specs.declared.store.Store.{Store}
 use Rattle.civl_meaning.specs.declared.config.Plain.{Plain}
@@ -42,7 +43,7 @@ use Rattle.civl_firing.specs.Truth.{place_of}
 use Rattle.civl_firing.specs.Eval.{value_of, values_of}
 use Rattle.civl_firing.specs.Stores.{IsStore}
 use Rattle.civl_firing.specs.Sorts.{IsSorted}
-use Rattle.civl_firing.specs.Scope.{frame_names, frame_scope}
+use Rattle.civl_firing.specs.Scope.{frame_values}
 use Rattle.civl_firing.specs.Fired.{gate_holds, choices_fit, fired}
 use Rattle.civl_meaning.specs.Places.{Spot, spot_at}
 use Rattle.civl_meaning.specs.Meaning.{Meaning, Does, Runs, Missing, called, meaning_of, proc_number}
@@ -52,7 +53,6 @@ use Rattle.civl_firing.proofs.Having.{first_sort, rest_sorts, args_have_sorts}
 use Rattle.civl_meaning.proofs.Begun.{proc_is}
 use Rattle.civl_soundness.proofs.Bindings.{sorts_of, proc_names, proc_sorts}
 use Rattle.civl_soundness.proofs.Sorted.{first_values, rest_values, set_fits}
-use Rattle.civl_soundness.proofs.Kept.{stmt_keeps}
 use Rattle.civl_soundness.proofs.Scopes.{new_locals, frame_sorted}
 use Rattle.civl_soundness.proofs.Firing.{served, first_fits, fired_is_sorted}
 use Rattle.civl_soundness.proofs.Among.{Among, spot_is_among}
@@ -65,14 +65,14 @@ in_frame : (proc : Proc) (locals : List Value) → HaveSorts locals (frame_sorts
 in_frame proc locals h = subst (HaveSorts locals) (sym (proc_sorts proc)) h
 
 -- a local is set
-local_set : (proc : Proc) (locals : List Value) (name : Name) (v : Value) → HaveSorts locals (frame_sorts proc) → ((s : Sort) → place_sort proc name ≡ Some s → HasSort v s) → HaveSorts (slice_set locals (place_of (frame_names proc) name) v) (frame_sorts proc)
+local_set : (proc : Proc) (locals : List Value) (name : Name) (v : Value) → HaveSorts locals (frame_sorts proc) → ((s : Sort) → place_sort proc name ≡ Some s → HasSort v s) → HaveSorts (slice_set locals (place_of (names_in_proc proc) name) v) (frame_sorts proc)
 local_set proc locals name v h f =
     let k = set_fits (bind_proc proc) locals name v (in_frame proc locals h) f in
     let n = subst (λ (ns : List Name). HaveSorts (slice_set locals (place_of ns name) v) (sorts_of (bind_proc proc))) (proc_names proc) k in
-    subst (HaveSorts (slice_set locals (place_of (frame_names proc) name) v)) (proc_sorts proc) n
+    subst (HaveSorts (slice_set locals (place_of (names_in_proc proc) name) v)) (proc_sorts proc) n
 
 -- the results of a call are set
-results_set : (proc : Proc) (results : List Name) (given : List Sort) (outs locals : List Value) → results_missorted proc results given ≡ false → HaveSorts outs given → HaveSorts locals (frame_sorts proc) → HaveSorts (with_results (frame_names proc) locals results outs) (frame_sorts proc)
+results_set : (proc : Proc) (results : List Name) (given : List Sort) (outs locals : List Value) → results_missorted proc results given ≡ false → HaveSorts outs given → HaveSorts locals (frame_sorts proc) → HaveSorts (with_results (names_in_proc proc) locals results outs) (frame_sorts proc)
 results_set proc [] given outs locals m k h = h
 results_set proc (r ∷ rs) given [] locals m k h = h
 results_set proc (r ∷ rs) [] (v ∷ vs) locals m k h = absurd (false≢true k.are)
@@ -80,7 +80,7 @@ results_set proc (r ∷ rs) (t ∷ ts) (v ∷ vs) locals m k h =
     let p = or_parts (not (serves (place_sort proc r) (Only t))) (results_missorted proc rs ts) m in
     let here = served (place_sort proc r) t (not-false (serves (place_sort proc r) (Only t)) p.0) in
     let fits = λ (s : Sort) (e : place_sort proc r ≡ Some s). (let q : t ≡ s = (let c = sym here ∙ e in cc) in subst (HasSort v) q (first_sort v t vs ts k)) in
-    results_set proc rs ts vs (slice_set locals (place_of (frame_names proc) r) v) p.1 (rest_sorts v t vs ts k) (local_set proc locals r v h fits)
+    results_set proc rs ts vs (slice_set locals (place_of (names_in_proc proc) r) v) p.1 (rest_sorts v t vs ts k) (local_set proc locals r v h fits)
 
 -- the outputs among a frame's locals
 outs_have : (proc : Proc) (locals : List Value) → HaveSorts locals (frame_sorts proc) → HaveSorts (outs_in proc locals) (param_sorts proc.outs)
@@ -120,12 +120,12 @@ spawn_args scope sorts fit args (Some t) proc e m w i n =
 
 -- a statement that keeps the static rules
 pub record Keeps (program : Program) (proc : Proc) (d : Stmt-F Stmt) : Type 0 where
-  pub known : layer_unknown program proc d ≡ false
-  sorted : any_missorted (layer_uses program proc d) ≡ false
-  results : layer_missorted program proc d ≡ false
-  narrow : any_width (layer_uses program proc d) ≡ false
-  low : any_index (layer_uses program proc d) ≡ false
-  arity : layer_arity program d ≡ false
+  pub known : form_unknown program proc d ≡ false
+  sorted : any_missorted (form_uses program proc d) ≡ false
+  results : form_missorted program proc d ≡ false
+  narrow : any_width (form_uses program proc d) ≡ false
+  low : any_index (form_uses program proc d) ≡ false
+  arity : form_arity program d ≡ false
 
 any_at : {A : Type 0} (p : A → Bool) (xs : List A) (i : ℕ) (x : A) → slice_get xs i ≡ Some x → p x ≡ true → list_any p xs ≡ true
 any_at p [] i x e h = absurd (cc)
@@ -145,17 +145,16 @@ module _ (plain : Plain) (ok : IsPlain plain) where
   program = plain.program
 
   pub statement_keeps : (i : ℕ) (proc : Proc) → slice_get program.procs i ≡ Some proc → (s : Stmt) → Among (statements_of proc.body) s → Keeps program proc (out-Stmt s)
-  unfolding stmt_breaks
   statement_keeps i proc at s a =
-      let u = stmt_keeps program ok.rules E11 tt i proc at a.0 s a.1 in
-      let m = or_parts (any_missorted (layer_uses program proc (out-Stmt s))) (layer_missorted program proc (out-Stmt s)) (stmt_keeps program ok.rules E21 tt i proc at a.0 s a.1) in
+      let u = statement_kept typing_rules program ok.rules unknown_rule unknown_among (stmt_unknown program proc) i proc at refl a.0 s a.1 in
+      let m = or_parts (any_missorted (form_uses program proc (out-Stmt s))) (form_missorted program proc (out-Stmt s)) (statement_kept typing_rules program ok.rules sort_rule sort_among (stmt_missorted program proc) i proc at refl a.0 s a.1) in
       record {
-        known = (or_parts (layer_unknown program proc (out-Stmt s)) (any_unknown (layer_uses program proc (out-Stmt s))) u).0;
+        known = (or_parts (form_unknown program proc (out-Stmt s)) (any_unknown (form_uses program proc (out-Stmt s))) u).0;
         sorted = m.0;
         results = m.1;
-        narrow = stmt_keeps program ok.rules E20 tt i proc at a.0 s a.1;
-        low = stmt_keeps program ok.rules E22 tt i proc at a.0 s a.1;
-        arity = stmt_keeps program ok.rules E23 tt i proc at a.0 s a.1;
+        narrow = statement_kept typing_rules program ok.rules width_rule width_among (λ stmt. any_width (stmt_uses program proc stmt)) i proc at refl a.0 s a.1;
+        low = statement_kept typing_rules program ok.rules index_rule index_among (λ stmt. any_index (stmt_uses program proc stmt)) i proc at refl a.0 s a.1;
+        arity = statement_kept typing_rules program ok.rules arity_rule arity_among (stmt_arity program) i proc at refl a.0 s a.1;
       }
 
   -- a spawn in a body begins threads
@@ -196,7 +195,7 @@ module _ (plain : Plain) (ok : IsPlain plain) where
 
     module _ (below : List Activation) (top : Activation) (proc : Proc) (at : slice_get program.procs top.procedure ≡ Some proc) (h : HaveSorts top.locals (frame_sorts proc)) where
       abbrev scope : Scope
-      scope = frame_scope program.globals proc top.locals
+      scope = frame_values program.globals proc top.locals
 
       fit : IsSorted scope (body_scope program proc)
       fit = frame_sorted program ok.rules top.procedure proc at top.locals h
@@ -205,13 +204,13 @@ module _ (plain : Plain) (ok : IsPlain plain) where
       stays = (proc, at, h)
 
       call_in_frame : (f : Name) (es : List Expr) (rs : List Name) (number next : ℕ) → Keeps program proc (Call f es rs) →
-          Fits plain (Inside below top) (call_change plain store chosen (frame_names proc) top.locals rs number next (called plain f) (values_of scope es))
+          Fits plain (Inside below top) (call_change plain store chosen (names_in_proc proc) top.locals rs number next (called plain f) (values_of scope es))
       call_in_frame f es rs number next k =
           let found = some_of (callee_signature program f) (or_parts (is_none (callee_signature program f)) (list_any (place_unknown proc) rs) k.known).0 in
           let signature = found.0 in
           let args = call_args scope (body_scope program proc) fit es rs (callee_signature program f) signature found.1 k.sorted k.narrow k.low k.arity in
           let results = subst (λ (o : Option Signature). results_missorted proc rs (given_sorts o) ≡ false) found.1 k.results in
-          call_fits (Inside below top) (frame_names proc) top.locals rs number next (param_sorts signature.params) (param_sorts signature.outs) (called plain f) (values_of scope es) (called_serves plain ok f signature found.1) args
+          call_fits (Inside below top) (names_in_proc proc) top.locals rs number next (param_sorts signature.params) (param_sorts signature.outs) (called plain f) (values_of scope es) (called_serves plain ok f signature found.1) args
           (λ outs g. (proc, at, results_set proc rs (param_sorts signature.outs) outs top.locals results g h))
 
       spawn_in_frame : (f : Name) (es : List Expr) → Keeps program proc (Spawn f es) → IsTrue (begins_threads program (proc_number program f)) → ThreadIsSorted plain (record { callee = proc_number program f; args = values_of scope es; state = Before })

@@ -7,16 +7,15 @@ use Rattle.civl_tree.specs.declared.action.Action.{Action}
 use Rattle.civl_tree.specs.declared.program.Proc.{Proc}
 use Rattle.civl_tree.specs.declared.program.Refines.{Refines}
 use Rattle.civl_tree.specs.declared.program.Program.{Program}
-use Rattle.civl_tree.specs.rules.Names.{proc_named, proc_signature_of, first_signature, callee_signature}
+use Rattle.civl_tree.specs.rules.Names.{proc_named, proc_signature_of, first_signature, callee_signature, action_named}
 use Rattle.civl_tree.specs.rules.Unknown.{any_unknown, refined_unknown}
 use Rattle.civl_tree.specs.rules.Uses.{with_uses}
-use Rattle.civl_tree.specs.rules.Places.{E11, proc_breaks}
+use Rattle.civl_tree.specs.rules.Typing.{typing_rules, unknown_rule}
+use Rattle.civl_tree.proofs.Kept.{proc_kept, unknown_among}
 use Rattle.civl_meaning.specs.declared.config.Plain.{Plain}
-use Rattle.civl_meaning.specs.Meaning.{Meaning, Does, Runs, Missing, action_named, proc_number, meaning_of_action, refined, meaning_by, meaning_of, meaning_else, called}
+use Rattle.civl_meaning.specs.Meaning.{Meaning, Does, Runs, Missing, proc_number, meaning_of_action, refined, meaning_by, meaning_of, meaning_else, called}
 use Rattle.civl_meaning.specs.Config.{IsPlain}
 use Rattle.civl_meaning.proofs.Begun.{proc_is}
-use Rattle.civl_soundness.proofs.Kept.{proc_keeps}
-use Rattle.civl_soundness.proofs.Called.{action_is}
 
 abbrev pub IsDeclared : Meaning → Type 0
 IsDeclared (Does action) = Unit {0}
@@ -39,15 +38,14 @@ module _ (plain : Plain) (ok : IsPlain plain) where
 
   refined_declared : (o : Option Refines) → (o ≡ None → ⊥) → refined_unknown program o ≡ false → IsDeclared (refined program o)
   refined_declared None n u = absurd (n refl)
-  refined_declared (Some r) n u = action_declared (action_named program r.action) (ap is_none (action_is program r.action) ∙ u)
+  refined_declared (Some r) n u = action_declared (action_named program r.action) u
 
   pub number_declared : (k : ℕ) (proc : Proc) → slice_get program.procs k ≡ Some proc → IsDeclared (meaning_of plain k)
-  unfolding proc_breaks
   number_declared k proc at =
       subst (λ (o : Option Proc). IsDeclared (meaning_by program (slice_get plain.bodies k) k o)) (sym at) (by_body (slice_get plain.bodies k) refl)
     where
       known : refined_unknown program proc.refines ≡ false
-      known = (or_parts (refined_unknown program proc.refines) (any_unknown (with_uses program proc proc.refines)) (proc_keeps program ok.rules E11 tt k proc at)).0
+      known = (or_parts (refined_unknown program proc.refines) (any_unknown (with_uses program proc proc.refines)) (proc_kept typing_rules program ok.rules unknown_rule unknown_among k proc at)).0
 
       by_body : (b : Option Bool) → slice_get plain.bodies k ≡ b → IsDeclared (meaning_by program b k (Some proc))
       by_body None e = same_places plain.bodies program.procs ok.bodies k proc at e
@@ -63,5 +61,5 @@ module _ (plain : Plain) (ok : IsPlain plain) where
 
       by_action : (o : Option Action) → action_named program name ≡ o → IsDeclared (meaning_else plain name o)
       by_action None q =
-          by_proc (proc_named program name) refl (ap (λ (o : Option Action). is_none (first_signature o (proc_named program name))) (sym q ∙ action_is program name) ∙ e)
+          by_proc (proc_named program name) refl (ap (λ (o : Option Action). is_none (first_signature o (proc_named program name))) (sym q) ∙ e)
       by_action (Some action) q = tt

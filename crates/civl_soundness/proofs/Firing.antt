@@ -15,15 +15,16 @@ use Rattle.civl_tree.specs.declared.action.Param.{Param}
 use Rattle.civl_tree.specs.declared.action.Update.{Update}
 use Rattle.civl_tree.specs.declared.program.Global.{Global}
 use Rattle.civl_tree.specs.declared.program.Program.{Program}
-use Rattle.civl_tree.specs.rules.Scopes.{Binding, Scope as Sorts, sort_in, bind_globals, bind_params, bind_choices, gate_scope as gate_sorts, guard_scope as guard_sorts}
+use Rattle.civl_tree.specs.rules.Scopes.{Binding, Scope as Sorts, sort_in, bind_globals, bind_params, bind_choices, gate_scope, guard_scope}
 use Rattle.civl_tree.specs.rules.Sorts.{sort_of}
 use Rattle.civl_tree.specs.rules.Exprs.{widths_fit, indices_fit}
 use Rattle.civl_tree.specs.rules.Uses.{Use, Only, need_of, serves, target_use, truth_use, param_sorts, update_sort, action_uses}
 use Rattle.civl_tree.specs.rules.Width.{any_width, param_width, choice_width}
 use Rattle.civl_tree.specs.rules.Index.{any_index, sort_index}
 use Rattle.civl_tree.specs.rules.Sorted.{any_missorted}
-use Rattle.civl_tree.specs.rules.Places.{E20, E21, E22, action_breaks}
-use Rattle.civl_tree.specs.rules.Refusals.{BreaksNone}
+use Rattle.civl_tree.specs.rules.Rules.{Keeps}
+use Rattle.civl_tree.specs.rules.Typing.{typing_rules, width_rule, sort_rule, index_rule}
+use Rattle.civl_tree.proofs.Kept.{action_kept, width_among, sort_among, index_among}
 use Rattle.civl_values.specs.Values.{HasSort, HaveSorts}
 use Rattle.civl_firing.specs.declared.store.Store.{Store}
 use Rattle.civl_firing.specs.declared.firing.Fired.TheVariants.{GateFalse, Moved}
@@ -32,7 +33,7 @@ use Rattle.civl_firing.specs.Truth.{place_of}
 use Rattle.civl_firing.specs.Eval.{value_of}
 use Rattle.civl_firing.specs.Stores.{IsStore}
 use Rattle.civl_firing.specs.Sorts.{IsSorted}
-use Rattle.civl_firing.specs.Scope.{zeros_of_params, gate_scope, guard_scope}
+use Rattle.civl_firing.specs.Scope.{zeros_of_params, gate_values, guard_values}
 use Rattle.civl_firing.specs.Fired.{gate_holds, guard_holds, offers, updated, store_after, outs_after, fires, fired_by, fired}
 use Rattle.civl_values.proofs.Sorting.{same_sort-true}
 use Rattle.civl_firing.proofs.Having.{no_sorts, more_sorts}
@@ -41,7 +42,6 @@ use Rattle.civl_soundness.specs.Scope.{choice_sorts, GateIsSorted, GuardIsSorted
 use Rattle.civl_soundness.specs.Fired.{UpdatesKeepSorts, FiredIsSorted}
 use Rattle.civl_soundness.proofs.Bindings.{names_of, sorts_of, in_front, in_back, not_in_first, no_global, names_bound, sorts_bound}
 use Rattle.civl_soundness.proofs.Sorted.{set_fits}
-use Rattle.civl_soundness.proofs.Kept.{action_keeps}
 use Rattle.civl_soundness.proofs.Scopes.{action_declares, results_zero, frame_sorted, gate_sorted, guard_sorted}
 
 pub served : (o : Option Sort) (s : Sort) → serves o (Only s) ≡ true → o ≡ Some s
@@ -104,47 +104,44 @@ parts p xs x y ys h =
     let c = or_parts (p y) (list_any p ys) b.1 in
     record { offers = a.0; gate = b.0; guard = c.0; updates = c.1 }
 
-module _ (program : Program) (none : BreaksNone program) (place : ℕ) (action : Action) (at : slice_get program.actions place ≡ Some action) where
+module _ (program : Program) (none : Keeps typing_rules program) (place : ℕ) (action : Action) (at : slice_get program.actions place ≡ Some action) where
   abbrev InAction : (Use → Bool) → Type 0
   InAction p =
-      Parts p (offered (gate_sorts program action) action.choices) (truth_use (gate_sorts program action) action.gate) (truth_use (guard_sorts program action) action.guard)
-      (updates (guard_sorts program action) (update_sort program action) action.updates)
+      Parts p (offered (gate_scope program action) action.choices) (truth_use (gate_scope program action) action.gate) (truth_use (guard_scope program action) action.guard)
+      (updates (guard_scope program action) (update_sort program action) action.updates)
 
   all_sorted : InAction (λ (u : Use). not (serves (sort_of u.scope u.expression) u.need))
-  unfolding action_breaks
-  all_sorted = parts _ _ _ _ _ (action_keeps program none E21 tt place action at)
+  all_sorted = parts _ _ _ _ _ (action_kept typing_rules program none sort_rule sort_among place action at)
 
   all_narrow : InAction (λ (u : Use). not (widths_fit u.scope u.expression))
-  unfolding action_breaks
   all_narrow =
       parts _ _ _ _ _
-      (or_parts (list_any choice_width action.choices) (any_width (action_uses program action)) (or_parts (list_any (param_width program) (action.params ++ action.outs)) _ (action_keeps program none E20 tt place action at)).1).1
+      (or_parts (list_any choice_width action.choices) (any_width (action_uses program action)) (or_parts (list_any (param_width program) (action.params ++ action.outs)) _ (action_kept typing_rules program none width_rule width_among place action at)).1).1
 
   all_low : InAction (λ (u : Use). not (indices_fit u.expression))
-  unfolding action_breaks
   all_low =
       parts _ _ _ _ _
-      (or_parts (list_any (λ c. sort_index c.sort) action.choices) (any_index (action_uses program action)) (or_parts (list_any (λ p. sort_index p.sort) (action.params ++ action.outs)) _ (action_keeps program none E22 tt place action at)).1).1
+      (or_parts (list_any (λ c. sort_index c.sort) action.choices) (any_index (action_uses program action)) (or_parts (list_any (λ p. sort_index p.sort) (action.params ++ action.outs)) _ (action_kept typing_rules program none index_rule index_among place action at)).1).1
 
   module _ (store : Store) (inputs : List Value) (hs : IsStore program.globals store) (hi : HaveSorts inputs (param_sorts action.params)) where
-    at_gate : IsSorted (gate_scope program.globals store action inputs) (gate_sorts program action)
+    at_gate : IsSorted (gate_values program.globals store action inputs) (gate_scope program action)
     at_gate = gate_sorted program none place action at store inputs hs hi
 
-    gate_fits : HasSort (value_of (gate_scope program.globals store action inputs) action.gate) Truth
-    gate_fits = use_fits (gate_scope program.globals store action inputs) (gate_sorts program action) at_gate action.gate (Some Truth) all_sorted.gate all_narrow.gate all_low.gate Truth refl
+    gate_fits : HasSort (value_of (gate_values program.globals store action inputs) action.gate) Truth
+    gate_fits = use_fits (gate_values program.globals store action inputs) (gate_scope program action) at_gate action.gate (Some Truth) all_sorted.gate all_narrow.gate all_low.gate Truth refl
 
     all_offers_fit : HaveSorts (offers program.globals store action inputs) (choice_sorts action)
-    all_offers_fit = offers_fit (gate_scope program.globals store action inputs) (gate_sorts program action) at_gate action.choices all_sorted.offers all_narrow.offers all_low.offers
+    all_offers_fit = offers_fit (gate_values program.globals store action inputs) (gate_scope program action) at_gate action.choices all_sorted.offers all_narrow.offers all_low.offers
 
   module _ (store : Store) (inputs chosen : List Value) (hs : IsStore program.globals store) (hi : HaveSorts inputs (param_sorts action.params)) (hc : HaveSorts chosen (map (λ c. c.sort) action.choices)) where
     abbrev scope : Scope
-    scope = guard_scope program.globals store action inputs chosen
+    scope = guard_values program.globals store action inputs chosen
 
-    fit : IsSorted scope (guard_sorts program action)
+    fit : IsSorted scope (guard_scope program action)
     fit = guard_sorted program none place action at store inputs chosen hs hi hc
 
     guard_fits : HasSort (value_of scope action.guard) Truth
-    guard_fits = use_fits scope (guard_sorts program action) fit action.guard (Some Truth) all_sorted.guard all_narrow.guard all_low.guard Truth refl
+    guard_fits = use_fits scope (guard_scope program action) fit action.guard (Some Truth) all_sorted.guard all_narrow.guard all_low.guard Truth refl
 
     store_fits : IsStore program.globals (store_after program.globals store action inputs chosen)
     store_fits =
@@ -152,7 +149,7 @@ module _ (program : Program) (none : BreaksNone program) (place : ℕ) (action :
         let names = names_bound (λ (g : Global). g.name) (λ (g : Global). g.sort) program.globals in
         let sorts = sorts_bound (λ (g : Global). g.name) (λ (g : Global). g.sort) program.globals in
         let known = λ (name : Name) (s : Sort) (e : sort_in bs name ≡ Some s). in_front bs (bind_params action.outs) name s e in
-        let h = updates_fit scope (guard_sorts program action) fit (update_sort program action) bs known action.updates all_sorted.updates all_narrow.updates all_low.updates store.values (subst (HaveSorts store.values) (sym sorts) hs) in
+        let h = updates_fit scope (guard_scope program action) fit (update_sort program action) bs known action.updates all_sorted.updates all_narrow.updates all_low.updates store.values (subst (HaveSorts store.values) (sym sorts) hs) in
         subst (λ (ns : List Name). HaveSorts (updated ns store.values scope action.updates) (map (λ g. g.sort) program.globals)) names (subst (HaveSorts (updated (names_of bs) store.values scope action.updates)) sorts h)
 
     outs_fit : HaveSorts (outs_after program.globals store action inputs chosen) (param_sorts action.outs)
@@ -167,7 +164,7 @@ module _ (program : Program) (none : BreaksNone program) (place : ℕ) (action :
         let declares = action_declares program none place action at in
         let among = λ (name : Name) (s : Sort) (e : sort_in bs name ≡ Some s). in_back params (bs ++ choices) name (not_in_first params (bs ++ choices) name s declares.own (in_front bs choices name s e)) ∙ in_front bs choices name s e in
         let known = λ (name : Name) (s : Sort) (e : sort_in bs name ≡ Some s). in_back globals bs name (no_global globals (params ++ (bs ++ choices)) name s declares (among name s e)) ∙ e in
-        let h = updates_fit scope (guard_sorts program action) fit (update_sort program action) bs known action.updates all_sorted.updates all_narrow.updates all_low.updates zeros (subst (HaveSorts zeros) (sym sorts) (results_zero program none place action at)) in
+        let h = updates_fit scope (guard_scope program action) fit (update_sort program action) bs known action.updates all_sorted.updates all_narrow.updates all_low.updates zeros (subst (HaveSorts zeros) (sym sorts) (results_zero program none place action at)) in
         subst (λ (ns : List Name). HaveSorts (updated ns zeros scope action.updates) (param_sorts action.outs)) names (subst (HaveSorts (updated (names_of bs) zeros scope action.updates)) sorts h)
 
 -- ---- the laws

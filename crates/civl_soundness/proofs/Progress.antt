@@ -9,7 +9,7 @@ use Rattle.civl_tree.specs.declared.action.Action.{Action}
 use Rattle.civl_tree.specs.declared.program.Proc.{Proc}
 use Rattle.civl_tree.specs.declared.stmt.Stmt.{Stmt, out-Stmt}
 use Rattle.civl_tree.specs.declared.stmt.Stmt.TheOpen.{Stmt-F, Assign, Assert, If, While, YieldLoop, RankLoop, Call, Yield, Commit, Intro, Spawn}
-use Rattle.civl_tree.specs.rules.Names.{callee_signature}
+use Rattle.civl_tree.specs.rules.Names.{callee_signature, names_in_proc}
 use Rattle.civl_tree.specs.rules.Unknown.{place_unknown}
 use Rattle.civl_values.specs.Values.{is_true}
 use Rattle.civl_firing.specs.declared.store.Store.{Store}
@@ -27,7 +27,7 @@ use Rattle.civl_firing.specs.declared.firing.Fired.TheVariants as fire
 use Rattle.civl_meaning.specs.declared.config.Change.{Change}
 use Rattle.civl_meaning.specs.declared.config.Change.TheVariants.{Stays, Goes, Acts, Enters, Leaves, Spawns}
 use Rattle.civl_firing.specs.Eval.{value_of, values_of}
-use Rattle.civl_firing.specs.Scope.{frame_names, frame_scope}
+use Rattle.civl_firing.specs.Scope.{frame_values}
 use Rattle.civl_firing.specs.Fired.{gate_holds, guard_holds, choices_fit, fires, fired_by, fired}
 use Rattle.civl_meaning.specs.Places.{Spot, skip_layer, spot_at}
 use Rattle.civl_meaning.specs.Meaning.{Meaning, Does, Runs, Missing, called, meaning_of}
@@ -100,7 +100,7 @@ module _ (plain : Plain) (store : Store) (chosen : List Value) where
   module _ (ok : IsPlain plain) (below : List Activation) (top : Activation) where
     layer_why : (proc : Proc) (number next : ℕ) (d : Stmt-F Stmt) → Keeps plain.program proc d → skip_layer d ≡ false → Why (layer_action plain proc top.locals d) (Inside below top) (layer_change plain store chosen proc top.locals number next d)
     layer_why proc number next (Assign x e) k s = tt
-    layer_why proc number next (Assert e) k s = by_truth (is_true (value_of (frame_scope plain.program.globals proc top.locals) e))
+    layer_why proc number next (Assert e) k s = by_truth (is_true (value_of (frame_values plain.program.globals proc top.locals) e))
       where
         by_truth : (t : Bool) → Why None (Inside below top) (if t then Goes top.locals next else Stays answer.Failing)
         by_truth true = tt
@@ -110,7 +110,7 @@ module _ (plain : Plain) (store : Store) (chosen : List Value) where
     layer_why proc number next (YieldLoop e i xs) k s = tt
     layer_why proc number next (RankLoop e r i xs) k s = tt
     layer_why proc number next (Call f es rs) k s =
-        call_why (Inside below top) (frame_names proc) top.locals rs number next (called plain f) (values_of (frame_scope plain.program.globals proc top.locals) es)
+        call_why (Inside below top) (names_in_proc proc) top.locals rs number next (called plain f) (values_of (frame_values plain.program.globals proc top.locals) es)
         (called_declared plain ok f (or_parts (is_none (callee_signature plain.program f)) (list_any (place_unknown proc) rs) k.known).0)
     layer_why proc number next (Spawn f es) k s = tt
     layer_why proc number next (Yield e) k s = absurd (false≢true (sym s))
@@ -215,7 +215,7 @@ module _ (plain : Plain) (store : Store) (chosen : List Value) (action : Action)
   with_is Missing given e names locals results number next = absurd (cc)
 
   layer_is : (proc : Proc) (locals : List Value) (number next : ℕ) (d : Stmt-F Stmt) → layer_action plain proc locals d ≡ Some (action, args) → IsCall (layer_change plain store chosen proc locals number next d)
-  layer_is proc locals number next (Call f es rs) e = with_is (called plain f) (values_of (frame_scope plain.program.globals proc locals) es) e (frame_names proc) locals rs number next
+  layer_is proc locals number next (Call f es rs) e = with_is (called plain f) (values_of (frame_values plain.program.globals proc locals) es) e (names_in_proc proc) locals rs number next
   layer_is proc locals number next (Assign x v) e = absurd (cc)
   layer_is proc locals number next (Assert v) e = absurd (cc)
   layer_is proc locals number next (If v xs ys) e = absurd (cc)

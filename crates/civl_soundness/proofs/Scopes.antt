@@ -14,23 +14,23 @@ use Rattle.civl_tree.specs.declared.program.Local.{Local}
 use Rattle.civl_tree.specs.declared.program.Proc.{Proc}
 use Rattle.civl_tree.specs.declared.program.Program.{Program}
 use Rattle.civl_tree.specs.rules.Names.{has_name, any_twice, names_in_action, names_in_proc, targets_of, global_names}
-use Rattle.civl_tree.specs.rules.Scopes.{Binding, sort_in, bind_globals, bind_params, bind_choices, bind_locals, bind_proc, body_scope, gate_scope as gate_sorts, guard_scope as guard_sorts}
+use Rattle.civl_tree.specs.rules.Scopes.{Binding, sort_in, bind_globals, bind_params, bind_choices, bind_locals, bind_proc, body_scope, gate_scope, guard_scope}
 use Rattle.civl_tree.specs.rules.Uses.{param_sorts, with_uses}
 use Rattle.civl_tree.specs.rules.Twice.{declared_twice}
 use Rattle.civl_tree.specs.rules.Width.{sort_width_fits, linear_width, param_width, local_width, any_width, global_width}
 use Rattle.civl_tree.specs.rules.Index.{sort_index, any_index}
-use Rattle.civl_tree.specs.rules.Places.{E10, E20, E22, global_breaks, action_breaks, proc_breaks}
-use Rattle.civl_tree.specs.rules.Refusals.{BreaksNone}
+use Rattle.civl_tree.specs.rules.Rules.{Keeps}
+use Rattle.civl_tree.specs.rules.Typing.{typing_rules, twice_rule, width_rule, index_rule}
+use Rattle.civl_tree.proofs.Kept.{global_kept, action_kept, proc_kept, twice_among, width_among, index_among}
 use Rattle.civl_values.specs.Values.{HaveSorts}
 use Rattle.civl_firing.specs.declared.store.Store.{Store}
 use Rattle.civl_firing.specs.Stores.{IsStore}
 use Rattle.civl_firing.specs.Sorts.{IsSorted}
-use Rattle.civl_firing.specs.Scope.{zeros_of_globals, zeros_of_params, zeros_of_locals, frame_names, frame_scope, gate_scope, guard_scope}
+use Rattle.civl_firing.specs.Scope.{zeros_of_globals, zeros_of_params, zeros_of_locals, frame_values, gate_values, guard_values}
 use Rattle.civl_meaning.specs.Config.{frame_sorts}
 use Rattle.civl_firing.proofs.Having.{Found}
 use Rattle.civl_soundness.proofs.Bindings.{names_of, sorts_of, in_front, in_back, in_either, once_behind, not_in_first, not_in_second, Declared, not_declared, names_bound, sorts_bound, joined, proc_names, proc_sorts}
 use Rattle.civl_soundness.proofs.Sorted.{more_values, sort_fits, zeros_fit, none_at, found_in}
-use Rattle.civl_soundness.proofs.Kept.{global_keeps, action_keeps, proc_keeps}
 
 any_behind : {A : Type 0} (p : A → Bool) (xs ys : List A) → list_any p (xs ++ ys) ≡ false → list_any p ys ≡ false
 any_behind p xs ys h = (or_parts (list_any p xs) (list_any p ys) (sym (list_any-append p xs ys) ∙ h)).1
@@ -46,16 +46,15 @@ outs_zero program params outs w i =
     let low = any_behind (λ (p : Param). sort_index p.sort) params outs i in
     zeros_fit (λ (p : Param). p.sort) outs (λ k p e. sort_fits p.sort (width_fits program _ p.sort (none_at (param_width program) outs narrow k p e)) (none_at (λ (q : Param). sort_index q.sort) outs low k p e))
 
-module _ (program : Program) (none : BreaksNone program) where
+module _ (program : Program) (none : Keeps typing_rules program) where
   abbrev globals : List Binding
   globals = bind_globals program.globals
 
   globals_zero : HaveSorts (zeros_of_globals program.globals) (map (λ g. g.sort) program.globals)
-  unfolding global_breaks
   globals_zero =
       zeros_fit (λ (g : Global). g.sort) program.globals (λ k g e.
-      let w : global_width program g ≡ false = global_keeps program none E20 tt k g e in
-      sort_fits g.sort (not-false (sort_width_fits g.sort) (or_parts _ _ w).0) (global_keeps program none E22 tt k g e))
+      let w : global_width program g ≡ false = global_kept typing_rules program none width_rule width_among k g e in
+      sort_fits g.sort (not-false (sort_width_fits g.sort) (or_parts _ _ w).0) (global_kept typing_rules program none index_rule index_among k g e))
 
   global_names_are : names_of globals ≡ global_names program.globals
   global_names_are = names_bound (λ (g : Global). g.name) (λ (g : Global). g.sort) program.globals
@@ -75,19 +74,16 @@ module _ (program : Program) (none : BreaksNone program) where
 
   module _ (i : ℕ) (proc : Proc) (at : slice_get program.procs i ≡ Some proc) where
     pub proc_declares : Declared globals (bind_proc proc)
-    unfolding proc_breaks
-    proc_declares = declared (bind_proc proc) (names_in_proc proc) (proc_names proc) (or_parts _ (declared_twice program (names_in_proc proc)) (proc_keeps program none E10 tt i proc at)).1
+    proc_declares = declared (bind_proc proc) (names_in_proc proc) (proc_names proc) (or_parts _ (declared_twice program (names_in_proc proc)) (proc_kept typing_rules program none twice_rule twice_among i proc at)).1
 
     widths : (list_any (param_width program) (proc.params ++ proc.outs) ≡ false) × (list_any (local_width program) proc.locals ≡ false)
-    unfolding proc_breaks
     widths =
-        let p = or_parts (list_any (param_width program) (proc.params ++ proc.outs)) _ (proc_keeps program none E20 tt i proc at) in
+        let p = or_parts (list_any (param_width program) (proc.params ++ proc.outs)) _ (proc_kept typing_rules program none width_rule width_among i proc at) in
         (p.0, (or_parts (list_any (local_width program) proc.locals) (any_width (with_uses program proc proc.refines)) p.1).0)
 
     indices : (list_any (λ p. sort_index p.sort) (proc.params ++ proc.outs) ≡ false) × (list_any (λ l. sort_index l.sort) proc.locals ≡ false)
-    unfolding proc_breaks
     indices =
-        let p = or_parts (list_any (λ p. sort_index p.sort) (proc.params ++ proc.outs)) _ (proc_keeps program none E22 tt i proc at) in
+        let p = or_parts (list_any (λ p. sort_index p.sort) (proc.params ++ proc.outs)) _ (proc_kept typing_rules program none index_rule index_among i proc at) in
         (p.0, (or_parts (list_any (λ l. sort_index l.sort) proc.locals) (any_index (with_uses program proc proc.refines)) p.1).0)
 
     -- the locals with which a call of it begins
@@ -109,7 +105,7 @@ module _ (program : Program) (none : BreaksNone program) where
           in_front (bind_proc proc) globals name s (in_back (bind_params proc.params) rest name (not_in_first (bind_params proc.params) rest name s proc_declares.own q) ∙ q)
     ]
 
-    frame_found : (locals : List Value) → HaveSorts locals (frame_sorts proc) → Found (frame_names proc ++ global_names program.globals) (locals ++ zeros_of_globals program.globals) (bind_proc proc ++ globals)
+    frame_found : (locals : List Value) → HaveSorts locals (frame_sorts proc) → Found (names_in_proc proc ++ global_names program.globals) (locals ++ zeros_of_globals program.globals) (bind_proc proc ++ globals)
     frame_found locals h =
         let values = locals ++ zeros_of_globals program.globals in
         let sorts = joined (λ b. b.sort) (bind_proc proc) globals _ _ (proc_sorts proc) global_sorts_are in
@@ -117,7 +113,7 @@ module _ (program : Program) (none : BreaksNone program) where
         let have = more_values locals (zeros_of_globals program.globals) (frame_sorts proc) _ h globals_zero in
         subst (λ (ns : List Name). Found ns values (bind_proc proc ++ globals)) names (found_in (bind_proc proc ++ globals) values (subst (HaveSorts values) (sym sorts) have))
 
-    pub frame_sorted : (locals : List Value) → HaveSorts locals (frame_sorts proc) → IsSorted (frame_scope program.globals proc locals) (body_scope program proc)
+    pub frame_sorted : (locals : List Value) → HaveSorts locals (frame_sorts proc) → IsSorted (frame_values program.globals proc locals) (body_scope program proc)
     frame_sorted locals h =
         let found = frame_found locals h in
         record { names = λ name s e. found name s (in_front (bind_proc proc) globals name s e); olds = λ name s e. found name s (old_is name s e) }
@@ -141,17 +137,15 @@ module _ (program : Program) (none : BreaksNone program) where
     param_sorts_are ps = sorts_bound (λ p. p.name) (λ p. p.sort) ps
 
     pub action_declares : Declared globals (params ++ (results ++ choices))
-    unfolding action_breaks
     action_declares =
         let e = joined (λ b. b.name) params (results ++ choices) _ _ (param_names_are action.params) (joined (λ b. b.name) results choices _ _ (param_names_are action.outs) (names_bound (λ (c : Choice). c.name) (λ (c : Choice). c.sort) action.choices)) in
-        let t = (or_parts _ (declared_twice program (names_in_action action) || any_twice (targets_of action)) (action_keeps program none E10 tt i action at)).1 in
+        let t = (or_parts _ (declared_twice program (names_in_action action) || any_twice (targets_of action)) (action_kept typing_rules program none twice_rule twice_among i action at)).1 in
         declared (params ++ (results ++ choices)) (names_in_action action) e (or_parts (declared_twice program (names_in_action action)) (any_twice (targets_of action)) t).0
 
     pub results_zero : HaveSorts (zeros_of_params action.outs) (param_sorts action.outs)
-    unfolding action_breaks
     results_zero =
-        outs_zero program action.params action.outs (or_parts (list_any (param_width program) (action.params ++ action.outs)) _ (action_keeps program none E20 tt i action at)).0
-        (or_parts (list_any (λ p. sort_index p.sort) (action.params ++ action.outs)) _ (action_keeps program none E22 tt i action at)).0
+        outs_zero program action.params action.outs (or_parts (list_any (param_width program) (action.params ++ action.outs)) _ (action_kept typing_rules program none width_rule width_among i action at)).0
+        (or_parts (list_any (λ p. sort_index p.sort) (action.params ++ action.outs)) _ (action_kept typing_rules program none index_rule index_among i action at)).0
 
     -- a name of the guard's scope, where the results stand behind the choices
     guard_name : (name : Name) (s : Sort) → sort_in (globals ++ (params ++ choices)) name ≡ Some s → sort_in (globals ++ (params ++ (choices ++ results))) name ≡ Some s
@@ -187,7 +181,7 @@ module _ (program : Program) (none : BreaksNone program) where
     ]
 
     gate_found : (store : Store) (inputs : List Value) → IsStore program.globals store → HaveSorts inputs (param_sorts action.params) →
-        Found (gate_scope program.globals store action inputs).names (gate_scope program.globals store action inputs).values (globals ++ (params ++ results))
+        Found (gate_values program.globals store action inputs).names (gate_values program.globals store action inputs).values (globals ++ (params ++ results))
     gate_found store inputs hs hi =
         let values = store.values ++ (inputs ++ zeros_of_params action.outs) in
         let bs = globals ++ (params ++ results) in
@@ -196,13 +190,13 @@ module _ (program : Program) (none : BreaksNone program) where
         let have = more_values store.values _ _ _ hs (more_values inputs _ _ _ hi results_zero) in
         subst (λ (ns : List Name). Found ns values bs) names (found_in bs values (subst (HaveSorts values) (sym sorts) have))
 
-    pub gate_sorted : (store : Store) (inputs : List Value) → IsStore program.globals store → HaveSorts inputs (param_sorts action.params) → IsSorted (gate_scope program.globals store action inputs) (gate_sorts program action)
+    pub gate_sorted : (store : Store) (inputs : List Value) → IsStore program.globals store → HaveSorts inputs (param_sorts action.params) → IsSorted (gate_values program.globals store action inputs) (gate_scope program action)
     gate_sorted store inputs hs hi =
         let found = gate_found store inputs hs hi in
         record { names = λ name s e. found name s (gate_name name s e); olds = λ name s e. found name s (gate_old name s e) }
 
     guard_found : (store : Store) (inputs chosen : List Value) → IsStore program.globals store → HaveSorts inputs (param_sorts action.params) → HaveSorts chosen (map (λ c. c.sort) action.choices) →
-        Found (guard_scope program.globals store action inputs chosen).names (guard_scope program.globals store action inputs chosen).values (globals ++ (params ++ (choices ++ results)))
+        Found (guard_values program.globals store action inputs chosen).names (guard_values program.globals store action inputs chosen).values (globals ++ (params ++ (choices ++ results)))
     guard_found store inputs chosen hs hi hc =
         let values = store.values ++ (inputs ++ (chosen ++ zeros_of_params action.outs)) in
         let bs = globals ++ (params ++ (choices ++ results)) in
@@ -214,7 +208,7 @@ module _ (program : Program) (none : BreaksNone program) where
         subst (λ (ns : List Name). Found ns values bs) names (found_in bs values (subst (HaveSorts values) (sym sorts) have))
 
     pub guard_sorted : (store : Store) (inputs chosen : List Value) → IsStore program.globals store → HaveSorts inputs (param_sorts action.params) → HaveSorts chosen (map (λ c. c.sort) action.choices) →
-        IsSorted (guard_scope program.globals store action inputs chosen) (guard_sorts program action)
+        IsSorted (guard_values program.globals store action inputs chosen) (guard_scope program action)
     guard_sorted store inputs chosen hs hi hc =
         let found = guard_found store inputs chosen hs hi hc in
         record { names = λ name s e. found name s (guard_name name s e); olds = λ name s e. found name s (guard_old name s e) }

@@ -11,7 +11,7 @@ use Rattle.civl_tree.specs.declared.expr.Sort.TheVariants.{Bool as Truth, Word, 
 use Rattle.civl_tree.specs.rules.Scopes.{Binding, sort_in}
 use Rattle.civl_tree.specs.rules.Width.{sort_width_fits}
 use Rattle.civl_tree.specs.rules.Index.{sort_index}
-use Rattle.civl_values.specs.Operators.{is_width, is_index}
+use Rattle.civl_tree.specs.rules.Exprs.{is_width, is_index}
 use Rattle.civl_values.specs.Values.{HasSort, HaveSorts, zero_of, is_sort}
 use Rattle.civl_values.proofs.Zeros.{zeros_have_their_sorts}
 use Rattle.civl_firing.specs.Truth.{place_of}

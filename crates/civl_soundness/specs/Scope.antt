@@ -7,16 +7,17 @@ use Rattle.civl_tree.specs.declared.expr.Sort.{Sort}
 use Rattle.civl_tree.specs.declared.expr.Sort.TheVariants.{Bool as Truth}
 use Rattle.civl_tree.specs.declared.program.Proc.{Proc}
 use Rattle.civl_tree.specs.declared.program.Program.{Program}
-use Rattle.civl_tree.specs.rules.Scopes.{body_scope, gate_scope as gate_sorts, guard_scope as guard_sorts}
+use Rattle.civl_tree.specs.rules.Scopes.{body_scope, gate_scope, guard_scope}
 use Rattle.civl_tree.specs.rules.Uses.{param_sorts}
-use Rattle.civl_tree.specs.rules.Refusals.{BreaksNone}
+use Rattle.civl_tree.specs.rules.Rules.{Keeps}
+use Rattle.civl_tree.specs.rules.Typing.{typing_rules}
 use Rattle.civl_values.specs.Values.{HasSort, HaveSorts}
 use Rattle.civl_firing.specs.declared.store.Store.{Store}
 use Rattle.civl_firing.specs.Eval.{value_of}
 use Rattle.civl_firing.specs.Fired.{offers}
 use Rattle.civl_firing.specs.Stores.{IsStore}
 use Rattle.civl_firing.specs.Sorts.{IsSorted}
-use Rattle.civl_firing.specs.Scope.{frame_scope, gate_scope, guard_scope}
+use Rattle.civl_firing.specs.Scope.{frame_values, gate_values, guard_values}
 use Rattle.civl_meaning.specs.Config.{frame_sorts}
 
 -- the sorts of an action's choices
@@ -25,7 +26,7 @@ choice_sorts action = map (λ choice. choice.sort) action.choices
 
 -- an action of a program that keeps the static rules, with a store of the globals' sorts and inputs of its parameters'
 pub record Given (program : Program) (action : Action) (store : Store) (inputs : List Value) : Type 0 where
-  pub rules : BreaksNone program
+  pub rules : Keeps typing_rules program
   pub place : ℕ
   pub there : slice_get program.actions place ≡ Some action
   pub store_fits : IsStore program.globals store
@@ -37,19 +38,19 @@ pub record Given (program : Program) (action : Action) (store : Store) (inputs :
 abbrev pub GateIsSorted : Type 0
 GateIsSorted =
     (program : Program) (action : Action) (store : Store) (inputs : List Value) →
-    Given program action store inputs → IsSorted (gate_scope program.globals store action inputs) (gate_sorts program action)
+    Given program action store inputs → IsSorted (gate_values program.globals store action inputs) (gate_scope program action)
 
 -- that of its guard and updates
 abbrev pub GuardIsSorted : Type 0
 GuardIsSorted =
     (program : Program) (action : Action) (store : Store) (inputs chosen : List Value) →
-    Given program action store inputs → HaveSorts chosen (choice_sorts action) → IsSorted (guard_scope program.globals store action inputs chosen) (guard_sorts program action)
+    Given program action store inputs → HaveSorts chosen (choice_sorts action) → IsSorted (guard_values program.globals store action inputs chosen) (guard_scope program action)
 
 -- that of a procedure's statements
 abbrev pub BodyIsSorted : Type 0
 BodyIsSorted =
     (program : Program) (place : ℕ) (proc : Proc) (locals : List Value) →
-    BreaksNone program → slice_get program.procs place ≡ Some proc → HaveSorts locals (frame_sorts proc) → IsSorted (frame_scope program.globals proc locals) (body_scope program proc)
+    Keeps typing_rules program → slice_get program.procs place ≡ Some proc → HaveSorts locals (frame_sorts proc) → IsSorted (frame_values program.globals proc locals) (body_scope program proc)
 
 -- ---- values
 
@@ -63,9 +64,9 @@ OffersAreSorted =
 abbrev pub GateIsBool : Type 0
 GateIsBool =
     (program : Program) (action : Action) (store : Store) (inputs : List Value) →
-    Given program action store inputs → HasSort (value_of (gate_scope program.globals store action inputs) action.gate) Truth
+    Given program action store inputs → HasSort (value_of (gate_values program.globals store action inputs) action.gate) Truth
 
 abbrev pub GuardIsBool : Type 0
 GuardIsBool =
     (program : Program) (action : Action) (store : Store) (inputs chosen : List Value) →
-    Given program action store inputs → HaveSorts chosen (choice_sorts action) → HasSort (value_of (guard_scope program.globals store action inputs chosen) action.guard) Truth
+    Given program action store inputs → HaveSorts chosen (choice_sorts action) → HasSort (value_of (guard_values program.globals store action inputs chosen) action.guard) Truth

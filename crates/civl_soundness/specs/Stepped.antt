@@ -18,7 +18,7 @@ use Rattle.civl_meaning.specs.declared.config.Config.{Config}
 use Rattle.civl_meaning.specs.declared.config.Stepped.{Stepped}
 use Rattle.civl_meaning.specs.declared.config.Stepped.TheVariants as answer
 use Rattle.civl_firing.specs.Eval.{values_of}
-use Rattle.civl_firing.specs.Scope.{frame_scope}
+use Rattle.civl_firing.specs.Scope.{frame_values}
 use Rattle.civl_firing.specs.Fired.{gate_holds, guard_holds, choices_fit}
 use Rattle.civl_meaning.specs.Places.{Spot, spot_at}
 use Rattle.civl_meaning.specs.Meaning.{Meaning, Does, Runs, Missing, called, meaning_of}
@@ -34,7 +34,7 @@ action_with (Runs number proc) args = None
 action_with Missing args = None
 
 abbrev pub layer_action : Plain → Proc → List Value → Stmt-F Stmt → Option (Action × List Value)
-layer_action plain proc locals (Call f es rs) = action_with (called plain f) (values_of (frame_scope plain.program.globals proc locals) es)
+layer_action plain proc locals (Call f es rs) = action_with (called plain f) (values_of (frame_values plain.program.globals proc locals) es)
 layer_action plain proc locals _ = None
 
 abbrev pub spot_action : Plain → Proc → List Value → Option Spot → Option (Action × List Value)

@@ -7,7 +7,7 @@ use Rattle.civl_tree.specs.declared.expr.Sort.TheVariants as sort
 use Rattle.civl_tree.specs.declared.expr.Two.{Two}
 use Rattle.civl_tree.specs.declared.expr.Two.TheVariants.{Add, Sub, Mul, BitAnd, BitOr, BitXor, Shl, Shr, Lt, Le, Eq, Ne, And, Or, Implies, Udiv, Urem, Slt, Sle, Sar}
 use Rattle.civl_tree.specs.rules.Sorts.{two_sort, word_sort, truth_over}
-use Rattle.civl_values.specs.Operators.{is_width}
+use Rattle.civl_tree.specs.rules.Exprs.{is_width}
 
 pub narrow : (w : ℕ) → IsTrue (is_width w) → 1 ≤ w
 narrow w h = leb-true 1 w (and_parts (leb 1 w) (leb w 32) h).0

@@ -13,6 +13,10 @@ use civl_tree::Sort;
 use std::alloc::Global;
 
 /// A constant that isn't a row, with no variable. `one` is a literal that is always true.
+///
+/// # Errors
+///
+/// For want of memory.
 pub fn constant(alloc: Global, one: Lit, value: &Value) -> Result<Symbolic, Memory>
     requires { IsTrue (is_flat_value value.now) }
     ensures { IfOk result (λ made. IsConstant one made value.now) }
@@ -29,6 +33,10 @@ pub fn constant(alloc: Global, one: Lit, value: &Value) -> Result<Symbolic, Memo
 }
 
 /// A variable of a sort that isn't a row: its bits are the variables from `first` on.
+///
+/// # Errors
+///
+/// For want of memory.
 pub fn variable(alloc: Global, first: u32, sort: Sort) -> Result<Symbolic, Memory>
     requires room { first + bits_of sort ≤ 2 ^ 30 }
     requires flat { IsTrue (is_flat sort) }

@@ -10,6 +10,10 @@ use civl_cnf::{Lit, Memory};
 use std::alloc::Global;
 
 /// `slice(a, high, low)` of an operand whose sort fits, with no variable.
+///
+/// # Errors
+///
+/// For want of memory.
 pub fn slice(alloc: Global, a: &Symbolic, high: u32, low: u32) -> Result<Symbolic, Memory>
     requires { IsSome (slice_sort (Some (sort_of a.now)) high low) }
     ensures { IfOk result (λ made. (one : Literal) → Moves one a.now a.now made (slice_sort (Some (sort_of a.now)) high low) (λ v. slice_value (value_under v a.now) high low)) }
@@ -24,6 +28,10 @@ pub fn slice(alloc: Global, a: &Symbolic, high: u32, low: u32) -> Result<Symboli
 }
 
 /// `widen(a, width)` of an operand whose sort fits, with no variable. `one` is a literal that is always true.
+///
+/// # Errors
+///
+/// For want of memory.
 pub fn widen(alloc: Global, one: Lit, a: &Symbolic, width: u32) -> Result<Symbolic, Memory>
     requires { IsSome (widen_sort (Some (sort_of a.now)) width) }
     ensures { IfOk result (λ made. Moves one a.now a.now made (widen_sort (Some (sort_of a.now)) width) (λ v. widen_value (value_under v a.now) width)) }
@@ -38,6 +46,10 @@ pub fn widen(alloc: Global, one: Lit, a: &Symbolic, width: u32) -> Result<Symbol
 }
 
 /// `join(a, b)` of operands whose sorts fit, with no variable.
+///
+/// # Errors
+///
+/// For want of memory.
 pub fn join(alloc: Global, a: &Symbolic, b: &Symbolic) -> Result<Symbolic, Memory>
     requires { IsSome (join_sort (Some (sort_of a.now)) (Some (sort_of b.now))) }
     ensures { IfOk result (λ made. (one : Literal) → Moves one a.now b.now made (join_sort (Some (sort_of a.now)) (Some (sort_of b.now))) (λ v. join_value (value_under v a.now) (value_under v b.now))) }

@@ -4,7 +4,8 @@ ghost use Rattle.civl_bits.specs.declared.value.Value.TheVariants as value;
 ghost use Rattle.civl_tree.specs.declared.expr.Sort.TheVariants as sort;
 ghost use Rattle.civl_tree.specs.rules.Sorts.{one_sort};
 ghost use Rattle.civl_tree.specs.rules.StoreSize.{bits_of};
-ghost use Rattle.civl_values.specs.Operators.{one_value, is_width};
+ghost use Rattle.civl_values.specs.Operators.{one_value};
+ghost use Rattle.civl_tree.specs.rules.Exprs.{is_width};
 ghost use Rattle.civl_values.specs.Weights.{one_weight};
 ghost use Rattle.civl_cnf.specs.ClauseSet.{IsBelow};
 ghost use Rattle.civl_cnf.specs.Gates.{Extends};
@@ -18,6 +19,10 @@ use civl_tree::One;
 use std::alloc::Global;
 
 /// `!`, `~` or `-` of an operand whose sort fits. `one` is a literal that is always true.
+///
+/// # Errors
+///
+/// For want of memory. The clauses that the gates then have still extend the old ones in exactly one way.
 #[tactic(auto, using(crate::proofs::Making::extending))]
 pub fn unary(
     gates: &mut Gates,

@@ -5,7 +5,8 @@ ghost use Rattle.civl_bits.specs.declared.value.Value.TheVariants as value;
 ghost use Rattle.civl_tree.specs.declared.expr.Sort.TheVariants as sort;
 ghost use Rattle.civl_tree.specs.rules.Sorts.{two_sort, pick_sort};
 ghost use Rattle.civl_tree.specs.rules.StoreSize.{bits_of};
-ghost use Rattle.civl_values.specs.Operators.{two_value, pick_value, is_width};
+ghost use Rattle.civl_values.specs.Operators.{two_value, pick_value};
+ghost use Rattle.civl_tree.specs.rules.Exprs.{is_width};
 ghost use Rattle.civl_values.specs.Weights.{two_weight, pick_weight};
 ghost use Rattle.civl_cnf.specs.Literal.{truth_of};
 ghost use Rattle.civl_cnf.specs.ClauseSet.{IsBelow};
@@ -25,6 +26,10 @@ use civl_tree::Two;
 use std::alloc::Global;
 
 /// An operation on two operands whose sorts fit. `one` is a literal that is always true.
+///
+/// # Errors
+///
+/// For want of memory. The clauses that the gates then have still extend the old ones in exactly one way.
 #[tactic(auto, using(crate::proofs::Making::extending))]
 pub fn binary(
     gates: &mut Gates,
@@ -171,6 +176,10 @@ fn bit(lit: Result<Lit, Memory>) -> Result<Symbolic, Memory>
 }
 
 /// `(c ? a : b)`, where the sorts fit.
+///
+/// # Errors
+///
+/// For want of memory. The clauses that the gates then have still extend the old ones in exactly one way.
 #[tactic(auto, using(crate::proofs::Making::extending))]
 pub fn pick(
     gates: &mut Gates,

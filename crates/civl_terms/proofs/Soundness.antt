@@ -11,7 +11,8 @@ use Rattle.civl_bits.specs.declared.value.Value.{Value}
 use Rattle.civl_bits.specs.declared.value.Value.TheVariants as value
 use Rattle.civl_tree.specs.declared.expr.Sort.{Sort}
 use Rattle.civl_tree.specs.declared.expr.Sort.TheVariants as sort
-use Rattle.civl_values.specs.Operators.{nothing, is_width}
+use Rattle.civl_values.specs.Operators.{nothing}
+use Rattle.civl_tree.specs.rules.Exprs.{is_width}
 use Rattle.civl_values.specs.Values.{HasSort, is_sort, zero_of, sort_of_value}
 use Rattle.civl_values.proofs.Zeros.{zeros_have_their_sorts}
 use Rattle.civl_values.proofs.Sorting.{both, Given, word_of, row_of, one_fits, two_fits, pick_fits, get_fits, set_fits, fill_fits, slice_has_sort, widen_has_sort, join_has_sort}

@@ -125,7 +125,7 @@ impl Terms {
     ///
     /// # Errors
     ///
-    /// For want of memory, as in each of the calls below; the graph is then as before.
+    /// For want of memory; the graph is then as before.
     pub fn constant(&mut self, value: Value) -> Result<Id, Memory>
         ensures node { IfOk result (λ id. Numbers self.old self.new (node.Constant value) id) }
         ensures built { IfOk result (λ id. Built self.old self.new id (λ env. value) (Some (sort_of_value value)) 0) }
@@ -138,6 +138,10 @@ impl Terms {
     }
 
     /// The variable with this number and this sort, which is the number's sort in the graph.
+    ///
+    /// # Errors
+    ///
+    /// For want of memory; the graph is then as before.
     pub fn variable(&mut self, number: u32, sort: Sort) -> Result<Id, Memory>
         requires limits { IsTrue (is_sort sort) }
         requires free { IsFree self.old number sort }
@@ -184,6 +188,10 @@ impl Terms {
     }
 
     /// `!`, `~` or `-` of a term.
+    ///
+    /// # Errors
+    ///
+    /// For want of memory; the graph is then as before.
     pub fn one(&mut self, op: One, a: Id) -> Result<Id, Memory>
         requires a { a < length self.old }
         requires fits { IsSome (one_sort op (sort_at self.old a)) }
@@ -201,6 +209,10 @@ impl Terms {
     }
 
     /// An operation with two operands.
+    ///
+    /// # Errors
+    ///
+    /// For want of memory; the graph is then as before.
     pub fn two(&mut self, op: Two, a: Id, b: Id) -> Result<Id, Memory>
         requires a { a < length self.old }
         requires b { b < length self.old }
@@ -225,6 +237,10 @@ impl Terms {
     }
 
     /// `c ? a : b`: a where c, else b.
+    ///
+    /// # Errors
+    ///
+    /// For want of memory; the graph is then as before.
     pub fn pick(&mut self, c: Id, a: Id, b: Id) -> Result<Id, Memory>
         requires c { c < length self.old }
         requires a { a < length self.old }
@@ -251,6 +267,10 @@ impl Terms {
     }
 
     /// The cell of a row at an index.
+    ///
+    /// # Errors
+    ///
+    /// For want of memory; the graph is then as before.
     pub fn get(&mut self, row: Id, at: Id) -> Result<Id, Memory>
         requires row { row < length self.old }
         requires at { at < length self.old }
@@ -269,6 +289,10 @@ impl Terms {
     }
 
     /// A row with another cell at an index.
+    ///
+    /// # Errors
+    ///
+    /// For want of memory; the graph is then as before.
     pub fn set(&mut self, row: Id, at: Id, cell: Id) -> Result<Id, Memory>
         requires row { row < length self.old }
         requires at { at < length self.old }
@@ -293,6 +317,10 @@ impl Terms {
     }
 
     /// The row for indices of `index` bits, 1 to 6, whose cells are all this one.
+    ///
+    /// # Errors
+    ///
+    /// For want of memory; the graph is then as before.
     pub fn fill(&mut self, index: u32, cell: Id) -> Result<Id, Memory>
         requires cell { cell < length self.old }
         requires index { IsTrue (is_index index) }
@@ -311,6 +339,10 @@ impl Terms {
     }
 
     /// The bits `high` down to `low` of a word.
+    ///
+    /// # Errors
+    ///
+    /// For want of memory; the graph is then as before.
     pub fn slice(&mut self, a: Id, high: u32, low: u32) -> Result<Id, Memory>
         requires a { a < length self.old }
         requires fits { IsSome (slice_sort (sort_at self.old a) high low) }
@@ -328,6 +360,10 @@ impl Terms {
     }
 
     /// A word with zeros above, up to a width of at most 32.
+    ///
+    /// # Errors
+    ///
+    /// For want of memory; the graph is then as before.
     pub fn widen(&mut self, a: Id, width: u32) -> Result<Id, Memory>
         requires a { a < length self.old }
         requires fits { IsSome (widen_sort (sort_at self.old a) width) }
@@ -345,6 +381,10 @@ impl Terms {
     }
 
     /// The bits of the first word above those of the second; their widths sum to at most 32.
+    ///
+    /// # Errors
+    ///
+    /// For want of memory; the graph is then as before.
     pub fn join(&mut self, a: Id, b: Id) -> Result<Id, Memory>
         requires a { a < length self.old }
         requires b { b < length self.old }

@@ -3,7 +3,8 @@ ghost use Rattle.std.specs.Prelude.{◌≡◌, ◌≤◌, map, IsTrue, IfOk, IfS
 ghost use Rattle.civl_tree.specs.declared.expr.Sort.{Sort};
 ghost use Rattle.civl_values.specs.Values.{is_sort};
 ghost use Rattle.civl_terms.specs.Graphs.{sort_at};
-ghost use Rattle.civl_tree.specs.rules.Refusals.{BreaksNone};
+ghost use Rattle.civl_tree.specs.rules.Rules.{Keeps};
+ghost use Rattle.civl_tree.specs.rules.Typing.{typing_rules};
 ghost use Rattle.civl_actions.specs.Scopes.{AreOf};
 
 use crate::measuring::{has_sort, pair, variable};
@@ -115,7 +116,7 @@ fn variables(
 
 /// The program that a text spells, which keeps the static rules.
 fn program(alloc: Alloc, text: &str) -> Result<Option<Program>, Fail>
-    ensures { IfOk result (λ found. IfSome found BreaksNone) }
+    ensures { IfOk result (λ found. IfSome found (Keeps typing_rules)) }
 {
     let bytes = text.as_bytes();
     if bytes.len() > 1_048_576 {
@@ -133,7 +134,7 @@ fn terms_of_action(
     terms: &mut Terms,
     program: &Program,
 ) -> Result<Option<Instance>, Memory>
-    requires { BreaksNone program.now }
+    requires { Keeps typing_rules program.now }
 {
     if program.actions.len() == 0 {
         return Ok(None);
@@ -240,7 +241,7 @@ fn agree(
 /// The first number with whose bits the terms and the action disagree, and at how many numbers below it the action moves; nothing
 /// where the program has no action of these sorts.
 fn first_difference(alloc: Alloc, program: &Program) -> Result<Option<(u32, u32)>, Fail>
-    requires { BreaksNone program.now }
+    requires { Keeps typing_rules program.now }
 {
     let mut terms = Terms::new(alloc);
     let Some(made) = terms_of_action(alloc, &mut terms, program)? else {

@@ -10,11 +10,15 @@ mod instances;
 #[cfg(test)]
 mod measuring;
 #[cfg(test)]
+mod parsing;
+#[cfg(test)]
 mod replays;
 #[cfg(test)]
 mod rows;
 #[cfg(test)]
 mod schedules;
+#[cfg(test)]
+mod scripts;
 #[cfg(test)]
 mod slips;
 #[cfg(test)]

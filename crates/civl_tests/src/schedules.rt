@@ -1,11 +1,13 @@
 // A program that is accepted though its lowest program may fail: its topmost one may too. Both schedules are replayed by
-// steps.
+// steps, and a thread's frames are looked at before and inside a call.
 
 use crate::texts::run;
 use civl_bits::Value;
 use civl_command::Status;
 use civl_lex::tokens;
-use civl_meaning::{Move, Plain, Stepped, Store, copy_config, failing, same, start, step};
+use civl_meaning::{
+    Config, Move, Plain, Stepped, Store, copy_config, depth, failing, frame, same, start, step,
+};
 use civl_parser::parse;
 use civl_tree::List;
 use std::alloc::Global;
@@ -33,23 +35,35 @@ fn plain(alloc: Global, bodies: bool) -> Result<Plain, Fail> {
     Ok(Plain { program, bodies })
 }
 
-/// Whether the moves of these threads run from the store in which the flag is set to a configuration in which this
-/// thread is the first that fails, and to none that fails before. So it is in a copy of the configuration.
-fn fails_after(alloc: Global, plain: &Plain, moves: &[u32], wanted: u32) -> Result<bool, Fail> {
+/// The start of the program, with the flag set.
+fn with_flag(alloc: Global, plain: &Plain) -> Result<Config, Fail> {
     let store = Store {
         values: List::from_vec([Value::Bool(true)].to_vec(alloc)?),
     };
-    let mut config = start(alloc, plain, &store)?;
-    for thread in moves {
+    let config = start(alloc, plain, &store)?;
+    Ok(config)
+}
+
+/// Whether the thread moves.
+fn moves(alloc: Global, config: &mut Config, plain: &Plain, thread: u32) -> Result<bool, Fail> {
+    let chosen = Move {
+        thread,
+        choices: List::new(alloc),
+    };
+    let stepped = step(alloc, config, plain, &chosen)?;
+    Ok(stepped == Stepped::Moved)
+}
+
+/// Whether the moves of these threads run from the store in which the flag is set to a configuration in which this
+/// thread is the first that fails, and to none that fails before. So it is in a copy of the configuration.
+fn fails_after(alloc: Global, plain: &Plain, threads: &[u32], wanted: u32) -> Result<bool, Fail> {
+    let mut config = with_flag(alloc, plain)?;
+    for thread in threads {
         if config.threads.len() != 2 || failing(&config, plain).is_some() {
             return Ok(false);
         }
-        let chosen = Move {
-            thread: *thread,
-            choices: List::new(alloc),
-        };
-        let stepped = step(alloc, &mut config, plain, &chosen)?;
-        if stepped != Stepped::Moved {
+        let moved = moves(alloc, &mut config, plain, *thread)?;
+        if !moved {
             return Ok(false);
         }
     }
@@ -69,9 +83,9 @@ fn is_accepted(alloc: Global) -> Result<bool, Fail> {
 }
 
 /// Whether the moves lead to a failure in the program with these bodies.
-fn fails_with(alloc: Global, bodies: bool, moves: &[u32]) -> Result<bool, Fail> {
+fn fails_with(alloc: Global, bodies: bool, threads: &[u32]) -> Result<bool, Fail> {
     let plain = plain(alloc, bodies)?;
-    let fails = fails_after(alloc, &plain, moves, 0)?;
+    let fails = fails_after(alloc, &plain, threads, 0)?;
     Ok(fails)
 }
 
@@ -85,5 +99,55 @@ fn both_programs_fail(rt: HostRuntime) -> Result<(), Fail> {
     // AtomClear clears the flag: the other thread stands before AtomSet, whose gate is false.
     let topmost_fails = fails_with(rt.alloc(), false, &[1])?;
     assert!(rt; topmost_fails);
+    Ok(())
+}
+
+/// Whether the first thread's frames, from the first to the last, have so many statements left.
+fn has_left(alloc: Global, config: &Config, plain: &Plain, wanted: &[usize]) -> Result<bool, Fail> {
+    if config.threads.is_empty() || depth(config, 0) != wanted.len() {
+        return Ok(false);
+    }
+    for at in 0..wanted.len() {
+        let frame = frame(alloc, config, plain, 0, at)?;
+        if frame.rest.len() != wanted[at] {
+            return Ok(false);
+        }
+    }
+    Ok(true)
+}
+
+/// Whether the first thread moves and then has so many statements left in its frames.
+fn moves_and_has_left(
+    alloc: Global,
+    config: &mut Config,
+    plain: &Plain,
+    wanted: &[usize],
+) -> Result<bool, Fail> {
+    let moved = moves(alloc, config, plain, 0)?;
+    let left = has_left(alloc, config, plain, wanted)?;
+    Ok(moved && left)
+}
+
+/// The thread has yet to call DoSet. Then it waits in this call, and DoSet has the call of Set and a commit left; then the
+/// commit alone.
+fn has_frames(alloc: Global, config: &mut Config, plain: &Plain) -> Result<bool, Fail> {
+    let before = has_left(alloc, config, plain, &[1])?;
+    let inside = moves_and_has_left(alloc, config, plain, &[1, 2])?;
+    let after = moves_and_has_left(alloc, config, plain, &[1, 1])?;
+    Ok(before && inside && after)
+}
+
+/// Whether a run from the store in which the flag is set has these frames.
+fn has_frames_with_flag(alloc: Global, plain: &Plain) -> Result<bool, Fail> {
+    let mut config = with_flag(alloc, plain)?;
+    let has = has_frames(alloc, &mut config, plain)?;
+    Ok(has)
+}
+
+#[test]
+fn frames_before_and_inside_a_call(rt: HostRuntime) -> Result<(), Fail> {
+    let plain = plain(rt.alloc(), true)?;
+    let has = has_frames_with_flag(rt.alloc(), &plain)?;
+    assert!(rt; has);
     Ok(())
 }

@@ -1,8 +1,12 @@
 pub mod Trees
-pub mod Preorder
-pub mod Raising
 pub mod Numbers
-pub mod Items
 pub mod Standing
+pub mod Raising
 pub mod Layers
+pub mod Preorder
+pub mod Items
+pub mod Pairs
+pub mod Placed
+pub mod Ordered
 pub mod First
+pub mod Kept

@@ -165,7 +165,7 @@ items_grow new p =
     (both _ _ _ _ (each (allows_proc new) (allows_proc true) (proc_grows new) p.procs)
     (each (allows_thread new) (allows_thread true) (thread_grows new) p.threads)))))
 
-raised_by : (first : Bool) (p : Program) → HasSpelling p → HasSpelling (if first then record p { version = 2 } else p)
+raised_by : (first : Bool) (p : Program) → HasSpelling p → HasSpelling (record p { version = if first then 2 else p.version })
 raised_by true p h = items_grow (p.version == 2) p h
 raised_by false p h = h
 

@@ -1,6 +1,7 @@
 pub mod formers
 pub mod Token
 pub mod Numbering
+pub mod Numbered
 pub mod Spelling
 pub mod SpellingStmt
 pub mod SpellingProgram

@@ -1,7 +1,11 @@
 -- The version in which a program is printed.
-use Rattle.std.specs.Prelude.{◌==◌, if◌then◌else◌}
+use Rattle.std.specs.Prelude.{ℕ, ◌==◌, if◌then◌else◌}
 use Rattle.civl_tree.specs.declared.program.Program.{Program}
 
--- the program with version 2 where it has version 1; any other program as it is
+-- version 2 in place of version 1; any other version as it is
+abbrev pub raised_version : ℕ → ℕ
+raised_version version = if version == 1 then 2 else version
+
+-- the program in that version, with nothing else changed
 abbrev pub raised : Program → Program
-raised program = if program.version == 1 then record program { version = 2 } else program
+raised program = record program { version = raised_version program.version }

@@ -1,5 +1,5 @@
 -- The spelling of declarations and programs: from the tree to the tokens, by the grammar.
-use Rattle.std.specs.Prelude.{if◌then◌else◌, Option, None, Some, List, [], ◌∷◌, ◌++◌, map, codes}
+use Rattle.std.specs.Prelude.{Bool, if◌then◌else◌, Option, None, Some, List, [], ◌∷◌, ◌++◌, map, codes}
 use Rattle.civl_tree.specs.declared.expr.Expr.{Expr}
 use Rattle.civl_tree.specs.declared.action.Mode.{Mode}
 use Rattle.civl_tree.specs.declared.action.Mode.TheVariants.{Val, Lend, Take, Give}
@@ -83,10 +83,13 @@ spell_rank_of (Some refines) =
     Reserved (codes "refines") ∷ name_token refines.action ∷ Reserved (codes "with") ∷ enclosed spell_expr refines.with
     ++ Reserved (codes "layer") ∷ Number refines.layer ∷ []
 
+-- var, or linear
+abbrev pub local_token : Bool → Token
+local_token linear = if linear then Reserved (codes "linear") else Reserved (codes "var")
+
 -- local = var name : sort ; | linear name : sort ;
 abbrev pub spell_local : Local → List Token
-spell_local local =
-    (if local.linear then Reserved (codes "linear") else Reserved (codes "var")) ∷ name_token local.name ∷ colon ∷ spell_sort local.sort ++ semicolon ∷ []
+spell_local local = local_token local.linear ∷ name_token local.name ∷ colon ∷ spell_sort local.sort ++ semicolon ∷ []
 
 -- proc = proc name ( list(param) ) -> ( list(out) ) rank_of { local* stmt* }
 abbrev pub spell_proc : Proc → List Token

@@ -48,14 +48,14 @@ is_reserved bytes = list_any (bytes_eq bytes) reserved_words
 abbrev pub is_sign : List ℕ → Bool
 is_sign bytes = list_any (bytes_eq bytes) signs
 
--- a letter or `_`, followed by letters, digits and `_`
-abbrev pub is_word : List ℕ → Bool
-is_word [] = false
-is_word (byte ∷ bytes) = begins_name byte && list_all is_name_byte bytes
+-- the form of a name or of a reserved word: a letter or `_`, followed by letters, digits and `_`
+abbrev pub is_identifier : List ℕ → Bool
+is_identifier [] = false
+is_identifier (byte ∷ bytes) = begins_name byte && list_all is_name_byte bytes
 
--- a word that isn't reserved
+-- an identifier that isn't reserved
 abbrev pub is_name : List ℕ → Bool
-is_name bytes = is_word bytes && not (is_reserved bytes)
+is_name bytes = is_identifier bytes && not (is_reserved bytes)
 
 -- the token may stand in a text: a name that isn't reserved, a reserved word, a sign, a number of 32 bits
 abbrev pub IsToken : Token → Type 0

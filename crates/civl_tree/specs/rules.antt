@@ -3,6 +3,8 @@ pub mod Scopes
 pub mod Sorts
 pub mod Exprs
 pub mod Uses
+pub mod Codes
+pub mod Rules
 pub mod Twice
 pub mod Unknown
 pub mod Count
@@ -12,6 +14,5 @@ pub mod Index
 pub mod Arity
 pub mod StoreSize
 pub mod Signature
-pub mod Places
-pub mod Refusals
+pub mod Typing
 pub mod Broken

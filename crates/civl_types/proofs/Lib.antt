@@ -5,7 +5,7 @@ pub mod NameKeys
 pub mod Repeats
 pub mod Slots
 pub mod Powers
-pub mod Walking
-pub mod Procs
+pub mod Answering
+pub mod Telling
 pub mod Declaring
 pub mod Declares

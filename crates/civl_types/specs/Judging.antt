@@ -1,4 +1,4 @@
--- The sort of an expression and whether its widths fit, found together.
+-- Serves private functions: the sort of an expression and whether its widths fit, found together.
 use Rattle.std.specs.Prelude.{ℕ, true, ◌&&◌, Some}
 use Rattle.civl_tree.specs.declared.expr.Sort.TheVariants.{Bool as Truth, Word}
 use Rattle.civl_tree.specs.declared.expr.One.{One}

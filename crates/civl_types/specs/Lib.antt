@@ -2,6 +2,4 @@ pub mod Views
 pub mod Judging
 pub mod NameSets
 pub mod Rules
-pub mod Walks
-pub mod Numbered
 pub mod Checked

@@ -1,9 +1,11 @@
--- Sets of names.
-use Rattle.std.specs.Prelude.{◌≡◌, ◌||◌, Bool, true, false, Option, None, Some, List, [], ◌∷◌, ◌++◌, map, if◌then◌else◌}
+-- Serves private functions: sets of names.
+use Rattle.std.specs.Prelude.{ℕ, ◌≡◌, ◌||◌, Bool, true, false, Option, None, Some, List, [], ◌∷◌, ◌++◌, map, if◌then◌else◌}
 use Rattle.std.specs.List.{list_any}
 use Rattle.civl_tree.specs.declared.name.Name.{Name}
 use Rattle.civl_tree.specs.declared.refusal.Refusal.{Refusal}
 use Rattle.civl_tree.specs.rules.Names.{has_name, any_twice}
+use Rattle.civl_tree.specs.rules.Codes.{E10}
+use Rattle.civl_tree.specs.rules.Rules.{Place, each_place, refusal_at, first_of}
 use Rattle.civl_types.specs.declared.name_set.NameSet.{NameSet}
 
 -- the names in a set, each once, in the order in which they were added
@@ -22,6 +24,10 @@ IsAdded false names added new = (any_twice (names ++ added) ≡ false) × (new �
 -- names that a declaration declares: one stands twice, or is among those of the globals
 abbrev pub declared_in : List Name → List Name → Bool
 declared_in globals names = any_twice names || list_any (has_name globals) names
+
+-- the first of these items in which a name stands twice, where the first has this place among them
+abbrev pub first_twice : {A : Type 0} → (ℕ → A → List Place) → ℕ → List A → Option Refusal
+first_twice places_in place items = first_of (map (refusal_at E10) (each_place places_in place items))
 
 -- what comes of declaring items one by one: the answer is the wanted one, and where nothing is refused the set has
 -- their names

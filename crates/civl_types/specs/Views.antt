@@ -1,4 +1,4 @@
--- What the code hands on in place of a scope or a signature.
+-- What the code hands on in place of a scope, which serves private functions alone, or of a signature.
 use Rattle.std.specs.Prelude.{Option, None, Some}
 use Rattle.civl_tree.specs.rules.Names.{Signature}
 use Rattle.civl_types.specs.declared.names.Signature.{Signature as Lent}

@@ -3,15 +3,15 @@ ghost use Rattle.std.specs.Prelude.{◌≡◌, ◌||◌, length, not, nat_eq, op
 ghost use Rattle.std.specs.List.{list_any};
 ghost use Rattle.civl_tree.specs.rules.Names.{has_name, param_names, targets_of, action_named, callee_signature};
 ghost use Rattle.civl_tree.specs.rules.Arity.{differs_in_length, action_arity, with_arity, refines_arity, call_arity, thread_arity, stmt_arity};
-ghost use Rattle.civl_tree.specs.rules.Sorted.{results_missorted, layer_missorted, stmt_missorted};
+ghost use Rattle.civl_tree.specs.rules.Sorted.{results_missorted, form_missorted, stmt_missorted};
 ghost use Rattle.civl_tree.specs.rules.Uses.{given_sorts, param_sorts, serves, place_sort, Only as OnlySort};
 ghost use Rattle.civl_tree.specs.declared.stmt.Stmt.{out-Stmt};
-ghost use Rattle.civl_types.specs.Rules.{code_of, any_use};
+ghost use Rattle.civl_types.specs.Rules.{any_use};
 ghost use Rattle.civl_types.specs.Views.{signature_of};
 
 use crate::named::is_named;
 use crate::names::{Signature, action_named, callee_signature, proc_named};
-use crate::rule::Rule;
+use crate::rule::TypingRule;
 use crate::sorts::same_sort;
 use crate::uses::stmt_uses_break;
 use crate::view::place_sort;
@@ -127,8 +127,8 @@ fn call_missorted(proc: &Proc, results: &List<Name>, signature: Option<Signature
 }
 
 /// Whether a result of a statement breaks E21.
-fn layer_missorted(program: &Program, proc: &Proc, stmt: &Stmt) -> bool
-    ensures { result ≡ layer_missorted program.now proc.now (out-Stmt stmt.now) }
+fn form_missorted(program: &Program, proc: &Proc, stmt: &Stmt) -> bool
+    ensures { result ≡ form_missorted program.now proc.now (out-Stmt stmt.now) }
 {
     match stmt {
         Stmt::Call(callee, _, results) => call_missorted(
@@ -150,5 +150,5 @@ fn layer_missorted(program: &Program, proc: &Proc, stmt: &Stmt) -> bool
 pub(crate) fn stmt_missorted(program: &Program, proc: &Proc, stmt: &Stmt) -> bool
     ensures { result ≡ stmt_missorted program.now proc.now stmt.now }
 {
-    stmt_uses_break(Rule::Sorts, program, proc, stmt) || layer_missorted(program, proc, stmt)
+    stmt_uses_break(TypingRule::Sorts, program, proc, stmt) || form_missorted(program, proc, stmt)
 }

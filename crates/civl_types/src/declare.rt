@@ -1,20 +1,20 @@
 // The first place at which a name stands twice, and the sets of the names that are declared.
-ghost use Rattle.std.specs.Prelude.{◌≡◌, ◌+◌, ◌<◌, ◌^◌, ◌++◌, ◌∷◌, [], take, length, IfOk};
+ghost use Rattle.std.specs.Prelude.{◌≡◌, ◌+◌, ◌<◌, ◌^◌, ◌++◌, ◌∷◌, [], map, take, length, IfOk};
 ghost use Rattle.civl_tree.specs.Numbering.{statements_of};
 ghost use Rattle.civl_tree.specs.rules.Names.{global_names, action_names, proc_names};
-ghost use Rattle.civl_tree.specs.rules.Places.{E10};
-ghost use Rattle.civl_tree.specs.rules.Refusals.{broken_at, each_from, global_refusals, action_refusals, proc_refusals, refusals_of, first_of};
-ghost use Rattle.civl_types.specs.NameSets.{names_in, Declares};
-ghost use Rattle.civl_types.specs.Numbered.{IsNumbered};
+ghost use Rattle.civl_tree.specs.rules.Codes.{E10};
+ghost use Rattle.civl_tree.specs.rules.Rules.{global_places, action_places, proc_places, refusal_at, refusals_of, first_of};
+ghost use Rattle.civl_tree.specs.rules.Typing.{twice_rule};
+ghost use Rattle.civl_tree.specs.Numbered.{IsNumbered};
+ghost use Rattle.civl_types.specs.NameSets.{names_in, first_twice, Declares};
 
 use crate::name_set::NameSet;
-use crate::twice::{action_twice, proc_twice, walk_results};
-use crate::walk::Walk;
+use crate::twice::{action_twice, first_doubled, proc_twice};
 use civl_tree::{Action, Memory, Proc, Program, Refusal};
 use std::alloc::Global;
 
 fn twice_at(item: u32, statement: u32) -> Refusal
-    ensures { result ≡ broken_at E10 item statement }
+    ensures { result ≡ refusal_at E10 (record { item = item; statement = statement }) }
 {
     Refusal {
         code: 10,
@@ -31,7 +31,7 @@ fn declare_globals<'a>(
 ) -> Result<Option<Refusal>, Memory>
     requires numbered { IsNumbered program.now }
     requires empty { names_in globals.old ≡ [] }
-    ensures { IfOk result (λ first. Declares first (first_of (each_from (global_refusals E10 program.now) 0 program.now.globals)) (global_names program.now.globals) (names_in globals.new)) }
+    ensures { IfOk result (λ first. Declares first (first_twice (global_places twice_rule program.now) 0 program.now.globals) (global_names program.now.globals) (names_in globals.new)) }
 {
     let items = program.globals.as_slice();
     for (place, global) in items.iter().enumerate() {
@@ -43,7 +43,6 @@ fn declare_globals<'a>(
 }
 
 /// The refusal of an action, where these are the names of the globals and of the actions before it.
-#[tactic(auto, unfolding(civl_tree::specs::rules::Refusals::action_refusals, civl_tree::specs::rules::Places::action_breaks))]
 fn action_refusal(
     alloc: Global,
     program: &Program,
@@ -56,7 +55,7 @@ fn action_refusal(
     requires place { place < length program.now.actions }
     requires globals { names_in globals.now ≡ global_names program.now.globals }
     requires actions { names_in actions.now ≡ action_names (take place program.now.actions) }
-    ensures { IfOk result (λ first. first ≡ first_of (action_refusals E10 program.now place action.now)) }
+    ensures { IfOk result (λ first. first ≡ first_of (map (refusal_at E10) (action_places twice_rule program.now place action.now))) }
 {
     let item = (program.globals.len() + 1 + program.invariants.len() + place) as u32;
     if action_twice(alloc, globals, actions, action)? {
@@ -76,7 +75,7 @@ fn declare_actions<'a>(
     requires numbered { IsNumbered program.now }
     requires globals { names_in globals.now ≡ global_names program.now.globals }
     requires empty { names_in actions.old ≡ [] }
-    ensures { IfOk result (λ first. Declares first (first_of (each_from (action_refusals E10 program.now) 0 program.now.actions)) (action_names program.now.actions) (names_in actions.new)) }
+    ensures { IfOk result (λ first. Declares first (first_twice (action_places twice_rule program.now) 0 program.now.actions) (action_names program.now.actions) (names_in actions.new)) }
 {
     let items = program.actions.as_slice();
     for (place, action) in items.iter().enumerate() {
@@ -90,7 +89,7 @@ fn declare_actions<'a>(
 
 /// The refusal of a procedure: of itself, where these are the names of the globals, the actions and the procedures
 /// before it, or of the first call that names a result twice.
-#[tactic(auto, using(crate::proofs::Procs::of_calls), unfolding(civl_tree::specs::rules::Refusals::proc_refusals, civl_tree::specs::rules::Places::proc_breaks))]
+#[tactic(auto, using(civl_walks::proofs::Placing::of_procs))]
 fn proc_refusal(
     alloc: Global,
     program: &Program,
@@ -106,7 +105,7 @@ fn proc_refusal(
     requires globals { names_in globals.now ≡ global_names program.now.globals }
     requires actions { names_in actions.now ≡ action_names program.now.actions }
     requires procs { names_in procs.now ≡ proc_names (take place program.now.procs) }
-    ensures { IfOk result (λ first. first ≡ first_of (proc_refusals E10 program.now place proc.now)) }
+    ensures { IfOk result (λ first. first ≡ first_of (map (refusal_at E10) (proc_places twice_rule program.now place proc.now))) }
 {
     let item = (program.globals.len()
         + 1
@@ -116,9 +115,9 @@ fn proc_refusal(
     if proc_twice(alloc, globals, actions, procs, proc)? {
         return Ok(Some(twice_at(item, 0)));
     }
-    match walk_results(alloc, &proc.body, 0)? {
-        Walk::Broken(statement) => Ok(Some(twice_at(item, statement))),
-        Walk::Next(_) => Ok(None),
+    match first_doubled(alloc, &proc.body)? {
+        Some(statement) => Ok(Some(twice_at(item, statement))),
+        None => Ok(None),
     }
 }
 
@@ -134,7 +133,7 @@ fn declare_procs<'a>(
     requires globals { names_in globals.now ≡ global_names program.now.globals }
     requires actions { names_in actions.now ≡ action_names program.now.actions }
     requires empty { names_in procs.old ≡ [] }
-    ensures { IfOk result (λ first. Declares first (first_of (each_from (proc_refusals E10 program.now) 0 program.now.procs)) (proc_names program.now.procs) (names_in procs.new)) }
+    ensures { IfOk result (λ first. Declares first (first_twice (proc_places twice_rule program.now) 0 program.now.procs) (proc_names program.now.procs) (names_in procs.new)) }
 {
     let items = program.procs.as_slice();
     for (place, proc) in items.iter().enumerate() {
@@ -147,10 +146,10 @@ fn declare_procs<'a>(
 }
 
 /// The refusal of the first place at which E10 is broken.
-#[tactic(auto, using(crate::proofs::Procs::of_twice), unfolding(civl_tree::specs::rules::Refusals::refusals_of, civl_tree::specs::rules::Places::header_breaks, civl_tree::specs::rules::Places::init_breaks))]
+#[tactic(auto, using(crate::proofs::Answering::of_twice))]
 pub(crate) fn first_twice(alloc: Global, program: &Program) -> Result<Option<Refusal>, Memory>
     requires { IsNumbered program.now }
-    ensures { IfOk result (λ first. first ≡ first_of (refusals_of E10 program.now)) }
+    ensures { IfOk result (λ first. first ≡ first_of (refusals_of twice_rule program.now)) }
 {
     let mut globals = NameSet::new(alloc);
     if let Some(refusal) = declare_globals(&mut globals, program)? {

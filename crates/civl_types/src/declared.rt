@@ -7,7 +7,7 @@ ghost use Rattle.civl_tree.specs.rules.Width.{sort_width_fits, global_width, is_
 ghost use Rattle.civl_tree.specs.rules.Index.{sort_index, action_index, proc_index};
 
 use crate::exprs::{is_index, is_width, power};
-use crate::rule::Rule;
+use crate::rule::TypingRule;
 use crate::uses::{action_uses_break, with_uses_break};
 use civl_tree::{Action, Choice, Global, Local, Mode, Param, Proc, Program, Sort};
 
@@ -99,7 +99,7 @@ pub(crate) fn action_width(program: &Program, action: &Action) -> bool
     params_width(program, action.params.as_slice())
         || params_width(program, action.outs.as_slice())
         || choices_width(action.choices.as_slice())
-        || action_uses_break(Rule::Width, program, action)
+        || action_uses_break(TypingRule::Width, program, action)
 }
 
 /// Whether a procedure breaks E20, outside its statements.
@@ -110,7 +110,7 @@ pub(crate) fn proc_width(program: &Program, proc: &Proc) -> bool
     params_width(program, proc.params.as_slice())
         || params_width(program, proc.outs.as_slice())
         || locals_width(program, proc.locals.as_slice())
-        || with_uses_break(Rule::Width, program, proc)
+        || with_uses_break(TypingRule::Width, program, proc)
 }
 
 /// Whether a sort is that of a row whose index is out of range.
@@ -149,7 +149,7 @@ pub(crate) fn action_index(program: &Program, action: &Action) -> bool
     params_index(action.params.as_slice())
         || params_index(action.outs.as_slice())
         || choices_index(action.choices.as_slice())
-        || action_uses_break(Rule::Index, program, action)
+        || action_uses_break(TypingRule::Index, program, action)
 }
 
 /// Whether a procedure breaks E22, outside its statements.
@@ -160,5 +160,5 @@ pub(crate) fn proc_index(program: &Program, proc: &Proc) -> bool
     params_index(proc.params.as_slice())
         || params_index(proc.outs.as_slice())
         || locals_index(proc.locals.as_slice())
-        || with_uses_break(Rule::Index, program, proc)
+        || with_uses_break(TypingRule::Index, program, proc)
 }

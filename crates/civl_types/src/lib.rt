@@ -8,8 +8,6 @@ mod count;
 mod declare;
 mod declared;
 mod exprs;
-mod first;
-mod items;
 mod name_set;
 mod named;
 pub mod names;
@@ -21,7 +19,6 @@ mod typed;
 mod unknown;
 mod uses;
 mod view;
-mod walk;
 
 pub use answer::{check, into_program, refusal};
 pub use typed::Typed;

@@ -1,7 +1,6 @@
 // Whether a part of a program breaks a rule.
-ghost use Rattle.std.specs.Prelude.{◌≡◌, ◌≤◌, ◌<◌, length};
-ghost use Rattle.civl_tree.specs.rules.Places.{header_breaks, global_breaks, init_breaks, invariant_breaks, action_breaks, proc_breaks, stmt_breaks, thread_breaks};
-ghost use Rattle.civl_types.specs.Rules.{code_of};
+ghost use Rattle.std.specs.Prelude.{◌≡◌};
+ghost use Rattle.civl_types.specs.Rules.{rule_of, stmt_breaks};
 
 use crate::arity::{action_arity, refines_arity, stmt_arity, stmt_missorted, thread_arity};
 use crate::count::{
@@ -12,127 +11,138 @@ use crate::declared::{
     action_index, action_width, global_width, proc_index, proc_width, sort_index,
 };
 use crate::names::proc_named;
-use crate::rule::Rule;
+use crate::rule::TypingRule;
 use crate::unknown::{action_unknown, proc_unknown, stmt_unknown, thread_unknown};
 use crate::uses::{
     action_uses_break, init_uses_break, invariant_uses_break, stmt_uses_break, thread_uses_break,
     with_uses_break,
 };
 use civl_tree::{Action, Global, Invariant, Proc, Program, Stmt, Thread};
+use civl_walks::{Decides, Test, first_in_body};
 
-#[tactic(auto, unfolding(civl_tree::specs::rules::Places::header_breaks))]
-pub(crate) fn header_breaks(rule: Rule, program: &Program) -> bool
-    ensures { result ≡ header_breaks (code_of rule) program.now }
-{
-    match rule {
-        Rule::Count => header_count(program),
-        Rule::Unknown | Rule::Width | Rule::Sorts | Rule::Index | Rule::Arity | Rule::StoreSize =>
-            false,
+/// What a rule asks of a statement of a procedure.
+#[derive(Clone, Copy)]
+struct OfStatement<'a> {
+    rule: TypingRule,
+    program: &'a Program,
+    proc: &'a Proc,
+}
+
+impl<'a> Test for OfStatement<'a> {
+    ghost breaks = { λ asked stmt. stmt_breaks asked.rule asked.program.now asked.proc.now stmt };
+
+    fn breaks(&self, stmt: &Stmt) -> bool {
+        match self.rule {
+            TypingRule::Unknown => stmt_unknown(self.program, self.proc, stmt),
+            TypingRule::Width => stmt_uses_break(TypingRule::Width, self.program, self.proc, stmt),
+            TypingRule::Sorts => stmt_missorted(self.program, self.proc, stmt),
+            TypingRule::Index => stmt_uses_break(TypingRule::Index, self.program, self.proc, stmt),
+            TypingRule::Arity => stmt_arity(self.program, stmt),
+            TypingRule::Count | TypingRule::StoreSize => false,
+        }
     }
 }
 
-#[tactic(auto, unfolding(civl_tree::specs::rules::Places::global_breaks))]
-pub(crate) fn global_breaks(rule: Rule, program: &Program, place: usize, global: &Global) -> bool
-    requires { place ≤ length program.now.globals }
-    ensures { result ≡ global_breaks (code_of rule) program.now place global.now }
-{
-    match rule {
-        Rule::Count => passes_limit(GLOBALS, place),
-        Rule::Width => global_width(program, global),
-        Rule::Index => sort_index(global.sort),
-        Rule::StoreSize => global_store_size(program, place, global),
-        Rule::Unknown | Rule::Sorts | Rule::Arity => false,
-    }
-}
+impl Decides for TypingRule {
+    ghost rule = { rule_of };
 
-#[tactic(auto, unfolding(civl_tree::specs::rules::Places::init_breaks))]
-pub(crate) fn init_breaks(rule: Rule, program: &Program) -> bool
-    ensures { result ≡ init_breaks (code_of rule) program.now }
-{
-    match rule {
-        Rule::Unknown => init_uses_break(Rule::Unknown, program),
-        Rule::Width => init_uses_break(Rule::Width, program),
-        Rule::Sorts => init_uses_break(Rule::Sorts, program),
-        Rule::Index => init_uses_break(Rule::Index, program),
-        Rule::Count | Rule::Arity | Rule::StoreSize => false,
+    fn code(&self) -> u32 {
+        match *self {
+            TypingRule::Unknown => 11,
+            TypingRule::Count => 12,
+            TypingRule::Width => 20,
+            TypingRule::Sorts => 21,
+            TypingRule::Index => 22,
+            TypingRule::Arity => 23,
+            TypingRule::StoreSize => 24,
+        }
     }
-}
 
-#[tactic(auto, unfolding(civl_tree::specs::rules::Places::invariant_breaks))]
-pub(crate) fn invariant_breaks(
-    rule: Rule,
-    program: &Program,
-    place: usize,
-    invariant: &Invariant,
-) -> bool
-    ensures { result ≡ invariant_breaks (code_of rule) program.now place invariant.now }
-{
-    match rule {
-        Rule::Unknown => invariant_uses_break(Rule::Unknown, program, invariant),
-        Rule::Count => passes_limit(INVARIANTS, place),
-        Rule::Width => invariant_uses_break(Rule::Width, program, invariant),
-        Rule::Sorts => invariant_uses_break(Rule::Sorts, program, invariant),
-        Rule::Index => invariant_uses_break(Rule::Index, program, invariant),
-        Rule::Arity | Rule::StoreSize => false,
+    fn header(&self, program: &Program) -> bool {
+        match *self {
+            TypingRule::Count => header_count(program),
+            TypingRule::Unknown
+            | TypingRule::Width
+            | TypingRule::Sorts
+            | TypingRule::Index
+            | TypingRule::Arity
+            | TypingRule::StoreSize => false,
+        }
     }
-}
 
-#[tactic(auto, unfolding(civl_tree::specs::rules::Places::action_breaks))]
-pub(crate) fn action_breaks(rule: Rule, program: &Program, place: usize, action: &Action) -> bool
-    ensures { result ≡ action_breaks (code_of rule) program.now place action.now }
-{
-    match rule {
-        Rule::Unknown => action_unknown(program, action),
-        Rule::Count => action_count(place, action),
-        Rule::Width => action_width(program, action),
-        Rule::Sorts => action_uses_break(Rule::Sorts, program, action),
-        Rule::Index => action_index(program, action),
-        Rule::Arity => action_arity(action),
-        Rule::StoreSize => false,
+    fn global(&self, program: &Program, place: usize, global: &Global) -> bool {
+        match *self {
+            TypingRule::Count => passes_limit(GLOBALS, place),
+            TypingRule::Width => global_width(program, global),
+            TypingRule::Index => sort_index(global.sort),
+            TypingRule::StoreSize => global_store_size(program, place, global),
+            TypingRule::Unknown | TypingRule::Sorts | TypingRule::Arity => false,
+        }
     }
-}
 
-#[tactic(auto, unfolding(civl_tree::specs::rules::Places::proc_breaks))]
-pub(crate) fn proc_breaks(rule: Rule, program: &Program, place: usize, proc: &Proc) -> bool
-    requires { place ≤ length program.now.procs }
-    ensures { result ≡ proc_breaks (code_of rule) program.now place proc.now }
-{
-    match rule {
-        Rule::Unknown => proc_unknown(program, proc),
-        Rule::Count => proc_count(program, place, proc),
-        Rule::Width => proc_width(program, proc),
-        Rule::Sorts => with_uses_break(Rule::Sorts, program, proc),
-        Rule::Index => proc_index(program, proc),
-        Rule::Arity => refines_arity(program, proc),
-        Rule::StoreSize => false,
+    fn init(&self, program: &Program) -> bool {
+        match *self {
+            TypingRule::Unknown => init_uses_break(TypingRule::Unknown, program),
+            TypingRule::Width => init_uses_break(TypingRule::Width, program),
+            TypingRule::Sorts => init_uses_break(TypingRule::Sorts, program),
+            TypingRule::Index => init_uses_break(TypingRule::Index, program),
+            TypingRule::Count | TypingRule::Arity | TypingRule::StoreSize => false,
+        }
     }
-}
 
-#[tactic(auto, unfolding(civl_tree::specs::rules::Places::stmt_breaks))]
-pub(crate) fn stmt_breaks(rule: Rule, program: &Program, proc: &Proc, stmt: &Stmt) -> bool
-    ensures { result ≡ stmt_breaks (code_of rule) program.now proc.now stmt.now }
-{
-    match rule {
-        Rule::Unknown => stmt_unknown(program, proc, stmt),
-        Rule::Width => stmt_uses_break(Rule::Width, program, proc, stmt),
-        Rule::Sorts => stmt_missorted(program, proc, stmt),
-        Rule::Index => stmt_uses_break(Rule::Index, program, proc, stmt),
-        Rule::Arity => stmt_arity(program, stmt),
-        Rule::Count | Rule::StoreSize => false,
+    fn invariant(&self, program: &Program, place: usize, invariant: &Invariant) -> bool {
+        match *self {
+            TypingRule::Unknown => invariant_uses_break(TypingRule::Unknown, program, invariant),
+            TypingRule::Count => passes_limit(INVARIANTS, place),
+            TypingRule::Width => invariant_uses_break(TypingRule::Width, program, invariant),
+            TypingRule::Sorts => invariant_uses_break(TypingRule::Sorts, program, invariant),
+            TypingRule::Index => invariant_uses_break(TypingRule::Index, program, invariant),
+            TypingRule::Arity | TypingRule::StoreSize => false,
+        }
     }
-}
 
-#[tactic(auto, unfolding(civl_tree::specs::rules::Places::thread_breaks))]
-pub(crate) fn thread_breaks(rule: Rule, program: &Program, place: usize, thread: &Thread) -> bool
-    ensures { result ≡ thread_breaks (code_of rule) program.now place thread.now }
-{
-    match rule {
-        Rule::Unknown => thread_unknown(program, thread),
-        Rule::Count => passes_limit(THREADS, place),
-        Rule::Width => thread_uses_break(Rule::Width, program, thread),
-        Rule::Sorts => thread_uses_break(Rule::Sorts, program, thread),
-        Rule::Index => thread_uses_break(Rule::Index, program, thread),
-        Rule::Arity => thread_arity(&thread.args, proc_named(program, &thread.callee)),
-        Rule::StoreSize => false,
+    fn action(&self, program: &Program, place: usize, action: &Action) -> bool {
+        match *self {
+            TypingRule::Unknown => action_unknown(program, action),
+            TypingRule::Count => action_count(place, action),
+            TypingRule::Width => action_width(program, action),
+            TypingRule::Sorts => action_uses_break(TypingRule::Sorts, program, action),
+            TypingRule::Index => action_index(program, action),
+            TypingRule::Arity => action_arity(action),
+            TypingRule::StoreSize => false,
+        }
+    }
+
+    fn proc(&self, program: &Program, place: usize, proc: &Proc) -> bool {
+        match *self {
+            TypingRule::Unknown => proc_unknown(program, proc),
+            TypingRule::Count => proc_count(program, place, proc),
+            TypingRule::Width => proc_width(program, proc),
+            TypingRule::Sorts => with_uses_break(TypingRule::Sorts, program, proc),
+            TypingRule::Index => proc_index(program, proc),
+            TypingRule::Arity => refines_arity(program, proc),
+            TypingRule::StoreSize => false,
+        }
+    }
+
+    fn statement(&self, program: &Program, _place: usize, proc: &Proc) -> Option<u32> {
+        let asked = OfStatement {
+            rule: *self,
+            program,
+            proc,
+        };
+        first_in_body(&asked, &proc.body)
+    }
+
+    fn thread(&self, program: &Program, place: usize, thread: &Thread) -> bool {
+        match *self {
+            TypingRule::Unknown => thread_unknown(program, thread),
+            TypingRule::Count => passes_limit(THREADS, place),
+            TypingRule::Width => thread_uses_break(TypingRule::Width, program, thread),
+            TypingRule::Sorts => thread_uses_break(TypingRule::Sorts, program, thread),
+            TypingRule::Index => thread_uses_break(TypingRule::Index, program, thread),
+            TypingRule::Arity => { thread_arity(&thread.args, proc_named(program, &thread.callee)) }
+            TypingRule::StoreSize => false,
+        }
     }
 }

@@ -1,16 +1,16 @@
 // Names that stand twice (E10).
-ghost use Rattle.std.specs.Prelude.{◌≡◌, ◌+◌, ◌<◌, ◌^◌, ◌++◌, ◌||◌, ◌∷◌, [], map, length, IfOk, false};
+ghost use Rattle.std.specs.Prelude.{◌≡◌, ◌<◌, ◌^◌, ◌++◌, ◌||◌, map, length, IfOk};
 ghost use Rattle.std.specs.List.{list_any};
-ghost use Rattle.civl_tree.specs.Numbering.{statements_of, inner_of};
+ghost use Rattle.civl_tree.specs.Numbering.{statements_of};
 ghost use Rattle.civl_tree.specs.rules.Names.{has_name, any_twice, global_names, action_names, names_in_action, names_in_proc, targets_of};
 ghost use Rattle.civl_tree.specs.rules.Twice.{stmt_twice};
+ghost use Rattle.civl_tree.specs.rules.Rules.{numbers_where, first_of};
 ghost use Rattle.civl_types.specs.NameSets.{names_in, declared_in};
-ghost use Rattle.civl_types.specs.Walks.{IsWalked};
 
 use crate::name_set::NameSet;
 use crate::named::{add_all, any_in, any_twice};
-use crate::walk::Walk;
 use civl_tree::{Action, List, Memory, Proc, Stmt};
+use civl_walks::statements;
 use std::alloc::Global;
 
 /// Whether an action declares a name twice.
@@ -127,50 +127,16 @@ fn stmt_twice(alloc: Global, stmt: &Stmt) -> Result<bool, Memory>
     }
 }
 
-/// Goes over these statements, and those in them, where the first has this number.
-#[cycle(results)]
-#[tactic(auto, using(crate::proofs::Walking::walking))]
-pub(crate) fn walk_results(alloc: Global, stmts: &List<Stmt>, number: u32) -> Result<Walk, Memory>
-    requires { number + length (statements_of stmts.now) < 2 ^ 32 }
-    ensures { IfOk result (λ walk. IsWalked stmt_twice number (statements_of stmts.now) walk) }
+/// The number of the first call of a body that names one result twice. The body has fewer than 2^32 statements.
+pub(crate) fn first_doubled(alloc: Global, body: &List<Stmt>) -> Result<Option<u32>, Memory>
+    requires { length (statements_of body.now) < 2 ^ 32 }
+    ensures { IfOk result (λ found. found ≡ first_of (numbers_where stmt_twice 0 (statements_of body.now))) }
 {
-    let mut here = number;
-    for stmt in stmts.as_slice() {
+    let flat = statements(alloc, body)?;
+    for (number, stmt) in flat.iter().enumerate() {
         if stmt_twice(alloc, stmt)? {
-            return Ok(Walk::Broken(here));
-        }
-        match walk_inner(alloc, stmt, here + 1)? {
-            Walk::Broken(found) => return Ok(Walk::Broken(found)),
-            Walk::Next(next) => here = next,
+            return Ok(Some(number as u32));
         }
     }
-    Ok(Walk::Next(here))
-}
-
-/// Goes over the statements in a statement, where the first of them has this number.
-#[cycle(results)]
-#[tactic(auto, using(crate::proofs::Walking::walking))]
-fn walk_inner(alloc: Global, stmt: &Stmt, number: u32) -> Result<Walk, Memory>
-    requires { number + length (inner_of stmt.now) < 2 ^ 32 }
-    ensures { IfOk result (λ walk. IsWalked stmt_twice number (inner_of stmt.now) walk) }
-{
-    match stmt {
-        Stmt::If(_, first, second) => match walk_results(alloc, first, number)? {
-            Walk::Broken(found) => Ok(Walk::Broken(found)),
-            Walk::Next(next) => {
-                let walk = walk_results(alloc, second, next)?;
-                Ok(walk)
-            }
-        },
-        Stmt::While(_, body) => walk_results(alloc, body, number),
-        Stmt::YieldLoop(_, _, body) => walk_results(alloc, body, number),
-        Stmt::RankLoop(_, _, _, body) => walk_results(alloc, body, number),
-        Stmt::Assign(_, _) => Ok(Walk::Next(number)),
-        Stmt::Assert(_) => Ok(Walk::Next(number)),
-        Stmt::Call(_, _, _) => Ok(Walk::Next(number)),
-        Stmt::Yield(_) => Ok(Walk::Next(number)),
-        Stmt::Commit => Ok(Walk::Next(number)),
-        Stmt::Intro(_, _) => Ok(Walk::Next(number)),
-        Stmt::Spawn(_, _) => Ok(Walk::Next(number)),
-    }
+    Ok(None)
 }

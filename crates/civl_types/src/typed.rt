@@ -3,7 +3,8 @@
 use civl_tree::Program;
 use std::marker::Model;
 
-/// A program that keeps the rules E10 to E24. A contract sees the program.
+/// A program that keeps the rules E10 to E24, with fewer than 2^32 items and fewer than 2^32 statements in each procedure. A
+/// contract sees the program.
 #[derive(Drop)]
 pub struct Typed {
     program: Program,
@@ -11,7 +12,9 @@ pub struct Typed {
 
 impl Model for Typed {
     ghost use Rattle.civl_tree.specs.declared.program.Program.{Program as Tree};
-    ghost use Rattle.civl_tree.specs.rules.Refusals.{BreaksNone};
+    ghost use Rattle.civl_tree.specs.Numbered.{IsNumbered};
+    ghost use Rattle.civl_tree.specs.rules.Rules.{Keeps};
+    ghost use Rattle.civl_tree.specs.rules.Typing.{typing_rules};
     ghost use Rattle.civl_tree.specs.contracts.expr.Expr as expr;
     ghost use Rattle.civl_tree.specs.contracts.stmt.Stmt as stmt;
     ghost use Rattle.std.specs.Coded.{codes};
@@ -22,18 +25,21 @@ impl Model for Typed {
 
     ghost view = { λ typed. typed.program };
 
-    ghost invariant = { λ typed. BreaksNone typed.program };
+    ghost invariant = { λ typed. Keeps typing_rules typed.program × IsNumbered typed.program };
 
     ghost inverse = { λ program. record { program = program } };
 }
 
 impl Typed {
     ghost use Rattle.std.specs.Prelude.{◌≡◌, None};
-    ghost use Rattle.civl_tree.specs.rules.Refusals.{refusal_of, BreaksNone};
+    ghost use Rattle.civl_tree.specs.Numbered.{IsNumbered};
+    ghost use Rattle.civl_tree.specs.rules.Rules.{refusal_by, Keeps};
+    ghost use Rattle.civl_tree.specs.rules.Typing.{typing_rules};
 
     /// A program that keeps the rules.
     pub(crate) fn new(program: Program) -> Typed
-        requires { refusal_of program ≡ None }
+        requires keeps { refusal_by typing_rules program ≡ None }
+        requires numbered { IsNumbered program }
         ensures { result ≡ program }
     {
         Typed { program }
@@ -42,7 +48,8 @@ impl Typed {
     /// The program.
     pub(crate) fn into_inner(self) -> Program
         ensures same { result ≡ self }
-        ensures keeps { BreaksNone result }
+        ensures keeps { Keeps typing_rules result }
+        ensures numbered { IsNumbered result }
     {
         let Typed { program } = self;
         program

@@ -3,11 +3,11 @@ ghost use Rattle.std.specs.Prelude.{◌≡◌, ◌++◌, map, is_none};
 ghost use Rattle.std.specs.List.{list_any};
 ghost use Rattle.civl_tree.specs.declared.stmt.Stmt.{out-Stmt};
 ghost use Rattle.civl_tree.specs.rules.Names.{has_name, global_names, param_names, names_in_proc, targets_of, callee_signature};
-ghost use Rattle.civl_tree.specs.rules.Unknown.{target_unknown, action_unknown, refined_unknown, proc_unknown, place_unknown, layer_unknown, stmt_unknown, thread_unknown};
+ghost use Rattle.civl_tree.specs.rules.Unknown.{target_unknown, action_unknown, refined_unknown, proc_unknown, place_unknown, form_unknown, stmt_unknown, thread_unknown};
 
 use crate::named::is_named;
 use crate::names::{action_named, callee_signature, proc_named};
-use crate::rule::Rule;
+use crate::rule::TypingRule;
 use crate::uses::{action_uses_break, stmt_uses_break, thread_uses_break, with_uses_break};
 use civl_tree::{Action, Name, Proc, Program, Stmt, Thread, Update};
 
@@ -34,7 +34,7 @@ pub(crate) fn action_unknown(program: &Program, action: &Action) -> bool
     ensures { result ≡ action_unknown program.now action.now }
 {
     targets_unknown(program, action, action.updates.as_slice())
-        || action_uses_break(Rule::Unknown, program, action)
+        || action_uses_break(TypingRule::Unknown, program, action)
 }
 
 fn refined_unknown(program: &Program, proc: &Proc) -> bool
@@ -50,7 +50,7 @@ fn refined_unknown(program: &Program, proc: &Proc) -> bool
 pub(crate) fn proc_unknown(program: &Program, proc: &Proc) -> bool
     ensures { result ≡ proc_unknown program.now proc.now }
 {
-    refined_unknown(program, proc) || with_uses_break(Rule::Unknown, program, proc)
+    refined_unknown(program, proc) || with_uses_break(TypingRule::Unknown, program, proc)
 }
 
 #[tactic(auto, using(crate::proofs::Lists::any_append))]
@@ -68,8 +68,8 @@ fn results_unknown(proc: &Proc, results: &[Name]) -> bool
     results.iter().any(|name| place_unknown(proc, name))
 }
 
-fn layer_unknown(program: &Program, proc: &Proc, stmt: &Stmt) -> bool
-    ensures { result ≡ layer_unknown program.now proc.now (out-Stmt stmt.now) }
+fn form_unknown(program: &Program, proc: &Proc, stmt: &Stmt) -> bool
+    ensures { result ≡ form_unknown program.now proc.now (out-Stmt stmt.now) }
 {
     match stmt {
         Stmt::Assign(target, _) => place_unknown(proc, target),
@@ -92,7 +92,7 @@ fn callee_unknown(program: &Program, callee: &Name) -> bool
 pub(crate) fn stmt_unknown(program: &Program, proc: &Proc, stmt: &Stmt) -> bool
     ensures { result ≡ stmt_unknown program.now proc.now stmt.now }
 {
-    layer_unknown(program, proc, stmt) || stmt_uses_break(Rule::Unknown, program, proc, stmt)
+    form_unknown(program, proc, stmt) || stmt_uses_break(TypingRule::Unknown, program, proc, stmt)
 }
 
 /// Whether a declared thread breaks E11.
@@ -100,5 +100,5 @@ pub(crate) fn thread_unknown(program: &Program, thread: &Thread) -> bool
     ensures { result ≡ thread_unknown program.now thread.now }
 {
     proc_named(program, &thread.callee).is_none()
-        || thread_uses_break(Rule::Unknown, program, thread)
+        || thread_uses_break(TypingRule::Unknown, program, thread)
 }

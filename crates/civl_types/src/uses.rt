@@ -2,14 +2,14 @@
 ghost use Rattle.std.specs.Prelude.{◌≡◌, ◌∷◌, [], ◌++◌, ◌||◌, map, slice_get, Some, option_copied};
 ghost use Rattle.civl_tree.specs.rules.Scopes.{gate_scope, guard_scope, note_scope};
 ghost use Rattle.civl_tree.specs.rules.Uses.{serves, is_any_word, need_of, truth_use, target_use, argument_uses, action_uses, with_uses, stmt_uses, thread_uses, update_sort, init_uses, invariant_uses};
-ghost use Rattle.civl_types.specs.Rules.{code_of, need_for, sorts_at, use_breaks, any_use};
+ghost use Rattle.civl_types.specs.Rules.{need_for, sorts_at, use_breaks, any_use};
 ghost use Rattle.civl_types.specs.Views.{scope_of, signature_of};
 ghost use Rattle.civl_tree.specs.rules.Uses.{taken_sorts, chosen_sorts};
 ghost use Rattle.civl_tree.specs.rules.Names.{action_named};
 
 use crate::exprs::{indices_fit, names_known, widths_fit};
 use crate::names::{Signature, action_named, callee_signature, proc_signature};
-use crate::rule::Rule;
+use crate::rule::TypingRule;
 use crate::sorts::{same_sort, sort_of};
 use crate::view::{View, global_sort, outer_sort, place_sort};
 use civl_tree::{
@@ -58,28 +58,33 @@ pub(crate) fn wanted_for(target: Option<Sort>) -> Wanted
 }
 
 /// Whether an expression at a place breaks a rule of expressions.
-pub(crate) fn use_breaks(rule: Rule, view: &View, expr: &Expr, wanted: Wanted) -> bool
-    ensures { result ≡ use_breaks (code_of rule) (record { scope = scope_of view.now; expression = expr.now; need = need_for wanted }) }
+pub(crate) fn use_breaks(rule: TypingRule, view: &View, expr: &Expr, wanted: Wanted) -> bool
+    ensures { result ≡ use_breaks rule (record { scope = scope_of view.now; expression = expr.now; need = need_for wanted }) }
 {
     match rule {
-        Rule::Unknown => !names_known(view, expr),
-        Rule::Width => !widths_fit(view, expr),
-        Rule::Sorts => !serves(sort_of(view, expr), wanted),
-        Rule::Index => !indices_fit(expr),
-        Rule::Count | Rule::Arity | Rule::StoreSize => false,
+        TypingRule::Unknown => !names_known(view, expr),
+        TypingRule::Width => !widths_fit(view, expr),
+        TypingRule::Sorts => !serves(sort_of(view, expr), wanted),
+        TypingRule::Index => !indices_fit(expr),
+        TypingRule::Count | TypingRule::Arity | TypingRule::StoreSize => false,
     }
 }
 
 /// The same of a condition, an invariant, a gate or a guard.
-pub(crate) fn truth_breaks(rule: Rule, view: &View, expr: &Expr) -> bool
-    ensures { result ≡ use_breaks (code_of rule) (truth_use (scope_of view.now) expr.now) }
+pub(crate) fn truth_breaks(rule: TypingRule, view: &View, expr: &Expr) -> bool
+    ensures { result ≡ use_breaks rule (truth_use (scope_of view.now) expr.now) }
 {
     use_breaks(rule, view, expr, Wanted::Only(Sort::Bool))
 }
 
 /// The same of a value for a target of this sort, where there is this target.
-pub(crate) fn target_breaks(rule: Rule, view: &View, expr: &Expr, target: Option<Sort>) -> bool
-    ensures { result ≡ use_breaks (code_of rule) (target_use (scope_of view.now) expr.now target) }
+pub(crate) fn target_breaks(
+    rule: TypingRule,
+    view: &View,
+    expr: &Expr,
+    target: Option<Sort>,
+) -> bool
+    ensures { result ≡ use_breaks rule (target_use (scope_of view.now) expr.now target) }
 {
     use_breaks(rule, view, expr, wanted_for(target))
 }
@@ -102,8 +107,8 @@ fn slot(slots: &Slots, at: usize) -> Option<Sort>
 }
 
 /// Whether one of these arguments breaks a rule of expressions.
-pub(crate) fn arguments_break(rule: Rule, view: &View, args: &[Expr], slots: &Slots) -> bool
-    ensures { result ≡ any_use (code_of rule) (argument_uses (scope_of view.now) args.now (sorts_at slots.now)) }
+pub(crate) fn arguments_break(rule: TypingRule, view: &View, args: &[Expr], slots: &Slots) -> bool
+    ensures { result ≡ any_use rule (argument_uses (scope_of view.now) args.now (sorts_at slots.now)) }
 {
     for (at, arg) in args.iter().enumerate() {
         if target_breaks(rule, view, arg, slot(slots, at)) {
@@ -113,8 +118,8 @@ pub(crate) fn arguments_break(rule: Rule, view: &View, args: &[Expr], slots: &Sl
     false
 }
 
-fn offers_break(rule: Rule, view: &View, choices: &[Choice]) -> bool
-    ensures { result ≡ any_use (code_of rule) (map (λ choice. target_use (scope_of view.now) choice.offer (Some choice.sort)) choices.now) }
+fn offers_break(rule: TypingRule, view: &View, choices: &[Choice]) -> bool
+    ensures { result ≡ any_use rule (map (λ choice. target_use (scope_of view.now) choice.offer (Some choice.sort)) choices.now) }
 {
     for choice in choices {
         if target_breaks(rule, view, &choice.offer, Some(choice.sort)) {
@@ -124,8 +129,8 @@ fn offers_break(rule: Rule, view: &View, choices: &[Choice]) -> bool
     false
 }
 
-fn updates_break(rule: Rule, program: &Program, action: &Action, updates: &[Update]) -> bool
-    ensures { result ≡ any_use (code_of rule) (map (λ update. target_use (guard_scope program.now action.now) update.expr (update_sort program.now action.now update.target)) updates.now) }
+fn updates_break(rule: TypingRule, program: &Program, action: &Action, updates: &[Update]) -> bool
+    ensures { result ≡ any_use rule (map (λ update. target_use (guard_scope program.now action.now) update.expr (update_sort program.now action.now update.target)) updates.now) }
 {
     for update in updates {
         let sort = outer_sort(
@@ -142,8 +147,8 @@ fn updates_break(rule: Rule, program: &Program, action: &Action, updates: &[Upda
 
 /// Whether an expression of an action breaks a rule of expressions.
 #[tactic(auto, using(crate::proofs::Lists::any_append))]
-pub(crate) fn action_uses_break(rule: Rule, program: &Program, action: &Action) -> bool
-    ensures { result ≡ any_use (code_of rule) (action_uses program.now action.now) }
+pub(crate) fn action_uses_break(rule: TypingRule, program: &Program, action: &Action) -> bool
+    ensures { result ≡ any_use rule (action_uses program.now action.now) }
 {
     let gate = View::Gate(program, action);
     let guard = View::Guard(program, action);
@@ -154,15 +159,19 @@ pub(crate) fn action_uses_break(rule: Rule, program: &Program, action: &Action) 
 }
 
 /// Whether `init` breaks a rule of expressions.
-pub(crate) fn init_uses_break(rule: Rule, program: &Program) -> bool
-    ensures { result ≡ any_use (code_of rule) (init_uses program.now) }
+pub(crate) fn init_uses_break(rule: TypingRule, program: &Program) -> bool
+    ensures { result ≡ any_use rule (init_uses program.now) }
 {
     truth_breaks(rule, &View::Globals(program), &program.init)
 }
 
 /// Whether an invariant breaks a rule of expressions.
-pub(crate) fn invariant_uses_break(rule: Rule, program: &Program, invariant: &Invariant) -> bool
-    ensures { result ≡ any_use (code_of rule) (invariant_uses program.now invariant.now) }
+pub(crate) fn invariant_uses_break(
+    rule: TypingRule,
+    program: &Program,
+    invariant: &Invariant,
+) -> bool
+    ensures { result ≡ any_use rule (invariant_uses program.now invariant.now) }
 {
     truth_breaks(rule, &View::Globals(program), &invariant.expr)
 }
@@ -188,8 +197,8 @@ fn chosen<'a>(action: Option<&'a Action>) -> Slots<'a>
 }
 
 /// Whether a value after `with` breaks a rule of expressions.
-pub(crate) fn with_uses_break(rule: Rule, program: &Program, proc: &Proc) -> bool
-    ensures { result ≡ any_use (code_of rule) (with_uses program.now proc.now proc.now.refines) }
+pub(crate) fn with_uses_break(rule: TypingRule, program: &Program, proc: &Proc) -> bool
+    ensures { result ≡ any_use rule (with_uses program.now proc.now proc.now.refines) }
 {
     match &proc.refines {
         Some(refines) => {
@@ -206,8 +215,8 @@ pub(crate) fn with_uses_break(rule: Rule, program: &Program, proc: &Proc) -> boo
 }
 
 /// Whether an expression of a statement itself breaks a rule of expressions.
-pub(crate) fn stmt_uses_break(rule: Rule, program: &Program, proc: &Proc, stmt: &Stmt) -> bool
-    ensures { result ≡ any_use (code_of rule) (stmt_uses program.now proc.now stmt.now) }
+pub(crate) fn stmt_uses_break(rule: TypingRule, program: &Program, proc: &Proc, stmt: &Stmt) -> bool
+    ensures { result ≡ any_use rule (stmt_uses program.now proc.now stmt.now) }
 {
     let body = View::Body(program, proc);
     let note = View::Note(program, proc);
@@ -243,8 +252,8 @@ pub(crate) fn stmt_uses_break(rule: Rule, program: &Program, proc: &Proc, stmt: 
 }
 
 /// Whether an argument of a declared thread breaks a rule of expressions.
-pub(crate) fn thread_uses_break(rule: Rule, program: &Program, thread: &Thread) -> bool
-    ensures { result ≡ any_use (code_of rule) (thread_uses program.now thread.now) }
+pub(crate) fn thread_uses_break(rule: TypingRule, program: &Program, thread: &Thread) -> bool
+    ensures { result ≡ any_use rule (thread_uses program.now thread.now) }
 {
     let slots = taken(proc_signature(program, &thread.callee));
     arguments_break(

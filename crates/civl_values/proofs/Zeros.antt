@@ -9,7 +9,8 @@ use Rattle.civl_bits.specs.declared.value.Value.{Value}
 use Rattle.civl_bits.specs.declared.value.Value.TheVariants as value
 use Rattle.civl_tree.specs.declared.expr.Sort.{Sort}
 use Rattle.civl_tree.specs.declared.expr.Sort.TheVariants as sort
-use Rattle.civl_values.specs.Operators.{nothing, is_width, is_index}
+use Rattle.civl_values.specs.Operators.{nothing}
+use Rattle.civl_tree.specs.rules.Exprs.{is_width, is_index}
 use Rattle.civl_values.specs.Values.{HasSort, ZerosHaveTheirSorts}
 use Rattle.civl_values.proofs.Sorting.{both}
 

@@ -1,4 +1,4 @@
--- The operands of an operation: two words of one width, or two bools.
+-- For private functions alone: the operands of an operation, two words of one width or two bools.
 use Rattle.std.specs.Prelude.{ℕ, ◌≡◌, Bool}
 use Rattle.civl_bits.specs.declared.value.Value.{Value}
 use Rattle.civl_bits.specs.declared.value.Value.TheVariants as value

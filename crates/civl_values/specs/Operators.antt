@@ -9,19 +9,12 @@ use Rattle.civl_bits.specs.declared.value.Value.TheVariants as value
 use Rattle.civl_tree.specs.declared.expr.One.{One}
 use Rattle.civl_tree.specs.declared.expr.One.TheVariants.{Not, Flip, Minus}
 use Rattle.civl_tree.specs.declared.expr.Two.{Two}
+use Rattle.civl_tree.specs.rules.Exprs.{is_width, is_index}
 use Rattle.civl_tree.specs.declared.expr.Two.TheVariants.{Add, Sub, Mul, BitAnd, BitOr, BitXor, Shl, Shr, Lt, Le, Eq, Ne, And, Or, Implies, Udiv, Urem, Slt, Sle, Sar}
 
 -- the value that stands where sorts don't fit
 abbrev pub nothing : Value
 nothing = value.Bool false
-
--- a word has 1 to 32 bits
-abbrev pub is_width : ℕ → Bool
-is_width width = nat_le 1 width && nat_le width 32
-
--- an index has 1 to 6 bits
-abbrev pub is_index : ℕ → Bool
-is_index index = nat_le 1 index && nat_le index 6
 
 -- the word of this width with this number, where it fits
 abbrev pub literal_value : ℕ → ℕ → Value

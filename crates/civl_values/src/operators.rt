@@ -13,7 +13,8 @@ pub fn nothing() -> Value
     Value::Bool(false)
 }
 
-/// A literal.
+/// A literal: the word of this width, 1 to 32, with this number. Where the width or the number doesn't fit it is
+/// [`nothing`].
 #[tactic(auto, using(crate::proofs::Operating::operating))]
 pub fn literal(number: u32, width: u32) -> Value
     ensures { result ≡ literal_value number width }
@@ -33,7 +34,7 @@ fn not(a: Value) -> Value
     }
 }
 
-/// `!`, `~` and `-`.
+/// `!`, `~` and `-`. `!` of a value that is no bool, and `~` and `-` of one that is no word, are [`nothing`].
 pub fn one(op: One, a: Value) -> Value
     ensures { result ≡ one_value op a }
 {
@@ -118,7 +119,9 @@ fn on_bools(op: Two, a: bool, b: bool) -> Value
     }
 }
 
-/// The operations with two operands.
+/// The operations with two operands. `==` and `!=` compare any two values: those of two sorts aren't equal, so `==` is false
+/// and `!=` is true. `&&`, `||` and `==>` of two values that aren't both bools are [`nothing`], and so are the others of two
+/// that aren't both words of one width.
 #[tactic(auto, using(crate::proofs::Operating::misfits))]
 pub fn two(op: Two, a: Value, b: Value) -> Value
     ensures { result ≡ two_value op a b }
@@ -137,7 +140,8 @@ pub fn two(op: Two, a: Value, b: Value) -> Value
     }
 }
 
-/// `c ? a : b`.
+/// `c ? a : b`: `a` where `test` is true and `b` where it is false, also where these are of two sorts. Where `test` is no
+/// bool it is [`nothing`].
 pub fn pick(test: Value, a: Value, b: Value) -> Value
     ensures { result ≡ pick_value test a b }
 {
@@ -148,7 +152,7 @@ pub fn pick(test: Value, a: Value, b: Value) -> Value
     }
 }
 
-/// The cell of a row at an index.
+/// The cell of a row at an index. Where `row` is no row, or `at` no word of the row's index bits, it is [`nothing`].
 pub fn get(row: Value, at: Value) -> Value
     ensures { result ≡ get_value row at }
 {
@@ -161,7 +165,8 @@ pub fn get(row: Value, at: Value) -> Value
     }
 }
 
-/// A row with another cell at an index.
+/// A row with another cell at an index. Where `row` is no row, `at` no word of its index bits, or `cell` no word of its
+/// width, it is [`nothing`].
 pub fn set(row: Value, at: Value, cell: Value) -> Value
     ensures { result ≡ set_value row at cell }
 {
@@ -179,7 +184,8 @@ pub fn set(row: Value, at: Value, cell: Value) -> Value
     }
 }
 
-/// The row whose cells are all one word.
+/// The row of so many index bits, 1 to 6, whose cells are all one word. Where the bits are others, or `cell` is no word, it is
+/// [`nothing`].
 pub fn fill(index: u32, cell: Value) -> Value
     ensures { result ≡ fill_value index cell }
 {
@@ -189,7 +195,8 @@ pub fn fill(index: u32, cell: Value) -> Value
     }
 }
 
-/// The bits `high` down to `low`.
+/// The bits `high` down to `low` of a word. Where `a` is no word, `low` is above `high`, or `high` isn't below the word's
+/// width, it is [`nothing`].
 pub fn slice(a: Value, high: u32, low: u32) -> Value
     ensures { result ≡ slice_value a high low }
 {
@@ -199,7 +206,8 @@ pub fn slice(a: Value, high: u32, low: u32) -> Value
     }
 }
 
-/// A word with zeros above, up to a width.
+/// A word with zeros above, up to a width. Where `a` is no word, or the width is below the word's or above 32, it is
+/// [`nothing`].
 pub fn widen(a: Value, width: u32) -> Value
     ensures { result ≡ widen_value a width }
 {
@@ -209,7 +217,8 @@ pub fn widen(a: Value, width: u32) -> Value
     }
 }
 
-/// The bits of the first word above those of the second.
+/// The bits of the first word above those of the second. Where these aren't two words, or have more than 32 bits in all, it is
+/// [`nothing`].
 pub fn join(a: Value, b: Value) -> Value
     ensures { result ≡ join_value a b }
 {

@@ -1,6 +1,6 @@
 // Zeros, and the sorts of values.
 ghost use Rattle.std.specs.Prelude.{◌≡◌, ◌<◌, ◌^◌};
-ghost use Rattle.civl_values.specs.Operators.{is_width};
+ghost use Rattle.civl_tree.specs.rules.Exprs.{is_width};
 ghost use Rattle.civl_bits.specs.Value.{IsValue};
 ghost use Rattle.civl_values.specs.Values.{zero_of, is_of, is_true, sort_of_value};
 
@@ -15,7 +15,8 @@ fn is_width(width: u32) -> bool
     1 <= width && width <= 32
 }
 
-/// The zero of a sort.
+/// The zero of a sort: false, 0, or the row of 0. Where the sort's numbers are out of range, which is 1 to 32 for a width
+/// and 1 to 6 for index bits, it is [`nothing`].
 #[tactic(auto, using(std::proofs::lemmas::Nat::pow_pos))]
 pub fn zero(sort: Sort) -> Value
     ensures { result ≡ zero_of sort }
@@ -62,7 +63,7 @@ pub fn is_of(value: Value, sort: Sort) -> bool
     }
 }
 
-/// Whether a value is the bool true.
+/// Whether a value is the bool true. A word or a row isn't.
 pub fn is_true(value: Value) -> bool
     ensures { result ≡ is_true value }
 {

@@ -1,20 +1,28 @@
--- Programs that keep the rules on linear locals, yields and movers.
-use Rattle.std.specs.Prelude.{ℕ, Bool, List, ◌++◌, map, Option}
+-- All static rules, and programs that keep those on linear locals, yields and movers.
+use Rattle.std.specs.Prelude.{ℕ, Bool, List, ◌++◌, map}
 use Rattle.civl_tree.specs.declared.program.Program.{Program}
-use Rattle.civl_tree.specs.declared.refusal.Refusal.{Refusal}
-use Rattle.civl_layers.specs.Rules.{Rule, refusal_by}
-use Rattle.civl_linear.specs.Refusals.{linear_rules}
+use Rattle.civl_tree.specs.rules.Rules.{Rule}
+use Rattle.civl_tree.specs.rules.Typing.{typing_rules}
+use Rattle.civl_tree.specs.rules.Broken.{AreInOrder, AreSorted}
+use Rattle.civl_layers.specs.LayerRules.{layer_rules}
+use Rattle.civl_linear.specs.LinearRules.{linear_rules}
 use Rattle.civl_linear.specs.Cuts.{held_of}
-use Rattle.civl_yields.specs.Refusals.{yield_rules}
+use Rattle.civl_yields.specs.YieldRules.{yield_rules}
 use Rattle.civl_yields.specs.Phases.{phases_of}
 
 -- E40 to E53, in their order
 abbrev pub admission_rules : List Rule
 admission_rules = linear_rules ++ yield_rules
 
--- the first of the rules E40 to E53 that a program breaks, with its place
-abbrev pub admission_refusal : Program → Option Refusal
-admission_refusal program = refusal_by admission_rules program
+-- all static rules, E10 to E53, in their order
+abbrev pub static_rules : List Rule
+static_rules = typing_rules ++ (layer_rules ++ admission_rules)
+
+-- their codes rise, and each tells the statements of a procedure in their order; so all places at which a program breaks
+-- them are listed by code, item and statement
+pub record StaticRulesAreInOrder : Type 0 where
+  pub in_order : AreInOrder static_rules
+  pub sorted : AreSorted static_rules
 
 -- what is held at each cut of each procedure
 abbrev pub all_held : Program → List (List (List ℕ))

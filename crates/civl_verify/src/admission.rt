@@ -1,7 +1,8 @@
 // The last static rules.
-ghost use Rattle.std.specs.Prelude.{◌≡◌, None, IfOk, IfErr};
-ghost use Rattle.civl_types.specs.Checked.{IsCause};
-ghost use Rattle.civl_verify.specs.Admitted.{admission_refusal, all_held, all_phases};
+ghost use Rattle.std.specs.Prelude.{◌≡◌, IfOk, IfErr};
+ghost use Rattle.civl_tree.specs.rules.Rules.{refusal_by, Keeps};
+ghost use Rattle.civl_types.specs.Checked.{IsCause, IsFirstCause};
+ghost use Rattle.civl_verify.specs.Admitted.{admission_rules, all_held, all_phases};
 
 use civl_layers::{Held, Layered};
 use civl_linear::held;
@@ -20,12 +21,13 @@ pub struct Admitted {
 }
 
 impl Model for Admitted {
-    ghost use Rattle.std.specs.Prelude.{◌≡◌, None};
+    ghost use Rattle.std.specs.Prelude.{◌≡◌};
     ghost use Rattle.civl_tree.specs.declared.program.Program.{Program as Tree};
     ghost use Rattle.civl_tree.specs.contracts.expr.Expr as expr;
     ghost use Rattle.civl_tree.specs.contracts.stmt.Stmt as stmt;
     ghost use Rattle.std.specs.Coded.{codes};
-    ghost use Rattle.civl_verify.specs.Admitted.{admission_refusal, all_held, all_phases};
+    ghost use Rattle.civl_tree.specs.rules.Rules.{Keeps};
+    ghost use Rattle.civl_verify.specs.Admitted.{admission_rules, all_held, all_phases};
 
     ghost Value = { Tree };
 
@@ -33,16 +35,21 @@ impl Model for Admitted {
 
     ghost view = { λ admitted. admitted.src };
 
-    ghost invariant = { λ admitted. (admission_refusal admitted.src ≡ None) × (admitted.held.cuts ≡ all_held admitted.src) × (admitted.phases.left ≡ all_phases admitted.src) };
+    ghost invariant = { λ admitted. Keeps admission_rules admitted.src × (admitted.held.cuts ≡ all_held admitted.src) × (admitted.phases.left ≡ all_phases admitted.src) };
 }
 
-/// Takes a layered program that keeps the rules E40 to E53. Else `At` has the first that it breaks, by code, item and
-/// statement, and the program is dropped. `Memory` comes where memory is wanting.
-#[tactic(auto, using(crate::proofs::Admitting::admitting))]
+/// Takes a layered program that keeps the rules E40 to E53.
+///
+/// # Errors
+///
+/// `At` has the first of these rules that the program breaks, by code, item and statement; the program is dropped. `Memory`
+/// comes where memory is wanting.
+#[tactic(auto, using(crate::proofs::Admitting::keeps_both))]
 pub fn admit(alloc: Global, src: Layered) -> Result<Admitted, Refused>
     ensures same { IfOk result (λ admitted. admitted ≡ src) }
-    ensures passed { IfOk result (λ admitted. admission_refusal src ≡ None) }
-    ensures refused { IfErr result (λ refused. IsCause (admission_refusal src) refused) }
+    ensures passed { IfOk result (λ admitted. Keeps admission_rules src) }
+    ensures refused { IfErr result (λ refused. IsCause (refusal_by admission_rules src) refused) }
+    ensures first { IfErr result (λ refused. IsFirstCause admission_rules src refused) }
 {
     let held = match held(alloc, &src) {
         Ok(held) => held,
@@ -58,7 +65,7 @@ pub fn admit(alloc: Global, src: Layered) -> Result<Admitted, Refused>
 /// The program. It takes no memory.
 pub fn source(src: &Admitted) -> &Layered
     ensures same { result.now ≡ src.now }
-    ensures keeps { admission_refusal src.now ≡ None }
+    ensures keeps { Keeps admission_rules src.now }
 {
     &src.src
 }

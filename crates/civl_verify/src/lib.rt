@@ -2,5 +2,6 @@
 #![tactic(auto)]
 
 mod admission;
+pub mod laws;
 
 pub use admission::{Admitted, admit, locals_held, phases_left, source};

@@ -1,9 +1,13 @@
 -- Statements that break a rule, one by one.
-use Rattle.std.proofs.Common.{◌≡◌, ℕ, ◌+◌, ◌<◌, ◌≤◌, Bool, true, false, List, [], ◌∷◌, ◌++◌, map, drop, length, get_or, None, Some, refl, sym, ap, ap₂, ◌∙◌}
+use Rattle.std.proofs.Common.{◌≡◌, ℕ, ◌+◌, ◌<◌, ◌≤◌, Bool, true, false, List, [], ◌∷◌, ◌++◌, map, drop, length, get_or, None, Some, refl, sym, ap, ap₂, ◌∙◌, arith}
 use Rattle.std.specs.Prelude.{if◌then◌else◌}
+use Rattle.std.specs.List.{All, AllPairs}
+use Rattle.std.proofs.lemmas.List.Elements.{All-nil, All-cons, All-weaker}
+use Rattle.std.proofs.lemmas.List.Kept.{AllPairs-cons}
+use Rattle.civl_tree.proofs.Pairs.{pairs_nil, pairs_one, pairs_append}
 use Rattle.std.proofs.lemmas.List.{drop-map, drop_more, drop_all}
 use Rattle.civl_tree.specs.declared.stmt.Stmt.{Stmt}
-use Rattle.civl_tree.specs.rules.Refusals.{numbers_where, first_of}
+use Rattle.civl_tree.specs.rules.Rules.{numbers_where, first_of}
 use Rattle.civl_walks.specs.Walks.{numbers_with}
 
 -- the elements from this place on, as they are seen
@@ -78,3 +82,38 @@ unfolding numbers_where
 where_cons breaks number stmt stmts = refl
 
 pub ruleset computing = (with_nil, with_cons, where_nil, where_cons)
+
+-- ---- the numbers of statements with notes rise
+
+with_from : {A : Type 0} (breaks : Stmt → A → Bool) (from : ℕ) (stmts : List Stmt) (notes : List A) → All (λ n. (from ≤ n) × (n < from + length stmts)) (numbers_with breaks from stmts notes)
+unfolding numbers_with
+with_from breaks from [] notes = All-nil (λ n. (from ≤ n) × (n < from + 0))
+with_from breaks from (stmt ∷ stmts) [] = All-nil (λ n. (from ≤ n) × (n < from + length (stmt ∷ stmts)))
+with_from breaks from (stmt ∷ stmts) (note ∷ notes) =
+    here (breaks stmt note)
+    (All-weaker (λ n. (from + 1 ≤ n) × (n < from + 1 + length stmts)) (λ n. (from ≤ n) × (n < from + length (stmt ∷ stmts))) (λ n w. let a = w.0 in let b = w.1 in (omega arith, omega arith)) (numbers_with breaks (from + 1) stmts notes) (with_from breaks (from + 1) stmts notes))
+  where
+    here : (b : Bool) → All (λ n. (from ≤ n) × (n < from + length (stmt ∷ stmts))) (numbers_with breaks (from + 1) stmts notes) → All (λ n. (from ≤ n) × (n < from + length (stmt ∷ stmts))) ((if b then from ∷ [] else []) ++ numbers_with breaks (from + 1) stmts notes)
+    here true rest = All-cons (λ n. (from ≤ n) × (n < from + length (stmt ∷ stmts))) from (numbers_with breaks (from + 1) stmts notes) (omega arith, omega arith) rest
+    here false rest = rest
+
+pub with_in_order : {A : Type 0} (breaks : Stmt → A → Bool) (from : ℕ) (stmts : List Stmt) (notes : List A) → AllPairs (λ first second. first ≤ second) (numbers_with breaks from stmts notes)
+unfolding numbers_with
+with_in_order breaks from [] notes = pairs_nil (λ first second. first ≤ second)
+with_in_order breaks from (stmt ∷ stmts) [] = pairs_nil (λ first second. first ≤ second)
+with_in_order breaks from (stmt ∷ stmts) (note ∷ notes) = here (breaks stmt note) (with_in_order breaks (from + 1) stmts notes)
+  where
+    here : (b : Bool) → AllPairs (λ first second. first ≤ second) (numbers_with breaks (from + 1) stmts notes) → AllPairs (λ first second. first ≤ second) ((if b then from ∷ [] else []) ++ numbers_with breaks (from + 1) stmts notes)
+    here true rest =
+        AllPairs-cons (λ first second. first ≤ second) from (numbers_with breaks (from + 1) stmts notes)
+        (All-weaker (λ n. (from + 1 ≤ n) × (n < from + 1 + length stmts)) (λ n. from ≤ n) (λ n w. let a = w.0 in omega arith) (numbers_with breaks (from + 1) stmts notes) (with_from breaks (from + 1) stmts notes)) rest
+    here false rest = rest
+
+-- with a number behind all of them, where there is one
+pub with_last_in_order : {A : Type 0} (breaks : Stmt → A → Bool) (stmts : List Stmt) (notes : List A) (b : Bool) (last : ℕ) → length stmts ≤ last → AllPairs (λ first second. first ≤ second) (numbers_with breaks 0 stmts notes ++ (if b then last ∷ [] else []))
+with_last_in_order breaks stmts notes true last l =
+    pairs_append (λ first second. first ≤ second) (numbers_with breaks 0 stmts notes) (last ∷ []) (with_in_order breaks 0 stmts notes) (pairs_one (λ first second. first ≤ second) last)
+    (All-weaker (λ n. (0 ≤ n) × (n < 0 + length stmts)) (λ n. All (λ m. n ≤ m) (last ∷ [])) (λ n w. let b = w.1 in All-cons (λ m. n ≤ m) last [] (omega arith) (All-nil (λ m. n ≤ m))) (numbers_with breaks 0 stmts notes) (with_from breaks 0 stmts notes))
+with_last_in_order breaks stmts notes false last l =
+    pairs_append (λ first second. first ≤ second) (numbers_with breaks 0 stmts notes) [] (with_in_order breaks 0 stmts notes) (pairs_nil (λ first second. first ≤ second))
+    (All-weaker (λ n. (0 ≤ n) × (n < 0 + length stmts)) (λ n. All (λ m. n ≤ m) []) (λ n w. All-nil (λ m. n ≤ m)) (numbers_with breaks 0 stmts notes) (with_from breaks 0 stmts notes))

@@ -1,3 +1,6 @@
 pub mod Collecting
 pub mod Finding
+pub mod Walking
+pub mod Placing
 pub mod Refusing
+pub mod Judging

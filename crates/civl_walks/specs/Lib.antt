@@ -1,2 +1,4 @@
 pub mod Walks
 pub mod First
+pub mod Walked
+pub mod Judged

@@ -1,11 +1,17 @@
-//! What crates that go over the statements of a program share: the statements of a body in text order, and the first of
-//! them that breaks a rule.
+//! The first part of a program that breaks a static rule, for rules of any crate: a rule tells of each part by itself whether
+//! it breaks it, and the crate goes over the parts in the order of item and statement.
 #![tactic(auto)]
 
+mod broken;
 mod flat;
 mod found;
+mod item;
+pub mod laws;
 mod rule;
+mod walk;
 
+pub use broken::{Decides, first_broken};
 pub use flat::statements;
-pub use found::{Finder, PartRule, first_in_procs, first_part};
-pub use rule::{Rule, Test, first_where, first_with};
+pub use found::{Finder, first_in_procs};
+pub use rule::{NoteTest, Test, first_with};
+pub use walk::first_in_body;

@@ -1,7 +1,7 @@
-// The first statement that breaks a rule.
+// What a rule asks of statements.
 ghost use Rattle.std.specs.Prelude.{ℕ, Bool, ◌≡◌, ◌<◌, ◌^◌, map, length};
 ghost use Rattle.civl_tree.specs.declared.stmt.Stmt.{Stmt};
-ghost use Rattle.civl_tree.specs.rules.Refusals.{numbers_where, first_of};
+ghost use Rattle.civl_tree.specs.rules.Rules.{first_of};
 ghost use Rattle.civl_walks.specs.Walks.{numbers_with};
 
 use civl_tree::Stmt;
@@ -16,7 +16,7 @@ pub trait Test {
 }
 
 /// What a rule asks of a statement and of a note, which says what is known of it.
-pub trait Rule<N> {
+pub trait NoteTest<N> {
     ghost breaks_with: { Self → Stmt → N → Bool };
 
     /// Whether the statement with this note breaks the rule.
@@ -24,21 +24,9 @@ pub trait Rule<N> {
         ensures { result ≡ breaks_with self.now stmt.now note.now };
 }
 
-/// The number of the first of these statements that breaks a rule.
-pub fn first_where<T: Test>(test: &T, flat: &[&Stmt]) -> Option<u32>
-    requires { length flat.now < 2 ^ 32 }
-    ensures { result ≡ first_of (numbers_where (T.breaks test.now) 0 (map (λ stmt. stmt.now) flat.now)) }
-{
-    for (number, stmt) in flat.iter().enumerate() {
-        if test.breaks(stmt) {
-            return Some(number as u32);
-        }
-    }
-    None
-}
-
 /// The number of the first of these statements that breaks a rule with its note. A statement without a note breaks none.
-pub fn first_with<N, R: Rule<N>>(rule: &R, flat: &[&Stmt], notes: &[N]) -> Option<u32>
+/// There are fewer than 2^32 statements.
+pub fn first_with<N, R: NoteTest<N>>(rule: &R, flat: &[&Stmt], notes: &[N]) -> Option<u32>
     requires { length flat.now < 2 ^ 32 }
     ensures { result ≡ first_of (numbers_with (R.breaks_with rule.now) 0 (map (λ stmt. stmt.now) flat.now) notes.now) }
 {

@@ -1,14 +1,14 @@
 -- A block that may have passed its turning point earlier may have passed it later.
 use Rattle.std.proofs.Common.{◌≡◌, Bool, true, false, ◌||◌, List, [], ◌∷◌, map, Option, None, Some, refl, sym, ap, ◌∙◌, subst}
 use Rattle.civl_tree.specs.declared.stmt.Stmt.{Stmt, roll-Stmt, out-roll-Stmt, map-Stmt}
-use Rattle.civl_tree.specs.declared.stmt.Stmt.TheOpen.{Stmt-F, Assign, Assert, If, While, YieldLoop, RankLoop, Call, Yield, Commit, Intro, Spawn}
+use Rattle.civl_tree.specs.declared.stmt.Stmt.TheOpen.{Stmt-F, If, YieldLoop, Call, Yield}
 use Rattle.civl_tree.specs.declared.stmt.Stmt.TheFolds.{ind-Stmt}
 use Rattle.civl_tree.specs.declared.action.Action.{Action}
 use Rattle.civl_tree.specs.declared.program.Program.{Program}
 use Rattle.civl_yields.specs.Movers.{called_action}
 use Rattle.civl_yields.specs.Phases.{Passed, passed, passed_all, called_phase}
 use Rattle.civl_yields.specs.Heads.{HeadIsLeast}
-use Rattle.civl_yields.proofs.Examples.{passed_layer, passed_is}
+use Rattle.civl_yields.proofs.Examples.{passed_form, passed_is}
 
 abbrev Follows : Bool → Bool → Type 0
 Follows a b = a ≡ true → b ≡ true
@@ -37,26 +37,20 @@ module _ {S : Type 0} (program : Program) (view : S → Stmt) (grows : (s : S) �
   all_grow (part ∷ parts) e =
       then_follows (λ (left : Bool). (passed_all program (map view parts) left).after) (all_grow parts) (passed program (view part) false).after (passed program (view part) true).after (grows part) e
 
-  layer_grows : (layer : Stmt-F S) → Follows (passed_layer program (map-Stmt S Stmt view layer) false).after (passed_layer program (map-Stmt S Stmt view layer) true).after
-  layer_grows (Assign target value) e = refl
-  layer_grows (Assert fact) e = refl
-  layer_grows (If test first second) e =
+  form_grows : (form : Stmt-F S) → Follows (passed_form program (map-Stmt S Stmt view form) false).after (passed_form program (map-Stmt S Stmt view form) true).after
+  form_grows (If test first second) e =
       or_follows (passed_all program (map view first) false).after _ (passed_all program (map view second) false).after _ (all_grow first) (all_grow second) e
-  layer_grows (While test body) e = refl
-  layer_grows (YieldLoop test inv body) e = e
-  layer_grows (RankLoop test rank inv body) e = refl
-  layer_grows (Call callee args results) e = called_left (called_action program callee)
-  layer_grows (Yield inv) e = e
-  layer_grows Commit e = refl
-  layer_grows (Intro target value) e = refl
-  layer_grows (Spawn callee args) e = refl
+  form_grows (YieldLoop test inv body) e = e
+  form_grows (Call callee args results) e = called_left (called_action program callee)
+  form_grows (Yield inv) e = e
+  form_grows _ e = refl
 
 grows : (program : Program) (stmt : Stmt) → Grows program stmt
 grows program stmt =
     ind-Stmt (Grows program) (λ x y q.
-    let here = subst (λ (layer : Stmt-F Stmt). Follows (passed_layer program layer false).after (passed_layer program layer true).after) q (layer_grows program (λ z. z.0) (λ z. z.1) y) in
-    let is : (left : Bool) → (passed program (roll-Stmt x) left).after ≡ (passed_layer program x left).after =
-    λ left. ap (λ (p : Passed). p.after) (passed_is program (roll-Stmt x) left ∙ ap (λ (layer : Stmt-F Stmt). passed_layer program layer left) (out-roll-Stmt x)) in
+    let here = subst (λ (form : Stmt-F Stmt). Follows (passed_form program form false).after (passed_form program form true).after) q (form_grows program (λ z. z.0) (λ z. z.1) y) in
+    let is : (left : Bool) → (passed program (roll-Stmt x) left).after ≡ (passed_form program x left).after =
+    λ left. ap (λ (p : Passed). p.after) (passed_is program (roll-Stmt x) left ∙ ap (λ (form : Stmt-F Stmt). passed_form program form left) (out-roll-Stmt x)) in
     λ e. is true ∙ here (sym (is false) ∙ e)) stmt
 
 whole : (program : Program) (body : List Stmt) → Follows (passed_all program body false).after (passed_all program body true).after

@@ -4,3 +4,4 @@ pub mod Answering
 pub mod Listings
 pub mod Examples
 pub mod Growing
+pub mod Beside

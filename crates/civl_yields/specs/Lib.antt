@@ -1,7 +1,8 @@
 pub mod Movers
 pub mod Phases
 pub mod Places
-pub mod Refusals
+pub mod YieldRules
+pub mod Lengths
 pub mod Marks
 pub mod examples
 pub mod Heads

@@ -1,4 +1,4 @@
--- Phases as the code finds them.
+-- Serves private functions: phases as the code finds them.
 use Rattle.std.specs.Prelude.{Bool, true, false}
 use Rattle.civl_yields.specs.declared.strays.Leave.{Leave as Lent}
 use Rattle.civl_yields.specs.Places.{Leave}

@@ -2,7 +2,7 @@
 -- turning point (Lipton 1975; Hawblitzel, Petrank, Qadeer, Tasiran, CAV 2015).
 use Rattle.std.specs.Prelude.{Bool, true, false, ◌||◌, List, [], ◌∷◌, ◌++◌, map, Option, None, Some, if◌then◌else◌}
 use Rattle.civl_tree.specs.declared.stmt.Stmt.{Stmt, out-Stmt}
-use Rattle.civl_tree.specs.declared.stmt.Stmt.TheOpen.{Stmt-F, Assign, Assert, If, While, YieldLoop, RankLoop, Call, Yield, Commit, Intro, Spawn}
+use Rattle.civl_tree.specs.declared.stmt.Stmt.TheOpen.{Stmt-F, If, While, YieldLoop, RankLoop, Call, Yield}
 use Rattle.civl_tree.specs.declared.stmt.Stmt.TheFolds.{fold-Stmt}
 use Rattle.civl_tree.specs.declared.action.Action.{Action}
 use Rattle.civl_tree.specs.declared.program.Refines.{Refines}
@@ -47,19 +47,15 @@ abbrev pub called_phase : Option Action → Bool → Bool
 called_phase None left = left
 called_phase (Some action) left = left || turns action.mover
 
--- over one layer of a statement, with what goes over its parts
+-- over a statement by its form, with what goes over its parts
 abbrev pub pass_step : Program → Stmt-F (Bool → Passed) → Bool → Passed
-pass_step program (Assign target value) left = pass_one left left
-pass_step program (Assert fact) left = pass_one left left
 pass_step program (If test first second) left = pass_if left (pass_all first left) (pass_all second left)
 pass_step program (While test body) left = pass_loop left (head_phase body left) (pass_all body (head_phase body left))
 pass_step program (YieldLoop test inv body) left = pass_loop left false (pass_all body false)
 pass_step program (RankLoop test rank inv body) left = pass_loop left (head_phase body left) (pass_all body (head_phase body left))
 pass_step program (Call callee args results) left = pass_one left (called_phase (called_action program callee) left)
 pass_step program (Yield inv) left = pass_one left false
-pass_step program Commit left = pass_one left left
-pass_step program (Intro target value) left = pass_one left left
-pass_step program (Spawn callee args) left = pass_one left left
+pass_step program _ left = pass_one left left
 
 -- over a statement and those in it
 abbrev pub passed : Program → Stmt → Bool → Passed
@@ -75,21 +71,12 @@ phases_before program body = (passed_all program body false).befores
 
 -- ---- the phases before calls
 
-abbrev pub is_call_layer : Stmt-F Stmt → Bool
-is_call_layer (Assign target value) = false
-is_call_layer (Assert fact) = false
-is_call_layer (If test first second) = false
-is_call_layer (While test body) = false
-is_call_layer (YieldLoop test inv body) = false
-is_call_layer (RankLoop test rank inv body) = false
-is_call_layer (Call callee args results) = true
-is_call_layer (Yield inv) = false
-is_call_layer Commit = false
-is_call_layer (Intro target value) = false
-is_call_layer (Spawn callee args) = false
+abbrev pub is_call_form : Stmt-F Stmt → Bool
+is_call_form (Call callee args results) = true
+is_call_form _ = false
 
 abbrev pub is_call : Stmt → Bool
-is_call stmt = is_call_layer (out-Stmt stmt)
+is_call stmt = is_call_form (out-Stmt stmt)
 
 -- of these phases, each before one of these statements, those before a call
 abbrev pub before_calls : List Stmt → List Bool → List Bool

@@ -20,22 +20,13 @@ abbrev pub too_late : Option Action → Bool
 too_late None = false
 too_late (Some action) = not (may_follow action.mover)
 
-abbrev pub layer_late : Program → Stmt-F Stmt → Bool → Bool
-layer_late program (Assign target value) left = false
-layer_late program (Assert fact) left = false
-layer_late program (If test first second) left = false
-layer_late program (While test body) left = false
-layer_late program (YieldLoop test inv body) left = false
-layer_late program (RankLoop test rank inv body) left = false
-layer_late program (Call callee args results) left = left && too_late (called_action program callee)
-layer_late program (Yield inv) left = false
-layer_late program Commit left = false
-layer_late program (Intro target value) left = false
-layer_late program (Spawn callee args) left = false
+abbrev pub form_late : Program → Stmt-F Stmt → Bool → Bool
+form_late program (Call callee args results) left = left && too_late (called_action program callee)
+form_late program _ left = false
 
 -- the statement of a layered procedure with this phase before it
 abbrev pub stmt_late : Program → Stmt → Bool → Bool
-stmt_late program stmt left = layer_late program (out-Stmt stmt) left
+stmt_late program stmt left = form_late program (out-Stmt stmt) left
 
 -- ---- E51: a yield or any loop inside a rank loop
 
@@ -45,17 +36,11 @@ inside_all [] inside = []
 inside_all (statement ∷ statements) inside = statement inside ++ inside_all statements inside
 
 abbrev pub inside_step : Stmt-F (Bool → List Bool) → Bool → List Bool
-inside_step (Assign target value) inside = inside ∷ []
-inside_step (Assert fact) inside = inside ∷ []
 inside_step (If test first second) inside = inside ∷ inside_all first inside ++ inside_all second inside
 inside_step (While test body) inside = inside ∷ inside_all body inside
 inside_step (YieldLoop test inv body) inside = inside ∷ inside_all body inside
 inside_step (RankLoop test rank inv body) inside = inside ∷ inside_all body true
-inside_step (Call callee args results) inside = inside ∷ []
-inside_step (Yield inv) inside = inside ∷ []
-inside_step Commit inside = inside ∷ []
-inside_step (Intro target value) inside = inside ∷ []
-inside_step (Spawn callee args) inside = inside ∷ []
+inside_step _ inside = inside ∷ []
 
 abbrev pub insides : Stmt → Bool → List Bool
 insides = fold-Stmt (Bool → List Bool) inside_step
@@ -64,45 +49,36 @@ abbrev pub insides_all : List Stmt → Bool → List Bool
 insides_all stmts = inside_all (map insides stmts)
 
 -- a yield, or a loop of any form
-abbrev pub layer_pauses : Stmt-F Stmt → Bool
-layer_pauses (Assign target value) = false
-layer_pauses (Assert fact) = false
-layer_pauses (If test first second) = false
-layer_pauses (While test body) = true
-layer_pauses (YieldLoop test inv body) = true
-layer_pauses (RankLoop test rank inv body) = true
-layer_pauses (Call callee args results) = false
-layer_pauses (Yield inv) = true
-layer_pauses Commit = false
-layer_pauses (Intro target value) = false
-layer_pauses (Spawn callee args) = false
+abbrev pub form_pauses : Stmt-F Stmt → Bool
+form_pauses (While test body) = true
+form_pauses (YieldLoop test inv body) = true
+form_pauses (RankLoop test rank inv body) = true
+form_pauses (Yield inv) = true
+form_pauses _ = false
 
 -- the statement, of which it is told whether it stands inside a rank loop
 abbrev pub stmt_nested : Stmt → Bool → Bool
-stmt_nested stmt inside = inside && layer_pauses (out-Stmt stmt)
+stmt_nested stmt inside = inside && form_pauses (out-Stmt stmt)
 
 -- ---- E52: a statement of layered procedures in a root, or one of roots in a layered procedure
 
 -- the procedure is layered as told
-abbrev pub layer_misplaced : Bool → Stmt-F Stmt → Bool
-layer_misplaced layered (Assign target value) = false
-layer_misplaced layered (Assert fact) = false
-layer_misplaced layered (If test first second) = false
-layer_misplaced layered (While test body) = layered
-layer_misplaced layered (YieldLoop test inv body) = not layered
-layer_misplaced layered (RankLoop test rank inv body) = not layered
-layer_misplaced layered (Call callee args results) = false
-layer_misplaced layered (Yield inv) = not layered
-layer_misplaced layered Commit = not layered
-layer_misplaced layered (Intro target value) = not layered
-layer_misplaced layered (Spawn callee args) = layered
+abbrev pub form_misplaced : Bool → Stmt-F Stmt → Bool
+form_misplaced layered (While test body) = layered
+form_misplaced layered (YieldLoop test inv body) = not layered
+form_misplaced layered (RankLoop test rank inv body) = not layered
+form_misplaced layered (Yield inv) = not layered
+form_misplaced layered Commit = not layered
+form_misplaced layered (Intro target value) = not layered
+form_misplaced layered (Spawn callee args) = layered
+form_misplaced layered _ = false
 
 -- a procedure that refines an action is layered, any other is a root
 abbrev pub is_layered : Proc → Bool
 is_layered proc = is_some proc.refines
 
 abbrev pub stmt_misplaced : Proc → Stmt → Bool
-stmt_misplaced proc stmt = layer_misplaced (is_layered proc) (out-Stmt stmt)
+stmt_misplaced proc stmt = form_misplaced (is_layered proc) (out-Stmt stmt)
 
 -- ---- E53: `done` or `old` where they may not stand
 
@@ -111,12 +87,8 @@ pub record Leave : Type 0 where
   pub done : Bool
   pub old : Bool
 
--- one layer of an expression, with whether a part holds `done` or `old(..)` without leave
+-- an expression by its form, with whether a part holds `done` or `old(..)` without leave
 abbrev pub stray_step : Leave → expr.Expr-F Bool → Bool
-stray_step leave (expr.Name name) = false
-stray_step leave (expr.Literal value width) = false
-stray_step leave expr.True = false
-stray_step leave expr.False = false
 stray_step leave expr.Done = not leave.done
 stray_step leave (expr.Old name) = not leave.old
 stray_step leave expr.OldDone = not leave.old
@@ -129,6 +101,7 @@ stray_step leave (expr.Fill index cell) = cell
 stray_step leave (expr.Slice word high low) = word
 stray_step leave (expr.Widen word wider) = word
 stray_step leave (expr.Join first second) = first || second
+stray_step leave _ = false
 
 abbrev pub stray : Leave → Expr → Bool
 stray leave = fold-Expr Bool (stray_step leave)
@@ -158,18 +131,18 @@ abbrev pub refines_stray : Option Refines → Bool
 refines_stray None = false
 refines_stray (Some refines) = any_stray refines.with
 
-abbrev pub layer_stray : Bool → Stmt-F Stmt → Bool
-layer_stray layered (Assign target value) = stray no_leave value
-layer_stray layered (Assert fact) = stray no_leave fact
-layer_stray layered (If test first second) = stray no_leave test
-layer_stray layered (While test body) = stray no_leave test
-layer_stray layered (YieldLoop test inv body) = stray no_leave test || stray (yield_leave layered) inv
-layer_stray layered (RankLoop test rank inv body) = stray no_leave test || (stray no_leave rank || stray (rank_leave layered) inv)
-layer_stray layered (Call callee args results) = any_stray args
-layer_stray layered (Yield inv) = stray (yield_leave layered) inv
-layer_stray layered Commit = false
-layer_stray layered (Intro target value) = stray no_leave value
-layer_stray layered (Spawn callee args) = any_stray args
+abbrev pub form_stray : Bool → Stmt-F Stmt → Bool
+form_stray layered (Assign target value) = stray no_leave value
+form_stray layered (Assert fact) = stray no_leave fact
+form_stray layered (If test first second) = stray no_leave test
+form_stray layered (While test body) = stray no_leave test
+form_stray layered (YieldLoop test inv body) = stray no_leave test || stray (yield_leave layered) inv
+form_stray layered (RankLoop test rank inv body) = stray no_leave test || (stray no_leave rank || stray (rank_leave layered) inv)
+form_stray layered (Call callee args results) = any_stray args
+form_stray layered (Yield inv) = stray (yield_leave layered) inv
+form_stray layered Commit = false
+form_stray layered (Intro target value) = stray no_leave value
+form_stray layered (Spawn callee args) = any_stray args
 
 abbrev pub stmt_stray : Proc → Stmt → Bool
-stmt_stray proc stmt = layer_stray (is_layered proc) (out-Stmt stmt)
+stmt_stray proc stmt = form_stray (is_layered proc) (out-Stmt stmt)

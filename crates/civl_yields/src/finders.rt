@@ -1,21 +1,18 @@
 // The first statement of a procedure at which a rule is broken.
-ghost use Rattle.std.specs.Prelude.{◌≡◌, false};
-ghost use Rattle.civl_yields.specs.Places.{is_layered, refines_stray};
-ghost use Rattle.civl_yields.specs.Refusals.{late_numbers, nested_numbers, misplaced_numbers, stray_numbers};
+ghost use Rattle.std.specs.Prelude.{◌≡◌};
+ghost use Rattle.civl_yields.specs.Places.{is_layered};
+ghost use Rattle.civl_yields.specs.YieldRules.{phase_rule, rank_loop_rule, commit_rule};
 
 use crate::inside::insides_of;
 use crate::marking::phases_before;
-use crate::rules::{Late, Misplaced, Nested, Stray};
-use crate::strays::refines_stray;
+use crate::rules::{Late, Misplaced, Nested};
 use civl_tree::{Memory, Proc, Program};
-use civl_walks::{Finder, first_where, first_with, statements};
+use civl_walks::{Finder, first_in_body, first_with, statements};
 use std::alloc::Global;
 
 /// Calls that come too late (E50).
 #[derive(Clone, Copy)]
-pub(crate) struct LateCalls<'a> {
-    pub program: &'a Program,
-}
+pub(crate) struct LateCalls;
 
 /// Yields and loops inside rank loops (E51).
 #[derive(Clone, Copy)]
@@ -25,23 +22,25 @@ pub(crate) struct NestedLoops;
 #[derive(Clone, Copy)]
 pub(crate) struct MisplacedStatements;
 
-/// Stray `done` and `old` (E53).
-#[derive(Clone, Copy)]
-pub(crate) struct StrayWords;
+impl Finder for LateCalls {
+    ghost rule = { λ calls. phase_rule };
 
-impl<'a> Finder for LateCalls<'a> {
-    ghost proc_breaks = { λ calls proc. false };
+    fn code(&self) -> u32 {
+        50
+    }
 
-    ghost numbers = { λ calls proc. late_numbers calls.program.now proc };
-
-    fn find(&self, alloc: Global, proc: &Proc) -> Result<Option<u32>, Memory> {
+    fn find(
+        &self,
+        alloc: Global,
+        program: &Program,
+        _place: usize,
+        proc: &Proc,
+    ) -> Result<Option<u32>, Memory> {
         match &proc.refines {
             Some(_) => {
                 let flat = statements(alloc, &proc.body)?;
-                let phases = phases_before(alloc, self.program, &proc.body)?;
-                let late = Late {
-                    program: self.program,
-                };
+                let phases = phases_before(alloc, program, &proc.body)?;
+                let late = Late { program };
                 Ok(first_with(&late, &flat, &phases))
             }
             None => Ok(None),
@@ -50,11 +49,19 @@ impl<'a> Finder for LateCalls<'a> {
 }
 
 impl Finder for NestedLoops {
-    ghost proc_breaks = { λ loops proc. false };
+    ghost rule = { λ loops. rank_loop_rule };
 
-    ghost numbers = { λ loops proc. nested_numbers proc };
+    fn code(&self) -> u32 {
+        51
+    }
 
-    fn find(&self, alloc: Global, proc: &Proc) -> Result<Option<u32>, Memory> {
+    fn find(
+        &self,
+        alloc: Global,
+        _program: &Program,
+        _place: usize,
+        proc: &Proc,
+    ) -> Result<Option<u32>, Memory> {
         let flat = statements(alloc, &proc.body)?;
         let insides = insides_of(alloc, &proc.body)?;
         Ok(first_with(&Nested, &flat, &insides))
@@ -62,39 +69,30 @@ impl Finder for NestedLoops {
 }
 
 /// Whether the procedure refines an action.
-fn is_layered(proc: &Proc) -> bool
+pub(crate) fn is_layered(proc: &Proc) -> bool
     ensures { result ≡ is_layered proc.now }
 {
     proc.refines.is_some()
 }
 
 impl Finder for MisplacedStatements {
-    ghost proc_breaks = { λ statements proc. false };
+    ghost rule = { λ statements. commit_rule };
 
-    ghost numbers = { λ statements proc. misplaced_numbers proc };
+    fn code(&self) -> u32 {
+        52
+    }
 
-    fn find(&self, alloc: Global, proc: &Proc) -> Result<Option<u32>, Memory> {
-        let flat = statements(alloc, &proc.body)?;
+    #[tactic(auto, using(civl_walks::proofs::Placing::body_counts))]
+    fn find(
+        &self,
+        _alloc: Global,
+        _program: &Program,
+        _place: usize,
+        proc: &Proc,
+    ) -> Result<Option<u32>, Memory> {
         let misplaced = Misplaced {
             layered: is_layered(proc),
         };
-        Ok(first_where(&misplaced, &flat))
-    }
-}
-
-impl Finder for StrayWords {
-    ghost proc_breaks = { λ words proc. refines_stray proc.refines };
-
-    ghost numbers = { λ words proc. stray_numbers proc };
-
-    fn find(&self, alloc: Global, proc: &Proc) -> Result<Option<u32>, Memory> {
-        if refines_stray(proc) {
-            return Ok(Some(0));
-        }
-        let flat = statements(alloc, &proc.body)?;
-        let stray = Stray {
-            layered: is_layered(proc),
-        };
-        Ok(first_where(&stray, &flat))
+        Ok(first_in_body(&misplaced, &proc.body))
     }
 }

@@ -1,5 +1,6 @@
-//! What the rules on yields and movers are on worked examples.
+//! What the rules on yields and movers are on worked examples, and that nothing is left out on the way.
 ghost use Rattle.civl_yields.specs.Heads.{HeadIsLeast};
+ghost use Rattle.civl_yields.specs.Lengths.{PhaseBeforeEach, EachIsInside, PhaseBeforeEachCall};
 ghost use Rattle.civl_yields.specs.examples.Late.{LateInOrder, PhasesOnSomeWay, PhasesBehindYields, LateInSpinlock, PhasesBeforeCalls};
 ghost use Rattle.civl_yields.specs.examples.Misplaced.{InsideRankLoops, NestedInRankLoops, MisplacedStatements, SpawnsOfFlag, StrayInItems, StrayInStatements};
 
@@ -61,4 +62,19 @@ pub fn stray_in_statements()
 /// The phase at the head of a loop is the least that is right on each way to it.
 pub fn head_is_least()
     ensures { HeadIsLeast }
+{}
+
+/// There is a phase before each statement.
+pub fn phase_before_each()
+    ensures { PhaseBeforeEach }
+{}
+
+/// Each statement is told whether it stands inside a rank loop.
+pub fn each_is_inside()
+    ensures { EachIsInside }
+{}
+
+/// There is a phase before each call of a layered procedure.
+pub fn phase_before_each_call()
+    ensures { PhaseBeforeEachCall }
 {}

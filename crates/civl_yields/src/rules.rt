@@ -3,13 +3,13 @@ ghost use Rattle.std.specs.Prelude.{◌≡◌};
 ghost use Rattle.civl_tree.specs.declared.stmt.Stmt.{out-Stmt};
 ghost use Rattle.civl_yields.specs.Movers.{called_action};
 ghost use Rattle.civl_yields.specs.Phases.{is_call};
-ghost use Rattle.civl_yields.specs.Places.{stmt_late, stmt_nested, layer_misplaced, layer_stray, too_late};
+ghost use Rattle.civl_yields.specs.Places.{stmt_late, stmt_nested, form_misplaced, form_stray, too_late};
 
 use crate::called::called_action;
 use crate::movers::may_follow;
 use crate::strays::stmt_stray;
 use civl_tree::{Name, Program, Stmt};
-use civl_walks::{Rule, Test};
+use civl_walks::{NoteTest, Test};
 
 /// A call of a right or atomic action where the phase may be left (E50).
 #[derive(Clone, Copy)]
@@ -43,7 +43,7 @@ fn is_early(program: &Program, callee: &Name) -> bool
     }
 }
 
-impl<'a> Rule<bool> for Late<'a> {
+impl<'a> NoteTest<bool> for Late<'a> {
     ghost breaks_with = { λ late stmt left. stmt_late late.program.now stmt left };
 
     fn breaks_with(&self, stmt: &Stmt, note: &bool) -> bool {
@@ -63,7 +63,7 @@ impl<'a> Rule<bool> for Late<'a> {
     }
 }
 
-impl Rule<bool> for Nested {
+impl NoteTest<bool> for Nested {
     ghost breaks_with = { λ nested stmt inside. stmt_nested stmt inside };
 
     fn breaks_with(&self, stmt: &Stmt, note: &bool) -> bool {
@@ -84,7 +84,7 @@ impl Rule<bool> for Nested {
 }
 
 impl Test for Misplaced {
-    ghost breaks = { λ misplaced stmt. layer_misplaced misplaced.layered (out-Stmt stmt) };
+    ghost breaks = { λ misplaced stmt. form_misplaced misplaced.layered (out-Stmt stmt) };
 
     fn breaks(&self, stmt: &Stmt) -> bool {
         match stmt {
@@ -104,7 +104,7 @@ impl Test for Misplaced {
 }
 
 impl Test for Stray {
-    ghost breaks = { λ strays stmt. layer_stray strays.layered (out-Stmt stmt) };
+    ghost breaks = { λ strays stmt. form_stray strays.layered (out-Stmt stmt) };
 
     fn breaks(&self, stmt: &Stmt) -> bool {
         stmt_stray(self.layered, stmt)

@@ -1,7 +1,7 @@
 // Stray `done` and `old`.
 ghost use Rattle.std.specs.Prelude.{◌≡◌};
 ghost use Rattle.std.specs.List.{list_any};
-ghost use Rattle.civl_yields.specs.Places.{stray, no_leave, yield_leave, rank_leave, any_stray, action_stray, refines_stray, layer_stray};
+ghost use Rattle.civl_yields.specs.Places.{stray, no_leave, yield_leave, rank_leave, any_stray, action_stray, refines_stray, form_stray};
 ghost use Rattle.civl_tree.specs.declared.stmt.Stmt.{out-Stmt};
 ghost use Rattle.civl_yields.specs.Marks.{leave_of};
 
@@ -131,7 +131,7 @@ fn rank_stray(layered: bool, inv: &Expr) -> bool
 
 /// The same of an expression of a statement itself, in a procedure that is layered as told.
 pub(crate) fn stmt_stray(layered: bool, stmt: &Stmt) -> bool
-    ensures { result ≡ layer_stray layered (out-Stmt stmt.now) }
+    ensures { result ≡ form_stray layered (out-Stmt stmt.now) }
 {
     match stmt {
         Stmt::Assign(_, value) => plainly_stray(value),

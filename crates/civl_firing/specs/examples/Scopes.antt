@@ -11,7 +11,7 @@ use Rattle.civl_tree.specs.declared.program.Global.{Global}
 use Rattle.civl_tree.specs.declared.program.Proc.{Proc}
 use Rattle.civl_firing.specs.declared.store.Store.{Store}
 use Rattle.civl_firing.specs.declared.scope.Scope.{Scope}
-use Rattle.civl_firing.specs.Scope.{global_scope, gate_scope, guard_scope, frame_scope}
+use Rattle.civl_firing.specs.Scope.{global_values, gate_values, guard_values, frame_values}
 use Rattle.civl_firing.specs.examples.Written.{word, bool, array, array_sort, named, name, lit, Evaluates, global, param, choice, local, action, root, proc, holding}
 
 abbrev byte : Sort
@@ -34,7 +34,7 @@ abbrev old : List ℕ → Expr
 old bytes = expr.Old (named bytes)
 
 abbrev pub GlobalPlaces : Type 0
-GlobalPlaces = Evaluates (global_scope globals store) (
+GlobalPlaces = Evaluates (global_values globals store) (
     (name (codes "g"), word 8 7)
     ∷ (old (codes "g"), word 8 7)
     ∷ (old (codes "r"), array 1 4 (5 ∷ 6 ∷ []))
@@ -45,7 +45,7 @@ GlobalPlaces = Evaluates (global_scope globals store) (
 
 -- with 3 for p: a global's old value is its value, and an output's, which has no value, is 0
 abbrev pub GatePlaces : Type 0
-GatePlaces = Evaluates (gate_scope globals store act (word 8 3 ∷ [])) (
+GatePlaces = Evaluates (gate_values globals store act (word 8 3 ∷ [])) (
     (name (codes "g"), word 8 7)
     ∷ (name (codes "p"), word 8 3)
     ∷ (old (codes "g"), word 8 7)
@@ -57,7 +57,7 @@ GatePlaces = Evaluates (gate_scope globals store act (word 8 3 ∷ [])) (
 
 -- and with 9 for c
 abbrev pub GuardPlaces : Type 0
-GuardPlaces = Evaluates (guard_scope globals store act (word 8 3 ∷ []) (word 8 9 ∷ [])) (
+GuardPlaces = Evaluates (guard_values globals store act (word 8 3 ∷ []) (word 8 9 ∷ [])) (
     (name (codes "g"), word 8 7)
     ∷ (name (codes "p"), word 8 3)
     ∷ (name (codes "c"), word 8 9)
@@ -70,7 +70,7 @@ GuardPlaces = Evaluates (guard_scope globals store act (word 8 3 ∷ []) (word 8
 
 -- with 3, 4 and 5 for p, o and l: a global, which has no value here, is 0 or a row of 0 before, and an output what it is
 abbrev pub FramePlaces : Type 0
-FramePlaces = Evaluates (frame_scope globals work (word 8 3 ∷ word 8 4 ∷ word 8 5 ∷ [])) (
+FramePlaces = Evaluates (frame_values globals work (word 8 3 ∷ word 8 4 ∷ word 8 5 ∷ [])) (
     (name (codes "p"), word 8 3)
     ∷ (name (codes "o"), word 8 4)
     ∷ (name (codes "l"), word 8 5)

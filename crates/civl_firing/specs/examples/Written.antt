@@ -23,7 +23,7 @@ use Rattle.civl_tree.specs.declared.stmt.Stmt as stmt
 use Rattle.civl_firing.specs.declared.store.Store.{Store}
 use Rattle.civl_firing.specs.declared.scope.Scope.{Scope}
 use Rattle.civl_firing.specs.Eval.{value_of}
-use Rattle.civl_firing.specs.Scope.{present}
+use Rattle.civl_firing.specs.Scope.{present_values}
 
 -- a word of this width with this number
 abbrev pub word : ℕ → ℕ → Value
@@ -54,7 +54,7 @@ lit number width = expr.Literal number width
 
 -- a scope with no names
 abbrev pub nowhere : Scope
-nowhere = present [] []
+nowhere = present_values [] []
 
 -- each expression of a table has the value beside it
 abbrev pub Evaluates : Scope → List (Expr × Value) → Type 0

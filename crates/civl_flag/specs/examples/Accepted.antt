@@ -7,14 +7,12 @@
 --   action AtomSet() -> () choose () layers 1 to 1 atomic gate f guard true { f := true; }
 --   proc DoSet() -> () refines AtomSet with () layer 1 { call Set() -> (); commit; }
 --   thread DoSet();
-use Rattle.std.specs.Prelude.{ℕ, ◌≡◌, true, false, List, [], ◌∷◌, codes, IsTrue}
-use Rattle.civl_tree.specs.declared.program.Proc.{Proc}
+use Rattle.std.specs.Prelude.{false, [], ◌∷◌, codes}
 use Rattle.civl_tree.specs.declared.program.Program.{Program}
-use Rattle.civl_tree.specs.declared.stmt.Stmt as stmt
 use Rattle.civl_meaning.specs.Failing.{CanFail}
 use Rattle.civl_meaning.specs.Layers.{lowest, topmost}
 use Rattle.civl_meaning.specs.Preserves.{Preserves}
-use Rattle.civl_firing.specs.examples.Written.{name, refines, proc, call}
+use Rattle.civl_firing.specs.examples.Written.{name}
 use Rattle.civl_meaning.specs.examples.Flag.{flag, setting, flag_is}
 use Rattle.civl_flag.specs.Conditions.{conditions_of}
 use Rattle.civl_flag.specs.Decide.{AllHold}

@@ -14,13 +14,14 @@ use Rattle.std.specs.Prelude.{Bool, List, [], ◌∷◌, codes, IsTrue}
 use Rattle.civl_tree.specs.declared.expr.Expr as expr
 use Rattle.civl_tree.specs.declared.program.Program.{Program}
 use Rattle.civl_tree.specs.declared.stmt.Stmt as stmt
-use Rattle.civl_tree.specs.rules.Refusals.{BreaksNone}
+use Rattle.civl_tree.specs.rules.Rules.{Keeps}
+use Rattle.civl_tree.specs.rules.Typing.{typing_rules}
 use Rattle.civl_meaning.specs.Preserves.{Preserves}
 use Rattle.civl_firing.specs.examples.Written.{name, refines, proc, thread, call}
 use Rattle.civl_meaning.specs.examples.Flag.{flag, setting}
 use Rattle.civl_flag.specs.FlagForm.{is_flag_form}
 use Rattle.civl_flag.specs.Conditions.{conditions_of}
-use Rattle.civl_flag.specs.Decide.{IsInitial, AllHold}
+use Rattle.civl_flag.specs.Decide.{IsBoolInitial, AllHold}
 
 abbrev pub nested : Program
 nested = record flag {
@@ -33,7 +34,7 @@ nested = record flag {
 
 abbrev pub NestedKeepsTheOthers : Type 0
 NestedKeepsTheOthers =
-    IsTrue (is_flag_form nested) × BreaksNone nested × ((store : List Bool) × IsInitial nested store) × AllHold nested (conditions_of nested)
+    IsTrue (is_flag_form nested) × Keeps typing_rules nested × ((store : List Bool) × IsBoolInitial nested store) × AllHold nested (conditions_of nested)
 
 abbrev pub NestedIsNotPreserved : Type 0
 NestedIsNotPreserved = Preserves nested → ⊥

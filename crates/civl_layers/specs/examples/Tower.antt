@@ -30,9 +30,10 @@ use Rattle.civl_tree.specs.declared.program.Invariant.{Invariant}
 use Rattle.civl_tree.specs.declared.program.Proc.{Proc}
 use Rattle.civl_tree.specs.declared.program.Thread.{Thread}
 use Rattle.civl_tree.specs.declared.program.Program.{Program}
-use Rattle.civl_tree.specs.rules.Refusals.{refusal_of}
+use Rattle.civl_tree.specs.rules.Rules.{refusal_by}
+use Rattle.civl_tree.specs.rules.Typing.{typing_rules}
 use Rattle.civl_tree.specs.examples.RulesFlag.{named, name, update, plain_action, root, call}
-use Rattle.civl_layers.specs.Layered.{layer_refusal}
+use Rattle.civl_layers.specs.LayerRules.{layer_rules}
 
 -- `global NAME : bool layers FIRST to LAST;`
 abbrev pub global : List ℕ → ℕ → ℕ → Global
@@ -127,12 +128,12 @@ with_thread callee = record tower { threads = runs (codes "R") ∷ runs callee �
 
 -- it keeps all rules from E30 to E35
 abbrev pub Stands : Program → Type 0
-Stands program = layer_refusal program ≡ None
+Stands program = refusal_by layer_rules program ≡ None
 
 -- the first of these rules that it breaks has this code, item and statement
 abbrev pub Falls : Program → ℕ → ℕ → ℕ → Type 0
-Falls program code item statement = layer_refusal program ≡ Some (record { code = code; item = item; statement = statement })
+Falls program code item statement = refusal_by layer_rules program ≡ Some (record { code = code; item = item; statement = statement })
 
 -- the program of two layers keeps all rules
 abbrev pub TowerStands : Type 0
-TowerStands = (refusal_of tower ≡ None) × Stands tower
+TowerStands = (refusal_by typing_rules tower ≡ None) × Stands tower

@@ -25,8 +25,8 @@ use Rattle.civl_tree.specs.declared.action.Action.{Action}
 use Rattle.civl_tree.specs.declared.program.Proc.{Proc}
 use Rattle.civl_tree.specs.declared.program.Program.{Program}
 use Rattle.civl_tree.specs.examples.RulesFlag.{named, name, update, plain_action, root, call, bare}
-use Rattle.civl_layers.specs.Rules.{refusal_by}
-use Rattle.civl_linear.specs.Refusals.{linear_rules}
+use Rattle.civl_tree.specs.rules.Rules.{refusal_by}
+use Rattle.civl_linear.specs.LinearRules.{linear_rules}
 use Rattle.civl_linear.specs.Cuts.{held_of}
 
 -- a parameter or an output of the permissions' width

@@ -8,8 +8,8 @@ use Rattle.civl_tree.specs.declared.action.Mode.TheVariants.{Lend, Take}
 use Rattle.civl_tree.specs.declared.program.Program.{Program}
 use Rattle.civl_tree.specs.examples.SpellingPrograms.{pool}
 use Rattle.civl_tree.specs.examples.RulesFlag.{named, name, root, call, bare}
-use Rattle.civl_layers.specs.Rules.{refusal_by}
-use Rattle.civl_linear.specs.Refusals.{linear_rules}
+use Rattle.civl_tree.specs.rules.Rules.{refusal_by}
+use Rattle.civl_linear.specs.LinearRules.{linear_rules}
 use Rattle.civl_linear.specs.examples.Dock.{param, taking}
 
 -- a program whose second procedure, item 2, has one parameter of this mode

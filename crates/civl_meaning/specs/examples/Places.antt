@@ -18,7 +18,8 @@ use Rattle.std.specs.Prelude.{ℕ, ◌≡◌, List, [], ◌∷◌, map, Option, 
 use Rattle.civl_tree.specs.declared.expr.Expr as expr
 use Rattle.civl_tree.specs.declared.stmt.Stmt.{Stmt}
 use Rattle.civl_tree.specs.declared.stmt.Stmt as stmt
-use Rattle.civl_meaning.specs.Places.{Spot, sizes_of, spot_at}
+use Rattle.civl_meaning.specs.Places.{Spot, spot_at}
+use Rattle.civl_tree.specs.Numbering.{sizes_of}
 use Rattle.civl_firing.specs.examples.Written.{named, name, call}
 
 abbrev pub nested : List Stmt

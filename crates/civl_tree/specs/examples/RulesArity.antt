@@ -9,8 +9,9 @@ use Rattle.civl_tree.specs.declared.action.Mode.{Mode}
 use Rattle.civl_tree.specs.declared.action.Mode.TheVariants.{Val, Lend, Take}
 use Rattle.civl_tree.specs.declared.action.Param.{Param}
 use Rattle.civl_tree.specs.declared.program.Program.{Program}
-use Rattle.civl_tree.specs.rules.Places.{E34}
-use Rattle.civl_tree.specs.rules.Refusals.{Keeps, broken_at, refusals_of}
+use Rattle.civl_tree.specs.rules.Rules.{Keeps, refusals_of}
+use Rattle.civl_tree.specs.rules.Typing.{signature_rule}
+use Rattle.civl_tree.specs.rules.Broken.{broken_at}
 use Rattle.civl_tree.specs.examples.RulesFlag.{flag, named, update, val, call, Refused}
 use Rattle.civl_tree.specs.examples.RulesUnit.{unit, unit_action, unit_proc, with_action, with_body, with_proc, with_refined, with_thread, unit_thread}
 
@@ -39,19 +40,22 @@ abbrev pub moded : List Param → List Param → Program
 moded params others = record (signed params []) { actions = record unit_action { params = others; outs = [] } ∷ [] }
 
 abbrev pub Differs : Program → Type 0
-Differs program = refusals_of E34 program ≡ broken_at E34 4 0 ∷ []
+Differs program = refusals_of signature_rule program ≡ broken_at signature_rule 4 0 ∷ []
+
+abbrev pub Signed : Program → Type 0
+Signed program = Keeps (signature_rule ∷ []) program
 
 abbrev pub SignaturesDiffer : Type 0
 SignaturesDiffer =
-    Keeps E34 flag
-    × Keeps E34 unit
-    × Keeps E34 (signed (val (codes "x") Truth ∷ []) (val (codes "y") Truth ∷ []))
+    Signed flag
+    × Signed unit
+    × Signed (signed (val (codes "x") Truth ∷ []) (val (codes "y") Truth ∷ []))
     × Differs (signed [] (val (codes "o") Truth ∷ []))
     × Differs (signed (val (codes "a") Truth ∷ []) [])
     × Differs (signed (val (codes "a") Truth ∷ val (codes "b") Truth ∷ []) (val (codes "o") Truth ∷ []))
     × Differs (signed (val (codes "a") (Word 1) ∷ []) (val (codes "o") Truth ∷ []))
     × Differs (signed (val (codes "a") Truth ∷ []) (val (codes "o") (Word 1) ∷ []))
-    × Keeps E34 (moded (param Lend (codes "a") ∷ param Val (codes "b") ∷ []) (param Lend (codes "b") ∷ param Val (codes "a") ∷ []))
+    × Signed (moded (param Lend (codes "a") ∷ param Val (codes "b") ∷ []) (param Lend (codes "b") ∷ param Val (codes "a") ∷ []))
     × Differs (moded (param Lend (codes "a") ∷ []) (param Take (codes "a") ∷ []))
     × Differs (moded (param Val (codes "a") ∷ []) (param Lend (codes "a") ∷ []))
     × Differs (moded (param Lend (codes "a") ∷ param Val (codes "b") ∷ []) (param Val (codes "a") ∷ param Lend (codes "b") ∷ []))

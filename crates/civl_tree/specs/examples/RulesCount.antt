@@ -6,8 +6,9 @@ use Rattle.civl_tree.specs.declared.stmt.Stmt.{Stmt}
 use Rattle.civl_tree.specs.declared.stmt.Stmt as stmt
 use Rattle.civl_tree.specs.declared.program.Local.{Local}
 use Rattle.civl_tree.specs.declared.program.Program.{Program}
-use Rattle.civl_tree.specs.rules.Places.{E12}
-use Rattle.civl_tree.specs.rules.Refusals.{broken_at, refusals_of}
+use Rattle.civl_tree.specs.rules.Rules.{refusals_of}
+use Rattle.civl_tree.specs.rules.Typing.{count_rule}
+use Rattle.civl_tree.specs.rules.Broken.{broken_at}
 use Rattle.civl_tree.specs.examples.RulesFlag.{flag, flag_global, set_thread, plain_action, val, choice, var, root, do_set, bare, Passes, Refused}
 
 -- the numbers of the header
@@ -26,10 +27,10 @@ CountsInHeader =
 
 -- the places of E12 alone, where the declarations have one name
 abbrev pub CountsOver : Program → ℕ → Type 0
-CountsOver program item = refusals_of E12 program ≡ broken_at E12 item 0 ∷ []
+CountsOver program item = refusals_of count_rule program ≡ broken_at count_rule item 0 ∷ []
 
 abbrev pub CountsFit : Program → Type 0
-CountsFit program = refusals_of E12 program ≡ []
+CountsFit program = refusals_of count_rule program ≡ []
 
 -- so many declarations of a kind: one past the limit, and some more past it, which are no further fault
 abbrev pub many_globals : ℕ → Program

@@ -28,7 +28,8 @@ use Rattle.civl_tree.specs.declared.program.Proc.{Proc}
 use Rattle.civl_tree.specs.declared.program.Local.{Local}
 use Rattle.civl_tree.specs.declared.program.Thread.{Thread}
 use Rattle.civl_tree.specs.declared.program.Program.{Program}
-use Rattle.civl_tree.specs.rules.Refusals.{refusal_of}
+use Rattle.civl_tree.specs.rules.Rules.{refusal_by}
+use Rattle.civl_tree.specs.rules.Typing.{typing_rules}
 
 abbrev pub named : List ℕ → Name
 named bytes = record { bytes = bytes }
@@ -137,11 +138,11 @@ call callee args results = stmt.Call (named callee) args results
 
 -- it keeps all rules from E10 to E24
 abbrev pub Passes : Program → Type 0
-Passes program = refusal_of program ≡ None
+Passes program = refusal_by typing_rules program ≡ None
 
 -- the first rule that it breaks has this code, item and statement
 abbrev pub Refused : Program → ℕ → ℕ → ℕ → Type 0
-Refused program code item statement = refusal_of program ≡ Some (record { code = code; item = item; statement = statement })
+Refused program code item statement = refusal_by typing_rules program ≡ Some (record { code = code; item = item; statement = statement })
 
 -- the program with a flag keeps all rules
 abbrev pub FlagPasses : Type 0

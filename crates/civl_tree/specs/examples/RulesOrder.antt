@@ -6,8 +6,9 @@ use Rattle.civl_tree.specs.declared.expr.Two.TheVariants.{Eq}
 use Rattle.civl_tree.specs.declared.expr.Sort.TheVariants.{Bool as Truth, Word, Row}
 use Rattle.civl_tree.specs.declared.stmt.Stmt as stmt
 use Rattle.civl_tree.specs.declared.program.Program.{Program}
-use Rattle.civl_tree.specs.rules.Places.{E21}
-use Rattle.civl_tree.specs.rules.Refusals.{broken_at, refusals_of}
+use Rattle.civl_tree.specs.rules.Rules.{refusals_of}
+use Rattle.civl_tree.specs.rules.Typing.{sort_rule}
+use Rattle.civl_tree.specs.rules.Broken.{broken_at}
 use Rattle.civl_tree.specs.examples.RulesFlag.{named, name, plain_global, bare, Refused}
 use Rattle.civl_tree.specs.examples.RulesUnit.{with_init, unit_thread, with_body}
 
@@ -48,4 +49,4 @@ deep = with_body (
     ∷ [])
 
 abbrev pub AllPlaces : Type 0
-AllPlaces = refusals_of E21 deep ≡ broken_at E21 4 1 ∷ broken_at E21 4 2 ∷ broken_at E21 4 4 ∷ broken_at E21 4 5 ∷ broken_at E21 4 6 ∷ broken_at E21 4 9 ∷ broken_at E21 4 10 ∷ []
+AllPlaces = refusals_of sort_rule deep ≡ broken_at sort_rule 4 1 ∷ broken_at sort_rule 4 2 ∷ broken_at sort_rule 4 4 ∷ broken_at sort_rule 4 5 ∷ broken_at sort_rule 4 6 ∷ broken_at sort_rule 4 9 ∷ broken_at sort_rule 4 10 ∷ []

@@ -5,7 +5,7 @@ use Rattle.std.specs.List.{list_any}
 use Rattle.civl_tree.specs.declared.name.Name.{Name}
 use Rattle.civl_tree.specs.declared.expr.Expr.{Expr}
 use Rattle.civl_tree.specs.declared.stmt.Stmt.{Stmt, out-Stmt}
-use Rattle.civl_tree.specs.declared.stmt.Stmt.TheOpen.{Stmt-F, Assign, Assert, If, While, YieldLoop, RankLoop, Call, Yield, Commit, Intro, Spawn}
+use Rattle.civl_tree.specs.declared.stmt.Stmt.TheOpen.{Stmt-F, Call, Spawn}
 use Rattle.civl_tree.specs.declared.action.Action.{Action}
 use Rattle.civl_tree.specs.declared.program.Refines.{Refines}
 use Rattle.civl_tree.specs.declared.program.Proc.{Proc}
@@ -39,18 +39,10 @@ abbrev pub thread_arity : List Expr → Option Proc → Bool
 thread_arity args None = false
 thread_arity args (Some proc) = differs_in_length args proc.params || not (nat_eq (length proc.outs) 0)
 
-abbrev pub layer_arity : Program → Stmt-F Stmt → Bool
-layer_arity program (Assign target value) = false
-layer_arity program (Assert fact) = false
-layer_arity program (If test first second) = false
-layer_arity program (While test body) = false
-layer_arity program (YieldLoop test inv body) = false
-layer_arity program (RankLoop test rank inv body) = false
-layer_arity program (Call callee args results) = call_arity args results (callee_signature program callee)
-layer_arity program (Yield inv) = false
-layer_arity program Commit = false
-layer_arity program (Intro target value) = false
-layer_arity program (Spawn callee args) = thread_arity args (proc_named program callee)
+abbrev pub form_arity : Program → Stmt-F Stmt → Bool
+form_arity program (Call callee args results) = call_arity args results (callee_signature program callee)
+form_arity program (Spawn callee args) = thread_arity args (proc_named program callee)
+form_arity program _ = false
 
 abbrev pub stmt_arity : Program → Stmt → Bool
-stmt_arity program stmt = layer_arity program (out-Stmt stmt)
+stmt_arity program stmt = form_arity program (out-Stmt stmt)

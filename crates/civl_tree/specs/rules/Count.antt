@@ -2,7 +2,7 @@
 -- item with which it passes the limit.
 use Rattle.std.specs.Prelude.{ℕ, ◌+◌, Bool, not, ◌&&◌, ◌||◌, nat_eq, nat_lt, nat_le, List, map, sum, take, length, Option, None, Some}
 use Rattle.civl_tree.specs.declared.stmt.Stmt.{Stmt}
-use Rattle.civl_tree.specs.declared.stmt.Stmt.TheOpen.{Stmt-F, Assign, Assert, If, While, YieldLoop, RankLoop, Call, Yield, Commit, Intro, Spawn}
+use Rattle.civl_tree.specs.declared.stmt.Stmt.TheOpen.{Stmt-F, If, While, YieldLoop, RankLoop, Yield}
 use Rattle.civl_tree.specs.declared.stmt.Stmt.TheFolds.{fold-Stmt}
 use Rattle.civl_tree.specs.declared.action.Action.{Action}
 use Rattle.civl_tree.specs.declared.program.Refines.{Refines}
@@ -63,19 +63,14 @@ action_count place action = passes_limit action_limit place || nat_lt name_limit
 
 -- ---- cut points: the entry of a procedure that refines an action, its yields, its yield loops and its rank loops
 
--- one layer of a statement, with the counts of those in it
+-- a statement by its form, with the counts of those in it
 abbrev pub cut_step : Stmt-F ℕ → ℕ
-cut_step (Assign target value) = 0
-cut_step (Assert fact) = 0
 cut_step (If test first second) = sum first + sum second
 cut_step (While test body) = sum body
 cut_step (YieldLoop test inv body) = 1 + sum body
 cut_step (RankLoop test rank inv body) = 1 + sum body
-cut_step (Call callee args results) = 0
 cut_step (Yield inv) = 1
-cut_step Commit = 0
-cut_step (Intro target value) = 0
-cut_step (Spawn callee args) = 0
+cut_step _ = 0
 
 -- the cut points in these statements
 abbrev pub cuts_in : List Stmt → ℕ

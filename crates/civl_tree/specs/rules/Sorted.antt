@@ -4,7 +4,7 @@ use Rattle.std.specs.List.{list_any}
 use Rattle.civl_tree.specs.declared.name.Name.{Name}
 use Rattle.civl_tree.specs.declared.expr.Sort.{Sort}
 use Rattle.civl_tree.specs.declared.stmt.Stmt.{Stmt, out-Stmt}
-use Rattle.civl_tree.specs.declared.stmt.Stmt.TheOpen.{Stmt-F, Assign, Assert, If, While, YieldLoop, RankLoop, Call, Yield, Commit, Intro, Spawn}
+use Rattle.civl_tree.specs.declared.stmt.Stmt.TheOpen.{Stmt-F, Call}
 use Rattle.civl_tree.specs.declared.program.Proc.{Proc}
 use Rattle.civl_tree.specs.declared.program.Program.{Program}
 use Rattle.civl_tree.specs.rules.Names.{callee_signature}
@@ -21,18 +21,9 @@ results_missorted proc [] outs = false
 results_missorted proc (result ∷ results) [] = false
 results_missorted proc (result ∷ results) (out ∷ outs) = not (serves (place_sort proc result) (Only out)) || results_missorted proc results outs
 
-abbrev pub layer_missorted : Program → Proc → Stmt-F Stmt → Bool
-layer_missorted program proc (Assign target value) = false
-layer_missorted program proc (Assert fact) = false
-layer_missorted program proc (If test first second) = false
-layer_missorted program proc (While test body) = false
-layer_missorted program proc (YieldLoop test inv body) = false
-layer_missorted program proc (RankLoop test rank inv body) = false
-layer_missorted program proc (Call callee args results) = results_missorted proc results (given_sorts (callee_signature program callee))
-layer_missorted program proc (Yield inv) = false
-layer_missorted program proc Commit = false
-layer_missorted program proc (Intro target value) = false
-layer_missorted program proc (Spawn callee args) = false
+abbrev pub form_missorted : Program → Proc → Stmt-F Stmt → Bool
+form_missorted program proc (Call callee args results) = results_missorted proc results (given_sorts (callee_signature program callee))
+form_missorted program proc _ = false
 
 abbrev pub stmt_missorted : Program → Proc → Stmt → Bool
-stmt_missorted program proc stmt = any_missorted (stmt_uses program proc stmt) || layer_missorted program proc (out-Stmt stmt)
+stmt_missorted program proc stmt = any_missorted (stmt_uses program proc stmt) || form_missorted program proc (out-Stmt stmt)

@@ -3,7 +3,7 @@ use Rattle.std.specs.Prelude.{ℕ, Bool, false, ◌||◌, List, ◌++◌, take}
 use Rattle.std.specs.List.{list_any}
 use Rattle.civl_tree.specs.declared.name.Name.{Name}
 use Rattle.civl_tree.specs.declared.stmt.Stmt.{Stmt, out-Stmt}
-use Rattle.civl_tree.specs.declared.stmt.Stmt.TheOpen.{Stmt-F, Assign, Assert, If, While, YieldLoop, RankLoop, Call, Yield, Commit, Intro, Spawn}
+use Rattle.civl_tree.specs.declared.stmt.Stmt.TheOpen.{Stmt-F, Call}
 use Rattle.civl_tree.specs.declared.action.Action.{Action}
 use Rattle.civl_tree.specs.declared.program.Global.{Global}
 use Rattle.civl_tree.specs.declared.program.Proc.{Proc}
@@ -32,19 +32,10 @@ proc_twice program place proc =
     has_name (global_names program.globals ++ (action_names program.actions ++ proc_names (take place program.procs))) proc.name
     || declared_twice program (names_in_proc proc)
 
-abbrev pub layer_twice : Stmt-F Stmt → Bool
-layer_twice (Assign target value) = false
-layer_twice (Assert fact) = false
-layer_twice (If test first second) = false
-layer_twice (While test body) = false
-layer_twice (YieldLoop test inv body) = false
-layer_twice (RankLoop test rank inv body) = false
-layer_twice (Call callee args results) = any_twice results
-layer_twice (Yield inv) = false
-layer_twice Commit = false
-layer_twice (Intro target value) = false
-layer_twice (Spawn callee args) = false
+abbrev pub form_twice : Stmt-F Stmt → Bool
+form_twice (Call callee args results) = any_twice results
+form_twice _ = false
 
 -- a call names one result twice
 abbrev pub stmt_twice : Stmt → Bool
-stmt_twice stmt = layer_twice (out-Stmt stmt)
+stmt_twice stmt = form_twice (out-Stmt stmt)

@@ -3,7 +3,7 @@ use Rattle.std.specs.Prelude.{Bool, false, not, ◌||◌, List, ◌++◌, Option
 use Rattle.std.specs.List.{list_any}
 use Rattle.civl_tree.specs.declared.name.Name.{Name}
 use Rattle.civl_tree.specs.declared.stmt.Stmt.{Stmt, out-Stmt}
-use Rattle.civl_tree.specs.declared.stmt.Stmt.TheOpen.{Stmt-F, Assign, Assert, If, While, YieldLoop, RankLoop, Call, Yield, Commit, Intro, Spawn}
+use Rattle.civl_tree.specs.declared.stmt.Stmt.TheOpen.{Stmt-F, Assign, Call, Intro, Spawn}
 use Rattle.civl_tree.specs.declared.action.Action.{Action}
 use Rattle.civl_tree.specs.declared.program.Refines.{Refines}
 use Rattle.civl_tree.specs.declared.program.Proc.{Proc}
@@ -37,21 +37,15 @@ abbrev pub place_unknown : Proc → Name → Bool
 place_unknown proc name = not (has_name (names_in_proc proc) name)
 
 -- the names of a statement that stand in no expression: a target, a result or a callee
-abbrev pub layer_unknown : Program → Proc → Stmt-F Stmt → Bool
-layer_unknown program proc (Assign target value) = place_unknown proc target
-layer_unknown program proc (Assert fact) = false
-layer_unknown program proc (If test first second) = false
-layer_unknown program proc (While test body) = false
-layer_unknown program proc (YieldLoop test inv body) = false
-layer_unknown program proc (RankLoop test rank inv body) = false
-layer_unknown program proc (Call callee args results) = is_none (callee_signature program callee) || list_any (place_unknown proc) results
-layer_unknown program proc (Yield inv) = false
-layer_unknown program proc Commit = false
-layer_unknown program proc (Intro target value) = not (has_name (global_names program.globals) target)
-layer_unknown program proc (Spawn callee args) = is_none (proc_named program callee)
+abbrev pub form_unknown : Program → Proc → Stmt-F Stmt → Bool
+form_unknown program proc (Assign target value) = place_unknown proc target
+form_unknown program proc (Call callee args results) = is_none (callee_signature program callee) || list_any (place_unknown proc) results
+form_unknown program proc (Intro target value) = not (has_name (global_names program.globals) target)
+form_unknown program proc (Spawn callee args) = is_none (proc_named program callee)
+form_unknown program proc _ = false
 
 abbrev pub stmt_unknown : Program → Proc → Stmt → Bool
-stmt_unknown program proc stmt = layer_unknown program proc (out-Stmt stmt) || any_unknown (stmt_uses program proc stmt)
+stmt_unknown program proc stmt = form_unknown program proc (out-Stmt stmt) || any_unknown (stmt_uses program proc stmt)
 
 -- a thread's callee is no procedure
 abbrev pub thread_unknown : Program → Thread → Bool

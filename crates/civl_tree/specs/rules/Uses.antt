@@ -104,24 +104,24 @@ with_uses program proc (Some refines) = argument_uses (note_scope program proc) 
 abbrev pub place_sort : Proc → Name → Option Sort
 place_sort proc name = sort_in (bind_proc proc) name
 
-abbrev pub layer_uses : Program → Proc → Stmt-F Stmt → List Use
-layer_uses program proc (Assign target value) = target_use (body_scope program proc) value (place_sort proc target) ∷ []
-layer_uses program proc (Assert fact) = truth_use (body_scope program proc) fact ∷ []
-layer_uses program proc (If test first second) = truth_use (body_scope program proc) test ∷ []
-layer_uses program proc (While test body) = truth_use (body_scope program proc) test ∷ []
-layer_uses program proc (YieldLoop test inv body) = truth_use (body_scope program proc) test ∷ truth_use (note_scope program proc) inv ∷ []
-layer_uses program proc (RankLoop test rank inv body) =
+abbrev pub form_uses : Program → Proc → Stmt-F Stmt → List Use
+form_uses program proc (Assign target value) = target_use (body_scope program proc) value (place_sort proc target) ∷ []
+form_uses program proc (Assert fact) = truth_use (body_scope program proc) fact ∷ []
+form_uses program proc (If test first second) = truth_use (body_scope program proc) test ∷ []
+form_uses program proc (While test body) = truth_use (body_scope program proc) test ∷ []
+form_uses program proc (YieldLoop test inv body) = truth_use (body_scope program proc) test ∷ truth_use (note_scope program proc) inv ∷ []
+form_uses program proc (RankLoop test rank inv body) =
     truth_use (body_scope program proc) test ∷ record { scope = note_scope program proc; expression = rank; need = AnyWord }
     ∷ truth_use (note_scope program proc) inv ∷ []
-layer_uses program proc (Call callee args results) = argument_uses (body_scope program proc) args (taken_sorts (callee_signature program callee))
-layer_uses program proc (Yield inv) = truth_use (note_scope program proc) inv ∷ []
-layer_uses program proc Commit = []
-layer_uses program proc (Intro target value) = target_use (note_scope program proc) value (sort_in (bind_globals program.globals) target) ∷ []
-layer_uses program proc (Spawn callee args) = argument_uses (body_scope program proc) args (taken_sorts (proc_signature_of (proc_named program callee)))
+form_uses program proc (Call callee args results) = argument_uses (body_scope program proc) args (taken_sorts (callee_signature program callee))
+form_uses program proc (Yield inv) = truth_use (note_scope program proc) inv ∷ []
+form_uses program proc Commit = []
+form_uses program proc (Intro target value) = target_use (note_scope program proc) value (sort_in (bind_globals program.globals) target) ∷ []
+form_uses program proc (Spawn callee args) = argument_uses (body_scope program proc) args (taken_sorts (proc_signature_of (proc_named program callee)))
 
 -- the expressions of a statement itself, without those of the statements in it
 abbrev pub stmt_uses : Program → Proc → Stmt → List Use
-stmt_uses program proc stmt = layer_uses program proc (out-Stmt stmt)
+stmt_uses program proc stmt = form_uses program proc (out-Stmt stmt)
 
 abbrev pub thread_uses : Program → Thread → List Use
 thread_uses program thread = argument_uses (global_scope program) thread.args (taken_sorts (proc_signature_of (proc_named program thread.callee)))

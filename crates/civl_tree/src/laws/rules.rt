@@ -1,5 +1,5 @@
 // What the static rules say of worked examples.
-ghost use Rattle.civl_tree.specs.rules.Broken.{RefusalIsFirst, UnrefusedKeepsEach};
+ghost use Rattle.civl_tree.specs.rules.Broken.{RefusalIsFirst, TypingIsInOrder};
 ghost use Rattle.civl_tree.specs.examples.RulesFlag.{FlagPasses};
 ghost use Rattle.civl_tree.specs.examples.RulesUnit.{UnitPasses};
 ghost use Rattle.civl_tree.specs.examples.RulesSorts.{SortsOfLeaves, SortsOfTwo, SortsOfForms};
@@ -143,12 +143,13 @@ pub fn all_places()
     ensures { AllPlaces }
 {}
 
-/// `refusal_of` is nothing where no rule from E10 to E24 is broken, else the first broken one, with its place.
+/// Where the codes of rules rise and each tells statements in their order, all places at which a program breaks them are
+/// listed by code, item and statement, and `refusal_by` is nothing where none is broken, else the first that is.
 pub fn refusal_is_first()
     ensures { RefusalIsFirst }
 {}
 
-/// A program without a refusal keeps each rule from E10 to E24 at all places.
-pub fn unrefused_keeps_each()
-    ensures { UnrefusedKeepsEach }
+/// So it is of the rules from E10 to E24.
+pub fn typing_is_in_order()
+    ensures { TypingIsInOrder }
 {}

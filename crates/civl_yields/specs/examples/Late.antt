@@ -8,7 +8,7 @@ use Rattle.civl_tree.specs.declared.program.Program.{Program}
 use Rattle.civl_tree.specs.examples.SpellingPrograms.{spinlock}
 use Rattle.civl_tree.specs.examples.RulesFlag.{call, name, named, root}
 use Rattle.civl_yields.specs.Phases.{phases_before, phases_of}
-use Rattle.civl_yields.specs.Refusals.{late_numbers}
+use Rattle.civl_yields.specs.YieldRules.{late_numbers}
 use Rattle.civl_yields.specs.examples.Yard.{layered, with_p, with_m, calls, pause, loop, yield_loop, rank_loop, Stands, Falls}
 
 -- right movers, a turning point, left movers; a procedure means the action that it refines

@@ -23,8 +23,8 @@ use Rattle.civl_tree.specs.declared.action.Action.{Action}
 use Rattle.civl_tree.specs.declared.program.Proc.{Proc}
 use Rattle.civl_tree.specs.declared.program.Program.{Program}
 use Rattle.civl_tree.specs.examples.RulesFlag.{named, plain_action, root, call, bare}
-use Rattle.civl_layers.specs.Rules.{refusal_by}
-use Rattle.civl_yields.specs.Refusals.{yield_rules}
+use Rattle.civl_tree.specs.rules.Rules.{refusal_by}
+use Rattle.civl_yields.specs.YieldRules.{yield_rules}
 
 -- an action that does nothing and moves so
 abbrev pub moving : List ℕ → Mover → Action

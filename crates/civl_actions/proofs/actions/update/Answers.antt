@@ -1,7 +1,7 @@
 use Rattle.std.proofs.Common.{◌≡◌, ◌∙◌, ap, sym, subst, arith, List, ℕ, ◌+◌}
 use Rattle.std.specs.Prelude.{slice_get, slice_set, Some}
 use Rattle.civl_tree.specs.rules.Scopes.{guard_scope}
-use Rattle.civl_firing.specs.Scope.{global_names, param_names}
+use Rattle.civl_tree.specs.rules.Names.{global_names, param_names}
 use Rattle.civl_firing.specs.Truth.{place_of}
 use Rattle.civl_terms.proofs.Growing.{grows_trans}
 use Rattle.civl_actions.specs.Steps.{AreUpdated}

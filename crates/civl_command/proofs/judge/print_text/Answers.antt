@@ -1,4 +1,4 @@
-use Rattle.std.proofs.Common.{refl, Ok, Err}
+use Rattle.std.proofs.Common.{Ok, Err}
 use Rattle.civl_command.specs.Texts.{IsReading}
 use Rattle.civl_command.specs.Outcome.{PrintsRead}
 use Rattle.civl_command.proofs.Judging.{found_in}

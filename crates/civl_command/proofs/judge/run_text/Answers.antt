@@ -1,4 +1,4 @@
-use Rattle.std.proofs.Common.{refl, Ok, Err}
+use Rattle.std.proofs.Common.{Ok, Err}
 use Rattle.civl_command.specs.Texts.{IsScriptReading}
 use Rattle.civl_command.specs.Outcome.{RunsRead}
 use Rattle.civl_command.specs.Replay.{plain_for}

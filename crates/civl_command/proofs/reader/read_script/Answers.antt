@@ -1,8 +1,7 @@
-use Rattle.std.proofs.Common.{◌≡◌, List, ℕ, sym, ap, ◌∙◌, subst, Result, Ok, Err}
+use Rattle.std.proofs.Common.{◌≡◌, List, sym, ap, ◌∙◌, subst, Ok, Err}
 use Rattle.civl_tree.specs.Token.{Token}
 use Rattle.civl_tree.specs.SpellingDomain.{ScriptHasSpelling}
 use Rattle.civl_tree.specs.SpellingScript.{spell_script}
-use Rattle.civl_tree.specs.declared.script.Script.{Script}
 use Rattle.civl_lex.specs.Spelled.{spelled}
 use Rattle.civl_lex.specs.Text.{HasTokens}
 use Rattle.civl_command.proofs.Reading.{reading}

@@ -1,4 +1,4 @@
-use Rattle.std.proofs.Common.{◌≡◌, ◌∙◌, subst}
+use Rattle.std.proofs.Common.{◌∙◌, subst}
 use Rattle.civl_tree.specs.declared.program.Program.{Program}
 use Rattle.civl_command.specs.Replay.{plain_for}
 use Rattle.civl_command.specs.Outcome.{Runs}

@@ -1,23 +1,26 @@
-use Rattle.civl_command.proofs.Promising.{accepts_by, prints_by, low_by, top_by, rejects_by, refuses_by, complete_by}
+use Rattle.civl_command.proofs.Promising.{usage_untaken, accepts_by, prints_by, low_by, top_by, rejects_by, refuses_by, complete_by}
 use Rattle.civl_command.proofs.top.command.Goals as goal
 
+pub returns-clause-unread_usage : goal.returns-clause-unread_usage
+returns-clause-unread_usage g c = λ is. c.respond.ensures.unread (usage_untaken _ _ _ _ _ (rw is at c.respond.ensures.explains))
+
 pub returns-clause-accepted : goal.returns-clause-accepted
-returns-clause-accepted g c = λ is check. accepts_by _ _ _ _ _ (rw is at c.respond.ensures) check
+returns-clause-accepted g c = λ is check. accepts_by _ _ _ _ _ (rw is at c.respond.ensures.explains) check
 
 pub returns-clause-printed : goal.returns-clause-printed
-returns-clause-printed g c = λ is fmt. prints_by _ _ _ _ _ (rw is at c.respond.ensures) fmt
+returns-clause-printed g c = λ is fmt. prints_by _ _ _ _ _ (rw is at c.respond.ensures.explains) fmt
 
 pub returns-clause-low : goal.returns-clause-low
-returns-clause-low g c = λ is low. low_by _ _ _ _ _ (rw is at c.respond.ensures) low
+returns-clause-low g c = λ is low. low_by _ _ _ _ _ (rw is at c.respond.ensures.explains) low
 
 pub returns-clause-top : goal.returns-clause-top
-returns-clause-top g c = λ is top. top_by _ _ _ _ _ (rw is at c.respond.ensures) top
+returns-clause-top g c = λ is top. top_by _ _ _ _ _ (rw is at c.respond.ensures.explains) top
 
 pub returns-clause-rejected : goal.returns-clause-rejected
-returns-clause-rejected g c = λ is. rejects_by _ _ _ _ _ (rw is at c.respond.ensures)
+returns-clause-rejected g c = λ is. rejects_by _ _ _ _ _ (rw is at c.respond.ensures.explains)
 
 pub returns-clause-refused : goal.returns-clause-refused
-returns-clause-refused g c = λ is. refuses_by _ _ _ _ _ (rw is at c.respond.ensures)
+returns-clause-refused g c = λ is. refuses_by _ _ _ _ _ (rw is at c.respond.ensures.explains)
 
 pub returns-clause-complete : goal.returns-clause-complete
-returns-clause-complete g c = complete_by _ _ _ _ _ c.respond.result c.respond.ensures
+returns-clause-complete g c = complete_by _ _ _ _ _ c.respond.result c.respond.ensures.explains

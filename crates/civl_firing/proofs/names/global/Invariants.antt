@@ -1,6 +1,6 @@
 use Rattle.std.proofs.Common.{◌≡◌, ◌+◌, drop}
 use Rattle.civl_firing.specs.Truth.{place_of}
-use Rattle.civl_firing.specs.Scope.{global_names}
+use Rattle.civl_tree.specs.rules.Names.{global_names}
 use Rattle.civl_firing.proofs.names.global.Given as goal
 
 abbrev pub invariant-loop-known : goal.invariant-loop-known

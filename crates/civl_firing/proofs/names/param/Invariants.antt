@@ -1,6 +1,6 @@
 use Rattle.std.proofs.Common.{◌≡◌, ◌+◌, drop}
 use Rattle.civl_firing.specs.Truth.{place_of}
-use Rattle.civl_firing.specs.Scope.{param_names}
+use Rattle.civl_tree.specs.rules.Names.{param_names}
 use Rattle.civl_firing.proofs.names.param.Given as goal
 
 abbrev pub invariant-loop-known : goal.invariant-loop-known

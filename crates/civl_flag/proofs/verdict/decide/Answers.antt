@@ -1,4 +1,4 @@
-use Rattle.std.proofs.Common.{◌≡◌, sym, subst}
+use Rattle.std.proofs.Common.{sym, subst}
 use Rattle.std.specs.Prelude.{IsTrue, IfOk}
 use Rattle.civl_tree.specs.declared.program.Program.{Program}
 use Rattle.civl_flag.specs.FlagForm.{is_flag_form}

@@ -1,10 +1,8 @@
 use Rattle.std.proofs.Common.{refl}
 use Rattle.civl_tree.proofs.Layers.{layers}
-use Rattle.civl_tree.specs.rules.Refusals.{numbers_where}
-use Rattle.civl_layers.specs.Rules.{each_place}
-use Rattle.civl_layers.specs.Places.{global_breaks, invariant_breaks, action_breaks, proc_breaks, stmt_breaks, thread_breaks}
+use Rattle.civl_tree.specs.rules.Rules.{numbers_where, each_place, places_of}
 use Rattle.civl_layers.proofs.laws.first_of_all.Goals as goal
 
 pub returns : goal.returns
-unfolding numbers_where each_place global_breaks invariant_breaks action_breaks proc_breaks stmt_breaks thread_breaks
+unfolding numbers_where each_place places_of
 returns c = (refl, simp layers, simp layers, simp layers)

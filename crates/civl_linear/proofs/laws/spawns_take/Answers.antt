@@ -1,7 +1,7 @@
 use Rattle.civl_linear.proofs.Examples.{examples}
-use Rattle.civl_layers.specs.Rules.{each_place}
+use Rattle.civl_tree.specs.rules.Rules.{each_place, places_of}
 use Rattle.civl_linear.proofs.laws.spawns_take.Goals as goal
 
 pub returns : goal.returns
-unfolding each_place
+unfolding each_place places_of
 returns c = (simp examples, simp examples)

@@ -1,5 +1,5 @@
 use Rattle.std.proofs.Common.{◌≡◌, ◌+◌, drop}
-use Rattle.civl_meaning.specs.Places.{sizes_of}
+use Rattle.civl_tree.specs.Numbering.{sizes_of}
 use Rattle.civl_meaning.proofs.found.+counted.Given as goal
 
 abbrev pub invariant-counted_all-loop-stmt : goal.invariant-counted_all-loop-stmt

@@ -1,5 +1,6 @@
 use Rattle.std.proofs.Common.{◌≡◌, ◌+◌, drop}
-use Rattle.civl_meaning.specs.Places.{sizes_of, spot_among}
+use Rattle.civl_meaning.specs.Places.{spot_among}
+use Rattle.civl_tree.specs.Numbering.{sizes_of}
 use Rattle.civl_meaning.specs.Found.{spot}
 use Rattle.civl_meaning.proofs.found.+look.Given as goal
 

@@ -1,5 +1,5 @@
 use Rattle.std.proofs.Common.{◌≡◌, ◌+◌, drop}
-use Rattle.civl_meaning.specs.Places.{sizes_of}
+use Rattle.civl_tree.specs.Numbering.{sizes_of}
 use Rattle.civl_meaning.proofs.found.+size.Given as goal
 
 abbrev pub invariant-sizes-loop-stmt : goal.invariant-sizes-loop-stmt

@@ -1,5 +1,6 @@
 use Rattle.std.proofs.Common.{◌≡◌, ◌+◌, drop}
-use Rattle.civl_meaning.specs.Places.{sizes_of, first_in}
+use Rattle.civl_meaning.specs.Places.{first_in}
+use Rattle.civl_tree.specs.Numbering.{sizes_of}
 use Rattle.civl_meaning.specs.Found.{spot}
 use Rattle.civl_meaning.proofs.found.first.Given as goal
 

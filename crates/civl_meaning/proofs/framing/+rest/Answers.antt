@@ -4,7 +4,7 @@ use Rattle.std.proofs.lemmas.Bool.{le-ltb}
 use Rattle.std.proofs.lemmas.Grind.{common_steps}
 use Rattle.std.proofs.lemmas.List.{append-nil, drop_all, take_rest}
 use Rattle.civl_tree.specs.declared.stmt.Stmt.{Stmt}
-use Rattle.civl_meaning.specs.Places.{size_of}
+use Rattle.civl_tree.specs.Numbering.{size_of}
 use Rattle.civl_meaning.specs.Rest.{rest_among, rest_inside}
 use Rattle.civl_meaning.specs.Frame.{unnumbered}
 use Rattle.civl_meaning.proofs.Resting.{here_left, within_left, past_left, left_none}

@@ -1,5 +1,5 @@
 use Rattle.std.proofs.Common.{◌≡◌, ◌+◌, [], drop}
-use Rattle.civl_meaning.specs.Places.{sizes_of}
+use Rattle.civl_tree.specs.Numbering.{sizes_of}
 use Rattle.civl_meaning.specs.Rest.{rest_among}
 use Rattle.civl_meaning.specs.Frame.{unnumbered}
 use Rattle.civl_meaning.proofs.framing.+rest.Given as goal

@@ -1,5 +1,5 @@
 use Rattle.std.proofs.Common.{◌≡◌, ◌≤◌, ◌+◌, drop}
-use Rattle.civl_meaning.specs.Places.{sizes_of}
+use Rattle.civl_tree.specs.Numbering.{sizes_of}
 use Rattle.civl_meaning.proofs.seeking.+size.Given as goal
 
 abbrev pub invariant-sizes_within-loop-stmt : goal.invariant-sizes_within-loop-stmt

@@ -2,7 +2,7 @@ use Rattle.std.proofs.Common.{refl}
 use Rattle.std.proofs.lemmas.Result.{err_from_is_err_and}
 use Rattle.civl_lex.specs.Spelled.{spelled}
 use Rattle.civl_phrases.specs.Reader.{both}
-use Rattle.civl_parser.specs.Programs.{sizes_at}
+use Rattle.civl_parser.specs.readers.Programs.{sizes_at}
 use Rattle.civl_parser.proofs.Sizes.{sizes_fail}
 use Rattle.civl_parser.proofs.program.sizes.Goals as goal
 

@@ -3,7 +3,7 @@ use Rattle.std.proofs.lemmas.List.{length-map}
 use Rattle.std.proofs.lemmas.Result.{err_from_is_err_and}
 use Rattle.civl_lex.specs.Spelled.{spelled, spelled_token}
 use Rattle.civl_phrases.specs.List.{repeated}
-use Rattle.civl_parser.specs.Stmts.{stmt_next, inner_stmt}
+use Rattle.civl_parser.specs.readers.Stmts.{stmt_next, inner_stmt}
 use Rattle.civl_phrases.proofs.Repeated.{loop_is}
 use Rattle.civl_parser.proofs.OfStmts.{inner_stmt_at}
 use Rattle.civl_parser.proofs.statements.+stmt.Goals as goal

@@ -1,7 +1,7 @@
 use Rattle.std.proofs.Common.{◌≡◌, ◌+◌, ◌-◌, ◌*◌, length}
 use Rattle.civl_lex.specs.Spelled.{spelled}
 use Rattle.civl_phrases.specs.List.{repeated_by, repeated, front}
-use Rattle.civl_parser.specs.Stmts.{stmt_next, inner_stmt}
+use Rattle.civl_parser.specs.readers.Stmts.{stmt_next, inner_stmt}
 use Rattle.civl_parser.proofs.statements.+stmt.Given as goal
 
 abbrev pub decreases-stmt : goal.decreases-stmt

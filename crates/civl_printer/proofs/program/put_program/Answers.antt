@@ -5,4 +5,4 @@ use Rattle.civl_printer.proofs.Writing.{then_phrase}
 use Rattle.civl_printer.proofs.program.put_program.Goals as goal
 
 pub returns : goal.returns
-returns c = then_phrase _ _ _ _ _ c.in_ok-put_header.ensures c.in_ok-put_items.ensures ∙ ap (λ ts. c.args.out.now.items ++ written ts) (program_tokens c.args.program.now)
+returns c = then_phrase _ _ _ _ _ c.in_ok-put_header.ensures c.in_ok-put_declarations.ensures ∙ ap (λ ts. c.args.out.now.items ++ written ts) (program_tokens c.args.program.now)

@@ -2,14 +2,14 @@ use Rattle.std.proofs.Common.{◌≡◌, ◌∙◌, Bool, true, false, ap, sym, 
 use Rattle.std.specs.Prelude.{Option, ◌||◌, slice_get}
 use Rattle.civl_tree.specs.declared.expr.Sort.{Sort}
 use Rattle.civl_tree.specs.rules.Uses.{target_use, argument_uses}
-use Rattle.civl_types.specs.Rules.{code_of, sorts_at, use_breaks, any_use}
+use Rattle.civl_types.specs.Rules.{sorts_at, use_breaks, any_use}
 use Rattle.civl_types.specs.Views.{scope_of}
 use Rattle.civl_types.proofs.Slots.{next_use}
 use Rattle.civl_types.proofs.uses.arguments_break.Goals as goal
 
 pub returns-then-target_breaks : goal.returns-then-target_breaks
 returns-then-target_breaks c =
-    let code = code_of c.args.rule in
+    let code = c.args.rule in
     let scope = scope_of c.args.view.now in
     let sorts = sorts_at c.args.slots.now in
     let arg = c.index-args-at.result in
@@ -21,7 +21,7 @@ returns-then-target_breaks c =
 
 pub loop-at-preserved : goal.loop-at-preserved
 loop-at-preserved c =
-    let code = code_of c.args.rule in
+    let code = c.args.rule in
     let scope = scope_of c.args.view.now in
     let sorts = sorts_at c.args.slots.now in
     let arg = c.index-args-at.result in

@@ -7,7 +7,7 @@ use Rattle.civl_linear.proofs.finders.DoubledLocalsFinder.find.Goals as goal
 
 pub returns : goal.returns
 returns c =
-    let program = c.args.self.now.program.now in
+    let program = c.args.program.now in
     let names : map (λ name. name.now) c.deref.result.now ≡ names_in_proc c.args.proc.now = ap (map (λ name. name.now)) c.deref.ensures.value ∙ c.in_ok-names.ensures in
     c.first_with.ensures
     ∙ noted_same (stmt_held_twice program (map (λ name. name.now) c.deref.result.now)) _ _ _ _ _

@@ -7,7 +7,7 @@ use Rattle.civl_tree.specs.declared.stmt.Stmt as stmt
 use Rattle.civl_meaning.specs.declared.config.State.TheVariants.{Before, Inside}
 use Rattle.civl_meaning.specs.Layers.{lowest, topmost}
 use Rattle.civl_meaning.specs.Config.{IsBegun, IsPlaced, HasLocals, ThreadIsSorted, IsStacked}
-use Rattle.civl_meaning.specs.Places.{sizes_of}
+use Rattle.civl_tree.specs.Numbering.{sizes_of}
 use Rattle.civl_firing.specs.examples.Written.{bool, proc, refines, call}
 use Rattle.civl_meaning.specs.examples.Flag.{flag, bare, running}
 use Rattle.civl_firing.proofs.Having.{no_sorts, more_sorts}

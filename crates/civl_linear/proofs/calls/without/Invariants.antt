@@ -1,8 +1,0 @@
-use Rattle.std.proofs.Common.{◌≡◌, ◌++◌, drop, map}
-use Rattle.civl_linear.specs.Modes.{passed_names}
-use Rattle.civl_linear.specs.Wants.{wants}
-use Rattle.civl_linear.specs.Held.{without}
-use Rattle.civl_linear.proofs.calls.without.Given as goal
-
-abbrev pub invariant-loop-at : goal.invariant-loop-at
-invariant-loop-at l = l.left ++ without (passed_names (wants l.want) l.params l.args) (map (λ name. name.now) (drop l.at l.names)) (drop l.at l.flags) ≡ without (passed_names (wants l.fn.want) l.fn.params l.fn.args) (map (λ name. name.now) l.fn.names) l.fn.held
