@@ -1,0 +1,4 @@
+pub mod Seeing
+pub mod Acting
+pub mod Keeping
+pub mod Existing

@@ -1,0 +1,10 @@
+pub mod NoteValues
+pub mod Paths
+pub mod Flows
+pub mod Ends
+pub mod Meets
+pub mod EndsMet
+pub mod Runs
+pub mod Seen
+pub mod Choices
+pub mod examples
