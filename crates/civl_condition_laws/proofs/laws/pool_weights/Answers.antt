@@ -1,0 +1,15 @@
+use Rattle.civl_tree.specs.declared.expr.Expr.{the_lemmas as of_expr}
+use Rattle.civl_tree.specs.declared.stmt.Stmt.{the_lemmas as of_stmt}
+use Rattle.civl_layers.specs.Cuts.{cuts_among}
+use Rattle.civl_paths.specs.Flows.{flow_from}
+use Rattle.civl_conditions.specs.Listed.{conditions}
+use Rattle.civl_conditions.specs.Variables.{variables}
+use Rattle.civl_conditions.specs.Weights.{weight, initial_weight}
+use Rattle.civl_condition_laws.proofs.Going.{flows, froms}
+use Rattle.civl_condition_laws.proofs.Forms.{inners, traces, rests}
+use Rattle.civl_condition_laws.proofs.Weighing.{weight_is}
+use Rattle.civl_condition_laws.proofs.laws.pool_weights.Goals as goal
+
+pub returns : goal.returns
+unfolding cuts_among flow_from conditions variables weight initial_weight
+returns c = (simp (of_expr, of_stmt, inners, flows, froms, traces, rests, weight_is), simp (of_expr, of_stmt, inners, flows, froms, traces, rests, weight_is))

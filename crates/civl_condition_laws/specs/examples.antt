@@ -1,0 +1,15 @@
+pub mod Short
+pub mod Spinlock
+pub mod Flag
+pub mod Product
+pub mod Countdown
+pub mod Pool
+pub mod Actions
+pub mod Pairs
+pub mod Blocks
+pub mod Yields
+pub mod Looping
+pub mod Spinning
+pub mod Interfering
+pub mod Naming
+pub mod Entries

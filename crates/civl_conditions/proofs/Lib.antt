@@ -1,0 +1,4 @@
+pub mod Pushing
+pub mod Placing
+pub mod Calls
+pub mod Behind

@@ -1,0 +1,6 @@
+use Rattle.std.proofs.Common.{◌≡◌, ◌++◌, drop, flat_map}
+use Rattle.civl_conditions.specs.Placed.{parts_from}
+use Rattle.civl_conditions.proofs.listing.push_paths.Given as goal
+
+abbrev pub invariant-loop-place : goal.invariant-loop-place
+invariant-loop-place l = l.list ++ flat_map (parts_from l.step) (drop l.place-index l.places) ≡ l.fn.list ++ flat_map (parts_from l.step) l.places

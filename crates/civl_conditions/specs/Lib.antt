@@ -1,0 +1,15 @@
+pub mod Steps
+pub mod Listed
+pub mod Placed
+pub mod Names
+pub mod Variables
+pub mod Passed
+pub mod Values
+pub mod Permissions
+pub mod Movers
+pub mod Invariants
+pub mod Assumed
+pub mod Parts
+pub mod Targets
+pub mod Violated
+pub mod Weights
