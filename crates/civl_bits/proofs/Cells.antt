@@ -8,7 +8,7 @@ use Rattle.std.proofs.lemmas.Grind.{replicate_next, same_number_lists}
 use Rattle.std.proofs.lemmas.List.{length-replicate, get_or-set_same, get_or-set_other, set-append_left, set-append_right}
 use Rattle.civl_bits.specs.declared.row.Row.TheInside.{Inside}
 use Rattle.civl_bits.specs.Word.{IsWord}
-use Rattle.civl_bits.specs.Row.{Cells, IsRow, cell_at, row_with, filled_row, padded, row_in, HoldsRow}
+use Rattle.civl_bits.specs.Row.{Cells, IsRow, cell_at, row_with, padded, row_in, HoldsRow}
 use Rattle.civl_bits.proofs.Powers.{below_same}
 
 pub at_most_64 : (index : ℕ) → index ≤ 6 → 2 ^ index ≤ 64

@@ -6,8 +6,6 @@
 
 pub mod laws;
 mod row;
-#[cfg(test)]
-mod tests;
 mod value;
 mod word;
 

@@ -19,6 +19,3 @@ pub use laws::{
 pub use memory::Memory;
 pub use outcome::Outcome;
 pub use solving::{bits_of, solve};
-
-#[cfg(test)]
-mod tests;

@@ -18,6 +18,3 @@ pub use gates::Gates;
 pub use lit::Lit;
 pub use log::Log;
 pub use memory::Memory;
-
-#[cfg(test)]
-mod tests;

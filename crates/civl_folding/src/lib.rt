@@ -15,6 +15,3 @@ mod pairs;
 pub use folded::Folded;
 pub use folding::{fill, get, join, one, pick, set, slice, widen};
 pub use pairs::two;
-
-#[cfg(test)]
-mod tests;

@@ -16,8 +16,6 @@ mod rule;
 mod signature;
 mod source;
 mod span;
-#[cfg(test)]
-mod tests;
 mod there;
 
 pub use answer::{layered, refusal};

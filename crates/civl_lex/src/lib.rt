@@ -12,8 +12,6 @@ mod number;
 mod run;
 mod sign;
 mod table;
-#[cfg(test)]
-mod tests;
 mod token;
 mod word;
 

@@ -5,7 +5,5 @@
 
 pub mod laws;
 mod shown;
-#[cfg(test)]
-mod tests;
 
 pub use shown::{put_value_text, value_text};

@@ -17,6 +17,3 @@ pub use real::{RealSink, RealSource};
 pub use sending::{Sent, write_all};
 pub use sink::{Sink, Wrote};
 pub use source::{Source, Took};
-
-#[cfg(test)]
-mod tests;

@@ -12,7 +12,7 @@ use Rattle.civl_tree.specs.declared.script.Literal.TheVariants as literal
 use Rattle.civl_tree.specs.declared.script.Entry.{Entry}
 use Rattle.civl_tree.specs.declared.script.Told.{Told}
 use Rattle.civl_tree.specs.declared.script.Script.{Script}
-use Rattle.civl_phrases.specs.Reader.{Reader, begins, ended}
+use Rattle.civl_phrases.specs.Reader.{Reader, begins}
 use Rattle.civl_phrases.specs.Leaf.{is_named}
 use Rattle.civl_phrases.specs.Phrase.{Any, AtEnd, IsReader, Heads, Image}
 use Rattle.civl_phrases.proofs.Joins.{both_is, mapped_is, image_is, refit_is, chosen_is, by_form_is}

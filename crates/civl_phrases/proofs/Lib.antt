@@ -8,4 +8,3 @@ pub mod Tables
 pub mod Leaves
 pub mod Places
 pub mod Exactly
-pub mod OfExample

@@ -6,4 +6,3 @@ pub mod Leaf
 pub mod Phrase
 pub mod Exact
 pub mod Laws
-pub mod Example

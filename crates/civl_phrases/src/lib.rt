@@ -7,7 +7,6 @@
 #![tactic(auto)]
 
 mod behind;
-mod example;
 mod halt;
 pub mod laws;
 mod leaf;
@@ -15,8 +14,6 @@ mod left;
 mod list;
 mod phrase;
 mod take;
-#[cfg(test)]
-mod tests;
 
 pub use halt::{Halt, Stop};
 pub use leaf::{name, number};

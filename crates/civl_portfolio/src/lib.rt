@@ -13,6 +13,3 @@ pub use attempt::Attempt;
 pub use laws::{certificates_stand_or_not, honest_first_stays, rounds_over_samples};
 pub use memory::Memory;
 pub use prover::Prover;
-
-#[cfg(test)]
-mod tests;

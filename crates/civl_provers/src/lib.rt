@@ -12,6 +12,3 @@ mod splitting;
 pub use laws::{square_wants_one_choice, tries_in_order};
 pub use probe::Probe;
 pub use splitter::Splitter;
-
-#[cfg(test)]
-mod tests;

@@ -17,8 +17,6 @@ mod numbers;
 mod plain;
 mod read;
 mod rowed;
-#[cfg(test)]
-mod tests;
 mod walk;
 mod write;
 

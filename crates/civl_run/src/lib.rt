@@ -7,8 +7,6 @@
 
 pub mod laws;
 mod replay;
-#[cfg(test)]
-mod tests;
 mod trace;
 
 pub use replay::run;

@@ -22,6 +22,3 @@ pub use occurrences::Occurrences;
 pub use propagation::{assume, propagate};
 pub use replaying::{occurrences_of, replay};
 pub use rule::{Rule, rule_of};
-
-#[cfg(test)]
-mod tests;

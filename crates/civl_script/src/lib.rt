@@ -3,8 +3,6 @@
 
 pub mod laws;
 mod schedule;
-#[cfg(test)]
-mod tests;
 mod written;
 
 pub use schedule::{Schedule, read_schedule};

@@ -1,5 +1,5 @@
 -- In a program that keeps the rule on signatures, a procedure has the signature of the action that it refines.
-use Rattle.std.proofs.Common.{◌≡◌, ℕ, false, [], ◌∷◌, refl, Some, slice_get}
+use Rattle.std.proofs.Common.{◌≡◌, ℕ, false, [], ◌∷◌, Some, slice_get}
 use Rattle.civl_tree.specs.declared.program.Proc.{Proc}
 use Rattle.civl_tree.specs.declared.program.Program.{Program}
 use Rattle.civl_tree.specs.rules.Signature.{proc_signature_differs}

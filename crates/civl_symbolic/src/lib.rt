@@ -15,6 +15,3 @@ pub use moves::{join, slice, widen};
 pub use one_operand::unary;
 pub use symbolic::{Lits, Symbolic};
 pub use two_operands::{binary, pick};
-
-#[cfg(test)]
-mod tests;

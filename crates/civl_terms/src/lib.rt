@@ -13,8 +13,6 @@ mod memory;
 mod node;
 mod sorting;
 mod terms;
-#[cfg(test)]
-mod tests;
 
 pub use memory::Memory;
 pub use node::{Id, Node};

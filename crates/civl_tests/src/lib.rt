@@ -1,4 +1,4 @@
-//! Tests that cross crates: rows of words, an input, a report and a status, and devices that fail.
+//! Tests that cross crates: rows of words, an input, a report and a status, and devices that fail; and worked examples of the calls below.
 #![tactic(auto)]
 
 #[cfg(test)]
@@ -6,15 +6,35 @@ mod codes;
 #[cfg(test)]
 mod devices;
 #[cfg(test)]
+mod ends;
+#[cfg(test)]
+mod entries;
+#[cfg(test)]
+mod flattening;
+#[cfg(test)]
+mod folding;
+#[cfg(test)]
+mod graphs;
+#[cfg(test)]
 mod instances;
+#[cfg(test)]
+mod layering;
+#[cfg(test)]
+mod lexing;
 #[cfg(test)]
 mod measuring;
 #[cfg(test)]
+mod models;
+#[cfg(test)]
 mod parsing;
+#[cfg(test)]
+mod phrases;
 #[cfg(test)]
 mod replays;
 #[cfg(test)]
 mod rows;
+#[cfg(test)]
+mod running;
 #[cfg(test)]
 mod schedules;
 #[cfg(test)]

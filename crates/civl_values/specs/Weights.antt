@@ -3,7 +3,7 @@
 -- row goes over its cells.
 use Rattle.std.specs.Prelude.{ℕ, ◌+◌, ◌*◌, ◌^◌, Option, None, Some}
 use Rattle.civl_tree.specs.declared.expr.Sort.{Sort}
-use Rattle.civl_tree.specs.declared.expr.Sort.TheVariants.{Bool as Truth, Word, Row}
+use Rattle.civl_tree.specs.declared.expr.Sort.TheVariants.{Row}
 use Rattle.civl_tree.specs.declared.expr.One.{One}
 use Rattle.civl_tree.specs.declared.expr.One.TheVariants.{Not, Flip, Minus}
 use Rattle.civl_tree.specs.declared.expr.Two.{Two}

@@ -4,7 +4,6 @@ use Rattle.civl_tree.specs.declared.expr.Expr.{Expr}
 use Rattle.civl_tree.specs.declared.expr.Expr as expr
 use Rattle.civl_tree.specs.declared.expr.One.TheVariants.{Not}
 use Rattle.civl_tree.specs.declared.expr.Sort.TheVariants.{Bool as Truth}
-use Rattle.civl_tree.specs.declared.stmt.Stmt.{Stmt}
 use Rattle.civl_tree.specs.declared.stmt.Stmt as stmt
 use Rattle.civl_tree.specs.declared.action.Action.{Action}
 use Rattle.civl_tree.specs.declared.program.Program.{Program}

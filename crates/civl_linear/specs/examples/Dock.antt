@@ -13,7 +13,6 @@
 --
 -- Its items are 0 `init`, 1 to 5 the actions, 6 and 7 the procedures. The numbers of P's names are 0 x, 1 y, 2 o, 3 z, 4 v.
 use Rattle.std.specs.Prelude.{ℕ, ◌≡◌, true, false, List, [], ◌∷◌, Some, None, codes}
-use Rattle.civl_tree.specs.declared.expr.Expr.{Expr}
 use Rattle.civl_tree.specs.declared.expr.Expr as expr
 use Rattle.civl_tree.specs.declared.expr.Sort.TheVariants.{Word}
 use Rattle.civl_tree.specs.declared.stmt.Stmt.{Stmt}

@@ -58,7 +58,6 @@ use Rattle.civl_tree.specs.declared.action.Update.{Update}
 use Rattle.civl_tree.specs.declared.action.Action.{Action}
 use Rattle.civl_tree.specs.declared.program.Proc.{Proc}
 use Rattle.civl_tree.specs.declared.program.Program.{Program}
-use Rattle.civl_tree.specs.declared.stmt.Stmt.{Stmt}
 use Rattle.civl_tree.specs.declared.stmt.Stmt as stmt
 use Rattle.civl_meaning.specs.declared.config.Plain.{Plain}
 use Rattle.civl_meaning.specs.Meaning.{Meaning, Does, Runs, Missing, called}

@@ -1,7 +1,6 @@
 -- Programs with a wrong number of arguments or results, an output without an update, or a thread with outputs; and
 -- procedures whose signature isn't that of their action.
 use Rattle.std.specs.Prelude.{ℕ, ◌≡◌, List, [], ◌∷◌, codes}
-use Rattle.civl_tree.specs.declared.expr.Expr.{Expr}
 use Rattle.civl_tree.specs.declared.expr.Expr as expr
 use Rattle.civl_tree.specs.declared.expr.Sort.TheVariants.{Bool as Truth, Word}
 use Rattle.civl_tree.specs.declared.stmt.Stmt as stmt

@@ -1,0 +1,19 @@
+//! Tests of words, gates, clauses and the search, on small tables that were worked out by hand.
+#![tactic(auto)]
+
+#[cfg(test)]
+mod circuits;
+#[cfg(test)]
+mod clauses;
+#[cfg(test)]
+mod dimacs;
+#[cfg(test)]
+mod logs;
+#[cfg(test)]
+mod provers;
+#[cfg(test)]
+mod searching;
+#[cfg(test)]
+mod strangers;
+#[cfg(test)]
+mod words;
