@@ -20,7 +20,8 @@ use Rattle.civl_conditions.specs.Steps.{step_invariants, of_cut}
 use Rattle.civl_conditions.specs.Variables.{near_globals, where_has, of_params, of_locals, flag, of_passed, path_variables, other_variables, variables}
 use Rattle.civl_conditions.specs.Permissions.{held_at}
 use Rattle.civl_conditions.specs.Assumed.{refined_action, cut_invariant}
-use Rattle.civl_conditions.specs.Weights.{summed, lin, bits_of_variables, weights_of, global_weight, note_weight, maybe_weight, gate_weight, linear_globals, layer_weight, part_weight, path_weight, target_weight, together, block_weight, weight}
+use Rattle.civl_values.specs.ActionWeights.{gate_weight}
+use Rattle.civl_conditions.specs.Weights.{summed, lin, bits_of_variables, weights_of, global_weight, note_weight, maybe_weight, linear_globals, layer_weight, part_weight, path_weight, target_weight, together, block_weight, weight}
 use Rattle.civl_condition_laws.proofs.Facts.{IsCut, choices_in, of_cut_is}
 
 -- ---- variables

@@ -12,10 +12,11 @@ use Rattle.civl_tree.specs.declared.program.Proc.{Proc}
 use Rattle.civl_tree.specs.declared.program.Program.{Program}
 use Rattle.civl_tree.specs.Numbering.{inner_of}
 use Rattle.civl_tree.specs.rules.Names.{has_name}
-use Rattle.civl_tree.specs.rules.Scopes.{Binding, global_scope, gate_scope, guard_scope, body_scope, note_scope, bind_globals, bind_params, bind_locals}
+use Rattle.civl_tree.specs.rules.Scopes.{Binding, global_scope, body_scope, note_scope, bind_globals, bind_params, bind_locals}
 use Rattle.civl_tree.specs.rules.Sorts.{sort_of}
 use Rattle.civl_tree.specs.rules.StoreSize.{bits_of}
 use Rattle.civl_values.specs.Weights.{bits_in, weight_of}
+use Rattle.civl_values.specs.ActionWeights.{gate_weight, guard_weight, updates_weight, offers_weight, action_weight}
 use Rattle.civl_meaning.specs.declared.config.Plain.{Plain}
 use Rattle.civl_meaning.specs.Meaning.{called, proc_number}
 use Rattle.civl_meaning.specs.Layers.{program_at}
@@ -73,22 +74,6 @@ maybe_weight weight e = option_map_or weight e 0
 
 -- ---- actions
 
-abbrev pub gate_weight : Program → Action → ℕ
-gate_weight program a = weight_of (gate_scope program a) a.gate
-
-abbrev pub guard_weight : Program → Action → ℕ
-guard_weight program a = weight_of (guard_scope program a) a.guard
-
-abbrev pub updates_weight : Program → Action → ℕ
-updates_weight program a = summed (map (λ u. weight_of (guard_scope program a) u.expr) a.updates)
-
--- gate, guard and updates
-abbrev pub all_weight : Program → Action → ℕ
-all_weight program a = gate_weight program a + guard_weight program a + updates_weight program a
-
-abbrev pub offers_weight : Program → Action → ℕ
-offers_weight program a = summed (map (λ c. weight_of (gate_scope program a) c.offer) a.choices)
-
 abbrev pub outs_bits : List Param → ℕ
 outs_bits outs = summed (map (λ p. bits_of p.sort) outs)
 
@@ -130,7 +115,7 @@ layer_weight plain proc s (stmt.If e a b) = 1 + body_weight plain.program proc e
 layer_weight plain proc s (stmt.While e a) = 1
 layer_weight plain proc s (stmt.YieldLoop e i a) = 1 + body_weight plain.program proc e
 layer_weight plain proc s (stmt.RankLoop e r i a) = 1 + body_weight plain.program proc e
-layer_weight plain proc s (stmt.Call f es rs) = 1 + weights_of (body_weight plain.program proc) es + option_map_or (all_weight plain.program) (action_meant (called plain f)) 0
+layer_weight plain proc s (stmt.Call f es rs) = 1 + weights_of (body_weight plain.program proc) es + option_map_or (action_weight plain.program) (action_meant (called plain f)) 0
 layer_weight plain proc s (stmt.Yield i) = 1
 layer_weight plain proc s stmt.Commit = 1
 layer_weight plain proc s (stmt.Intro x e) = 1 + note_weight plain.program proc e
@@ -209,11 +194,11 @@ abbrev pub keep_weight : Program → Action → ℕ
 keep_weight program a =
     let coming = linear_globals program + linear_inputs a.params in
     let going = linear_globals program + length (filter (λ p. is_lent p.mode) a.params) + length (filter (λ p. is_given p.mode) a.outs) in
-    all_weight program a + lin program coming + lin program going + going * 2 ^ program.permissions
+    action_weight program a + lin program coming + lin program going + going * 2 ^ program.permissions
 
 abbrev pub pair_weight : Program → ℕ → Action → Action → ℕ
 pair_weight program step a b =
-    2 * (all_weight program a + all_weight program b) + globals_bits program (step - 1) + outs_bits a.outs + outs_bits b.outs
+    2 * (action_weight program a + action_weight program b) + globals_bits program (step - 1) + outs_bits a.outs + outs_bits b.outs
     + lin program (linear_globals program + linear_inputs a.params + linear_inputs b.params)
 
 abbrev pub own_weight : Program → Condition → ℕ
@@ -225,7 +210,7 @@ own_weight program (Path part step q c) = of_cut program q c 0 (λ proc cut. pat
 own_weight program (Block step q c target) = of_cut program q c 0 (λ proc cut. block_weight program step proc c cut target)
 own_weight program (Act step x target) =
     of_action program x 0 (λ a.
-    all_weight program a + weights_of (global_weight program) (step_invariants program step) + 2 * target_weight program step target
+    action_weight program a + weights_of (global_weight program) (step_invariants program step) + 2 * target_weight program step target
     + lin program (linear_globals program + linear_inputs a.params + target_items program target))
 
 unfoldable pub weight : Program → Condition → ℕ

@@ -1,5 +1,5 @@
 -- What is held at the cuts of a procedure.
-use Rattle.std.specs.Prelude.{ℕ, ◌+◌, Bool, List, [], ◌∷◌, ◌++◌, Option, None, Some, is_some, if◌then◌else◌}
+use Rattle.std.specs.Prelude.{ℕ, ◌+◌, Bool, List, [], ◌∷◌, ◌++◌, Option, None, Some, is_some, map, if◌then◌else◌}
 use Rattle.civl_tree.specs.declared.name.Name.{Name}
 use Rattle.civl_tree.specs.declared.stmt.Stmt.{Stmt}
 use Rattle.civl_tree.specs.declared.program.Refines.{Refines}
@@ -32,3 +32,7 @@ held_under program proc (Some refines) =
 -- locals, in this order, from 0
 abbrev pub held_of : Program → Proc → List (List ℕ)
 held_of program proc = held_under program proc proc.refines
+
+-- of each procedure
+abbrev pub all_held : Program → List (List (List ℕ))
+all_held program = map (held_of program) program.procs

@@ -13,12 +13,12 @@ mod named;
 pub mod names;
 mod parts;
 mod rule;
-mod sorts;
+pub mod sorts;
 mod twice;
 mod typed;
 mod unknown;
 mod uses;
-mod view;
+pub mod view;
 
 pub use answer::{check, into_program, refusal};
 pub use typed::Typed;

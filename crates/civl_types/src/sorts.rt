@@ -1,4 +1,4 @@
-// The sort of an expression.
+//! The sort of an expression, and of each operation whose operands have given sorts; none, where a rule on sorts is broken.
 ghost use Rattle.std.specs.Prelude.{◌≡◌, ◌^◌, ◌≤◌};
 ghost use Rattle.civl_tree.specs.rules.Sorts.{same_sort, is_truth, is_word, word_sort, common_sort, words_sort, truth_over, truths_sort, slice_fits, widen_fits, join_fits, one_sort, two_sort, pick_sort, get_sort, set_sort, fill_sort, slice_sort, widen_sort, join_sort, joined_sort, sort_of};
 ghost use Rattle.civl_types.specs.Views.{scope_of};
@@ -116,7 +116,8 @@ pub(crate) fn join_fits(width: u32, other: u32) -> bool
     u64::from(width) + u64::from(other) <= 32
 }
 
-pub(crate) fn one_sort(op: One, part: Option<Sort>) -> Option<Sort>
+/// The sort of `!`, `~` or `-` of an operand of this sort, if it has one.
+pub fn one_sort(op: One, part: Option<Sort>) -> Option<Sort>
     ensures { result ≡ one_sort op part }
 {
     match op {
@@ -131,7 +132,8 @@ pub(crate) fn one_sort(op: One, part: Option<Sort>) -> Option<Sort>
     }
 }
 
-pub(crate) fn two_sort(op: Two, first: Option<Sort>, second: Option<Sort>) -> Option<Sort>
+/// The sort of an operation with two operands of these sorts, if it has one.
+pub fn two_sort(op: Two, first: Option<Sort>, second: Option<Sort>) -> Option<Sort>
     ensures { result ≡ two_sort op first second }
 {
     match op {
@@ -151,11 +153,8 @@ pub(crate) fn two_sort(op: Two, first: Option<Sort>, second: Option<Sort>) -> Op
     }
 }
 
-pub(crate) fn pick_sort(
-    test: Option<Sort>,
-    first: Option<Sort>,
-    second: Option<Sort>,
-) -> Option<Sort>
+/// The sort of `c ? a : b`, where its parts have these sorts: that of a and of b, which is one, where c is a bool.
+pub fn pick_sort(test: Option<Sort>, first: Option<Sort>, second: Option<Sort>) -> Option<Sort>
     ensures { result ≡ pick_sort test first second }
 {
     if is_truth(test) {
@@ -165,7 +164,8 @@ pub(crate) fn pick_sort(
     }
 }
 
-pub(crate) fn get_sort(row: Option<Sort>, at: Option<Sort>) -> Option<Sort>
+/// The sort of a cell that is read from a row.
+pub fn get_sort(row: Option<Sort>, at: Option<Sort>) -> Option<Sort>
     ensures { result ≡ get_sort row at }
 {
     match row {
@@ -180,7 +180,8 @@ pub(crate) fn get_sort(row: Option<Sort>, at: Option<Sort>) -> Option<Sort>
     }
 }
 
-pub(crate) fn set_sort(row: Option<Sort>, at: Option<Sort>, cell: Option<Sort>) -> Option<Sort>
+/// The sort of a row with a cell written: that of the row, where the index and the cell fit it.
+pub fn set_sort(row: Option<Sort>, at: Option<Sort>, cell: Option<Sort>) -> Option<Sort>
     ensures { result ≡ set_sort row at cell }
 {
     match row {
@@ -195,7 +196,8 @@ pub(crate) fn set_sort(row: Option<Sort>, at: Option<Sort>, cell: Option<Sort>) 
     }
 }
 
-pub(crate) fn fill_sort(index: u32, cell: Option<Sort>) -> Option<Sort>
+/// The sort of a row whose cells are all this word, and whose index has so many bits.
+pub fn fill_sort(index: u32, cell: Option<Sort>) -> Option<Sort>
     ensures { result ≡ fill_sort index cell }
 {
     match cell {
@@ -204,7 +206,8 @@ pub(crate) fn fill_sort(index: u32, cell: Option<Sort>) -> Option<Sort>
     }
 }
 
-pub(crate) fn slice_sort(word: Option<Sort>, high: u32, low: u32) -> Option<Sort>
+/// The sort of the bits `high` down to `low` of a word, where it has them.
+pub fn slice_sort(word: Option<Sort>, high: u32, low: u32) -> Option<Sort>
     ensures { result ≡ slice_sort word high low }
 {
     match word {
@@ -219,7 +222,8 @@ pub(crate) fn slice_sort(word: Option<Sort>, high: u32, low: u32) -> Option<Sort
     }
 }
 
-pub(crate) fn widen_sort(word: Option<Sort>, wider: u32) -> Option<Sort>
+/// The sort of a word made so wide, where it isn't wider already.
+pub fn widen_sort(word: Option<Sort>, wider: u32) -> Option<Sort>
     ensures { result ≡ widen_sort word wider }
 {
     match word {
@@ -249,7 +253,8 @@ fn joined_sort(width: u32, second: Option<Sort>) -> Option<Sort>
     }
 }
 
-pub(crate) fn join_sort(first: Option<Sort>, second: Option<Sort>) -> Option<Sort>
+/// The sort of two words side by side, where they are no wider than a word can be.
+pub fn join_sort(first: Option<Sort>, second: Option<Sort>) -> Option<Sort>
     ensures { result ≡ join_sort first second }
 {
     match first {
@@ -259,7 +264,7 @@ pub(crate) fn join_sort(first: Option<Sort>, second: Option<Sort>) -> Option<Sor
 }
 
 /// The sort of an expression at a place, where it has one.
-pub(crate) fn sort_of(view: &View, expr: &Expr) -> Option<Sort>
+pub fn sort_of(view: &View, expr: &Expr) -> Option<Sort>
     ensures { result ≡ sort_of (scope_of view.now) expr.now }
 {
     match expr {

@@ -1,4 +1,4 @@
-// The places of expressions, and the sorts of the names that may stand there.
+//! The places of expressions, and the sorts of the names that may stand there.
 ghost use Rattle.std.specs.Prelude.{◌≡◌, ◌++◌};
 ghost use Rattle.civl_tree.specs.rules.Scopes.{sort_in, bind_globals, bind_params, bind_choices, bind_locals, bind_proc};
 ghost use Rattle.civl_types.specs.Views.{scope_of};
@@ -10,7 +10,7 @@ use civl_tree::{Action, Choice, Global, Local, Name, Param, Proc, Program, Sort}
 /// action; in its guard or an update; in a statement of a procedure; in an invariant, a rank, a `with` or an intro of
 /// a procedure.
 #[derive(Clone, Copy)]
-pub(crate) enum View<'a> {
+pub enum View<'a> {
     Globals(&'a Program),
     Gate(&'a Program, &'a Action),
     Guard(&'a Program, &'a Action),
@@ -111,7 +111,7 @@ fn note_sort(program: &Program, proc: &Proc, name: &Name) -> Option<Sort>
 }
 
 /// The sort of a name in an expression that stands there.
-pub(crate) fn name_sort(view: &View, name: &Name) -> Option<Sort>
+pub fn name_sort(view: &View, name: &Name) -> Option<Sort>
     ensures { result ≡ sort_in (scope_of view.now).names name.now }
 {
     match view {
@@ -128,7 +128,7 @@ pub(crate) fn name_sort(view: &View, name: &Name) -> Option<Sort>
 }
 
 /// The sort of a name in `old(name)` there.
-pub(crate) fn old_sort(view: &View, name: &Name) -> Option<Sort>
+pub fn old_sort(view: &View, name: &Name) -> Option<Sort>
     ensures { result ≡ sort_in (scope_of view.now).olds name.now }
 {
     match view {

@@ -6,7 +6,6 @@ use Rattle.civl_tree.specs.rules.Typing.{typing_rules}
 use Rattle.civl_tree.specs.rules.Broken.{AreInOrder, AreSorted}
 use Rattle.civl_layers.specs.LayerRules.{layer_rules}
 use Rattle.civl_linear.specs.LinearRules.{linear_rules}
-use Rattle.civl_linear.specs.Cuts.{held_of}
 use Rattle.civl_yields.specs.YieldRules.{yield_rules}
 use Rattle.civl_yields.specs.Phases.{phases_of}
 
@@ -23,10 +22,6 @@ static_rules = typing_rules ++ (layer_rules ++ admission_rules)
 pub record StaticRulesAreInOrder : Type 0 where
   pub in_order : AreInOrder static_rules
   pub sorted : AreSorted static_rules
-
--- what is held at each cut of each procedure
-abbrev pub all_held : Program → List (List (List ℕ))
-all_held program = map (held_of program) program.procs
 
 -- the phase before each call of each procedure
 abbrev pub all_phases : Program → List (List Bool)

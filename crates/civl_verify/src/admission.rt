@@ -2,7 +2,8 @@
 ghost use Rattle.std.specs.Prelude.{◌≡◌, IfOk, IfErr};
 ghost use Rattle.civl_tree.specs.rules.Rules.{refusal_by, Keeps};
 ghost use Rattle.civl_types.specs.Checked.{IsCause, IsFirstCause};
-ghost use Rattle.civl_verify.specs.Admitted.{admission_rules, all_held, all_phases};
+ghost use Rattle.civl_linear.specs.Cuts.{all_held};
+ghost use Rattle.civl_verify.specs.Admitted.{admission_rules, all_phases};
 
 use civl_layers::{Held, Layered};
 use civl_linear::held;
@@ -27,7 +28,8 @@ impl Model for Admitted {
     ghost use Rattle.civl_tree.specs.contracts.stmt.Stmt as stmt;
     ghost use Rattle.std.specs.Coded.{codes};
     ghost use Rattle.civl_tree.specs.rules.Rules.{Keeps};
-    ghost use Rattle.civl_verify.specs.Admitted.{admission_rules, all_held, all_phases};
+    ghost use Rattle.civl_linear.specs.Cuts.{all_held};
+    ghost use Rattle.civl_verify.specs.Admitted.{admission_rules, all_phases};
 
     ghost Value = { Tree };
 
