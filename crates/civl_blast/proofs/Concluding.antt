@@ -1,6 +1,6 @@
 -- The clauses of a term stand for it.
 use Rattle.std.specs.Prelude.{IsTrue, slice_get, All}
-use Rattle.std.proofs.Common.{◌≡◌, ℕ, ◌+◌, ◌*◌, ◌<◌, ◌≤◌, List, ap₂, refl, [], ◌∷◌, ◌++◌, length, sym, ◌∙◌, ap, subst, arith, Bool, Some, length-append}
+use Rattle.std.proofs.Common.{◌≡◌, ℕ, ◌+◌, ◌*◌, ◌<◌, List, ap₂, refl, [], ◌∷◌, ◌++◌, length, sym, ◌∙◌, ap, subst, arith, Bool, Some, length-append}
 use Rattle.std.proofs.lemmas.Bool.{false≢true}
 use Rattle.std.proofs.lemmas.List.Elements.{All-nil}
 use Rattle.std.proofs.lemmas.Option.{slice_get-get_or, get_or_from_slice_get, slice_get_within}
@@ -11,14 +11,13 @@ use Rattle.civl_tree.specs.rules.StoreSize.{bits_of}
 use Rattle.civl_cnf.specs.Literal.{Literal}
 use Rattle.civl_cnf.specs.ClauseSet.{ClauseSet, SatisfiesClause}
 use Rattle.civl_terms.specs.declared.node.Node.{Node}
-use Rattle.civl_terms.specs.declared.node.Node.TheVariants.{Variable}
 use Rattle.civl_terms.specs.Graphs.{IsGraph, IsDistinct}
 use Rattle.civl_terms.specs.Weights.{term_weight}
 use Rattle.civl_reach.specs.Reaching.{Reaches, is_plain, IsRowless}
 use Rattle.civl_reach.specs.Marks.{marked, IsMarking}
 use Rattle.civl_rows.specs.Cells.{cells_in}
 use Rattle.civl_blast.specs.declared.blasted.Place.{Place}
-use Rattle.civl_blast.specs.Standing.{cell_bits, ShowAll, HasPlaces, StandsFor, GivesValues, IsSmall}
+use Rattle.civl_blast.specs.Standing.{cell_bits, IsPlaced, ShowAll, HasPlaces, StandsFor, GivesValues, IsSmall}
 use Rattle.civl_blast.specs.Steps.{input_bits, inputs_before, places_before, IsCircuit}
 use Rattle.civl_blast.proofs.Reading.{marked_within, values_read, values_are_read, values_fit}
 use Rattle.civl_blast.proofs.Weighing.{inputs_next, inputs_less}
@@ -38,10 +37,6 @@ one_cell_bits : (s : Sort) → IsTrue (is_plain (Some s)) → (0 < cells_in (Som
 one_cell_bits sort.Bool p = (omega arith, refl)
 one_cell_bits (sort.Word w) p = (omega arith, refl)
 one_cell_bits (sort.Row i w) p = absurd (false≢true p)
-
--- what a place tells
-abbrev IsPlaced : List Node → ℕ → ℕ → Place → Type 0
-IsPlaced ns id count e = (i : ℕ) × (s : Sort) × Reaches ns id i × (slice_get ns i ≡ Some (Variable e.variable s)) × (e.cell < cells_in (Some s)) × (e.first + cell_bits s ≤ count)
 
 pub placed : {ns : List Node} {id inputs : ℕ} {marks : List Bool} {gates : ClauseSet} {output : Literal} (count : ℕ) (places : List Place) → IsGraph ns → IsRowless ns id → IsMarking ns id 0 marks → IsCircuit ns id marks inputs gates output → inputs ≡ inputs_before ns marks (id + 1) → places ≡ places_before ns marks (id + 1) → count ≡ gates.variables → HasPlaces ns id count places
 placed {ns} {id} {inputs} {marks} count places graph rowless m circuit ei ep ec = record {

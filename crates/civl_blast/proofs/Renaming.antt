@@ -1,7 +1,7 @@
 -- Clauses that stand for a term without rows stand for the term that was flattened.
-use Rattle.std.specs.Prelude.{◌⊎◌, slice_get, nat_eq, if◌then◌else◌}
-use Rattle.std.proofs.Common.{◌≡◌, ℕ, zero, suc, ◌+◌, ◌-◌, ◌<◌, ◌≤◌, List, [], ◌∷◌, ◌++◌, length, get_or, map, refl, sym, ◌∙◌, ap, subst, inl, inr, arith, Bool, false, Some}
-use Rattle.std.proofs.lemmas.Bool.{true≢false, cases_eq, cases_lt, cond-true, cond-false, eq-eqb, ne_eqb}
+use Rattle.std.specs.Prelude.{slice_get, nat_eq, if◌then◌else◌}
+use Rattle.std.proofs.Common.{◌≡◌, ℕ, zero, suc, ◌+◌, ◌<◌, ◌≤◌, List, [], ◌∷◌, length, get_or, map, refl, sym, ◌∙◌, ap, subst, inl, inr, arith, Bool, false, Some}
+use Rattle.std.proofs.lemmas.Bool.{true≢false, cases_eq, cond-true, cond-false, eq-eqb, ne_eqb}
 use Rattle.std.proofs.lemmas.Option.{slice_get-get_or}
 use Rattle.std.proofs.lemmas.List.Elements.{All-nil, All-cons, All-head, All-tail}
 use Rattle.civl_bits.specs.declared.value.Value.{Value}
@@ -11,8 +11,9 @@ use Rattle.civl_values.specs.Values.{HasSort, is_true}
 use Rattle.civl_cnf.specs.ClauseSet.{ClauseSet}
 use Rattle.civl_symbolic.specs.Symbolic.{Shows}
 use Rattle.civl_terms.specs.declared.node.Node.{Node}
-use Rattle.civl_terms.specs.declared.node.Node.TheVariants.{Constant, Variable, One as Once, Two as Twice, Pick, Get, Set, Fill, Slice, Widen, Join}
-use Rattle.civl_terms.specs.Graphs.{along, node_value, values, value_in, value_at, Fits}
+use Rattle.civl_terms.specs.declared.node.Node.TheVariants.{Variable}
+use Rattle.civl_terms.specs.Graphs.{value_at, IsGraph, Fits}
+use Rattle.civl_reach.proofs.Deciding.{reached_variables_decide}
 use Rattle.civl_rows.specs.Cells.{cell_of, next_number, HasEntries}
 use Rattle.civl_rows.specs.Cells as cells
 use Rattle.civl_rows.specs.declared.flat.Cell.{Cell}
@@ -37,13 +38,6 @@ env_old start (e ∷ es) env k h l =
     cond-false (nat_eq e.number k) (cell_of (env e.variable) e.cell) (env_with es env k) (ne_eqb e.number k (λ q. absurd (omega arith)))
     ∙ env_old (start + 1) es env k (counts_on start e es h) (omega arith)
 
-env_past : (start : ℕ) (es : List Cell) (env : ℕ → Value) (k : ℕ) → CountFrom start es → start + length es ≤ k → env_with es env k ≡ env k
-env_past start [] env k h l = refl
-env_past start (e ∷ es) env k h l =
-    let first = h 0 e refl in
-    cond-false (nat_eq e.number k) (cell_of (env e.variable) e.cell) (env_with es env k) (ne_eqb e.number k (λ q. absurd (omega arith)))
-    ∙ env_past (start + 1) es env k (counts_on start e es h) (omega arith)
-
 pub env_new : (start : ℕ) (es : List Cell) (env : ℕ → Value) → CountFrom start es → (p : ℕ) (e : Cell) → slice_get es p ≡ Some e → env_with es env e.number ≡ cell_of (env e.variable) e.cell
 env_new start [] env h p e q = absurd cc
 env_new start (c ∷ cs) env h zero e q =
@@ -57,7 +51,7 @@ env_new start (c ∷ cs) env h (suc p) e q =
 
 -- ---- the cell with a number
 
-place_other : (start : ℕ) (es : List Cell) (q : Place) → CountFrom start es → q.variable < start → place_of_cell es q ≡ q
+pub place_other : (start : ℕ) (es : List Cell) (q : Place) → CountFrom start es → q.variable < start → place_of_cell es q ≡ q
 place_other start [] q h l = refl
 place_other start (e ∷ es) q h l =
     let first = h 0 e refl in
@@ -86,26 +80,6 @@ place_found start (c ∷ cs) q (suc p) e h g v =
 abbrev pub no_cell : Cell
 no_cell = record { variable = 0; cell = 0; number = 0 }
 
-abbrev pub IsEntry : List Cell → ℕ → Type 0
-IsEntry es k = (p : ℕ) × (e : Cell) × (slice_get es p ≡ Some e) × (k ≡ e.number)
-
-pub record IsOther (es : List Cell) (k : ℕ) : Type 0 where
-  pub place : (q : Place) → q.variable ≡ k → place_of_cell es q ≡ q
-  pub env : (env : ℕ → Value) → env_with es env k ≡ env k
-
--- a variable stands for a cell, or it is another one
-pub entry_or_other : (start : ℕ) (es : List Cell) (k : ℕ) → CountFrom start es → IsEntry es k ⊎ IsOther es k
-entry_or_other start es k h = elim (cases_lt k start) [
-  | inl low ↦ inr (record { place = λ q e. place_other start es q h (omega arith); env = λ env. env_old start es env k h low })
-  | inr high ↦ elim (cases_lt k (start + length es)) [
-    | inl in_list ↦
-        let at : slice_get es (k - start) ≡ Some (get_or es (k - start) no_cell) = slice_get-get_or es (k - start) no_cell (omega arith) in
-        let number = h (k - start) (get_or es (k - start) no_cell) at in
-        inl (k - start, get_or es (k - start) no_cell, at, omega arith)
-    | inr past ↦ inr (record { place = λ q e. place_past start es q h (omega arith); env = λ env. env_past start es env k h past })
-  ]
-]
-
 pub place_of_entry : (start : ℕ) (es : List Cell) (q : Place) (p : ℕ) (e : Cell) → CountFrom start es → slice_get es p ≡ Some e → q.variable ≡ e.number → place_of_cell es q ≡ record { variable = e.variable; cell = e.cell; first = q.first }
 place_of_entry start es q p e h g v = let number = h p e g in place_found start es q p e h g (omega arith)
 
@@ -133,31 +107,6 @@ place_at_cell es q d at h v l =
 cells_read : (env : ℕ → Value) (es : List Cell) → ((p : ℕ) (e : Cell) → slice_get es p ≡ Some e → env e.number ≡ cell_of (env e.variable) e.cell) → cells.Reads env es
 cells_read env [] h = tt
 cells_read env (e ∷ es) h = (h 0 e refl, cells_read env es (λ p f q. h (suc p) f q))
-
--- ---- values that agree on the variables of a graph
-
-node_same : (env other : ℕ → Value) (vs : List Value) (n : Node) → ((k : ℕ) (s : Sort) → n ≡ Variable k s → env k ≡ other k) → node_value env vs n ≡ node_value other vs n
-node_same env other vs (Constant v) h = refl
-node_same env other vs (Variable k s) h = h k s refl
-node_same env other vs (Once op a) h = refl
-node_same env other vs (Twice op a b) h = refl
-node_same env other vs (Pick c a b) h = refl
-node_same env other vs (Get row at) h = refl
-node_same env other vs (Set row at cell) h = refl
-node_same env other vs (Fill index cell) h = refl
-node_same env other vs (Slice a high low) h = refl
-node_same env other vs (Widen a width) h = refl
-node_same env other vs (Join a b) h = refl
-
-along_same : (env other : ℕ → Value) (known : List Value) (ns : List Node) → ((i k : ℕ) (s : Sort) → slice_get ns i ≡ Some (Variable k s) → env k ≡ other k) → along (node_value env) known ns ≡ along (node_value other) known ns
-along_same env other known [] h = refl
-along_same env other known (n ∷ ns) h =
-    ap (λ (v : Value). along (node_value env) (known ++ v ∷ []) ns) (node_same env other known n (λ k s e. h 0 k s (ap (λ (m : Node). Some m) e)))
-    ∙ along_same env other (known ++ node_value other known n ∷ []) ns (λ i k s e. h (suc i) k s e)
-
-value_same : (env other : ℕ → Value) (ns : List Node) (id : ℕ) → ((i k : ℕ) (s : Sort) → slice_get ns i ≡ Some (Variable k s) → env k ≡ other k) → value_at env ns id ≡ value_at other ns id
-unfolding values
-value_same env other ns id h = ap (λ vs. value_in vs id) (along_same env other [] ns h)
 
 -- ---- places
 
@@ -213,8 +162,8 @@ pub record IsCelled (old new : List Node) (id flat : ℕ) (es : List Cell) (env 
   pub fits : Fits (env_with es env) new
   pub value : value_at (env_with es env) new flat ≡ value_at env old id
 
-pub celled : {old new : List Node} {id flat : ℕ} {es : List Cell} → HasEntries old id es → ((env : ℕ → Value) → Fits env old → cells.Reads env es → Fits env new) → ((env : ℕ → Value) → Fits env old → cells.Reads env es → value_at env new flat ≡ value_at env old id) → (env : ℕ → Value) → Fits env old → IsCelled old new id flat es env
-celled {old} {new} {id} {flat} {es} entries fits_new value env fits =
+pub celled : {old new : List Node} {id flat : ℕ} {es : List Cell} → IsGraph old → HasEntries old id es → ((env : ℕ → Value) → Fits env old → cells.Reads env es → Fits env new) → ((env : ℕ → Value) → Fits env old → cells.Reads env es → value_at env new flat ≡ value_at env old id) → (env : ℕ → Value) → Fits env old → IsCelled old new id flat es env
+celled {old} {new} {id} {flat} {es} graph entries fits_new value env fits =
     let same : (i k : ℕ) (s : Sort) → slice_get old i ≡ Some (Variable k s) → env_with es env k ≡ env k = λ i k s e. let above = next_is_above old i (Variable k s) e in env_old (next_number old) es env k entries.numbers (omega arith) in
     let fits_old : Fits (env_with es env) old = λ i k s e. let P : Value → Type 0 = λ x. HasSort x s in subst P (sym (same i k s e)) (fits i k s e) in
     let read : cells.Reads (env_with es env) es = cells_read (env_with es env) es (λ p e q.
@@ -222,22 +171,22 @@ celled {old} {new} {id} {flat} {es} entries fits_new value env fits =
     env_new (next_number old) es env entries.numbers p e q ∙ ap (λ x. cell_of x e.cell) (sym (same row.0 e.variable _ row.4))) in
     record {
       fits = fits_new (env_with es env) fits_old read;
-      value = value (env_with es env) fits_old read ∙ value_same (env_with es env) env old id same;
+      value = value (env_with es env) fits_old read ∙ reached_variables_decide old graph id (env_with es env) env (λ i k s r e. same i k s e);
     }
 
-pub stands_for_cells : {old new : List Node} {id flat : ℕ} {es : List Cell} {set : ClauseSet} {places : List Place} → HasEntries old id es → ((env : ℕ → Value) → Fits env old → cells.Reads env es → Fits env new) → ((env : ℕ → Value) → Fits env old → cells.Reads env es → value_at env new flat ≡ value_at env old id) → StandsFor new flat set places → StandsFor old id set (map (place_of_cell es) places)
-stands_for_cells {old} {new} {id} {flat} {es} {set} {places} entries fits_new value s = record {
+pub stands_for_cells : {old new : List Node} {id flat : ℕ} {es : List Cell} {set : ClauseSet} {places : List Place} → IsGraph old → HasEntries old id es → ((env : ℕ → Value) → Fits env old → cells.Reads env es → Fits env new) → ((env : ℕ → Value) → Fits env old → cells.Reads env es → value_at env new flat ≡ value_at env old id) → StandsFor new flat set places → StandsFor old id set (map (place_of_cell es) places)
+stands_for_cells {old} {new} {id} {flat} {es} {set} {places} graph entries fits_new value s = record {
   gates = s.gates;
   output = s.output;
   clauses = s.clauses;
   some = λ env fits.
-      let c = celled entries fits_new value env fits in
+      let c = celled graph entries fits_new value env fits in
       let v = s.some (env_with es env) c.fits in
       (v.0, v.1, reads_cells v.0 es env places v.2);
   one = λ env fits v w hv hw rv rw_.
-      let c = celled entries fits_new value env fits in
+      let c = celled graph entries fits_new value env fits in
       s.one (env_with es env) c.fits v w hv hw (reads_flat v es env places rv) (reads_flat w es env places rw_);
   is = λ env fits v hv rv.
-      let c = celled entries fits_new value env fits in
+      let c = celled graph entries fits_new value env fits in
       s.is (env_with es env) c.fits v hv (reads_flat v es env places rv) ∙ ap is_true c.value;
 }

@@ -25,14 +25,18 @@ cell_bits sort.Bool = 1
 cell_bits (sort.Word width) = width
 cell_bits (sort.Row index width) = width
 
--- each cell of each variable that the term reaches has a place, there are no others, and their bits are among so many variables
+-- the place is that of a cell of a variable that the term reaches, and its bits are among so many variables
+abbrev pub IsPlaced : List Node → ℕ → ℕ → Place → Type 0
+IsPlaced ns id count e = (i : ℕ) × (s : Sort) × Reaches ns id i × (slice_get ns i ≡ Some (Variable e.variable s)) × (e.cell < cells_in (Some s)) × (e.first + cell_bits s ≤ count)
+
+-- each cell of each variable that the term reaches has a place, and there are no others
 pub record HasPlaces (ns : List Node) (id : ℕ) (count : ℕ) (places : List Place) : Type 0 where
   pub each : (i k c : ℕ) (s : Sort) → Reaches ns id i → slice_get ns i ≡ Some (Variable k s) → c < cells_in (Some s) → (p first : ℕ) × (slice_get places p ≡ Some (record { variable = k; cell = c; first = first }))
-  pub only : (p : ℕ) (e : Place) → slice_get places p ≡ Some e → (i : ℕ) × (s : Sort) × Reaches ns id i × (slice_get ns i ≡ Some (Variable e.variable s)) × (e.cell < cells_in (Some s)) × (e.first + cell_bits s ≤ count)
+  pub only : (p : ℕ) (e : Place) → slice_get places p ≡ Some e → IsPlaced ns id count e
 
--- each place is that of a cell of one of the graph's variables, whose bits are among so many variables
-pub record NamesCells (ns : List Node) (count : ℕ) (places : List Place) : Type 0 where
-  pub only : (p : ℕ) (e : Place) → slice_get places p ≡ Some e → (i : ℕ) × (s : Sort) × (slice_get ns i ≡ Some (Variable e.variable s)) × (e.cell < cells_in (Some s)) × (e.first + cell_bits s ≤ count)
+-- each place is that of a cell of a variable that the term reaches
+pub record NamesCells (ns : List Node) (id : ℕ) (count : ℕ) (places : List Place) : Type 0 where
+  pub only : (p : ℕ) (e : Place) → slice_get places p ≡ Some e → IsPlaced ns id count e
 
 -- The clauses but the last, which is the unit clause of the output, leave exactly one choice of bits for each list of values of the graph's variables, and this choice makes the output true exactly where the term is true.
 pub record StandsFor (ns : List Node) (id : ℕ) (set : ClauseSet) (places : List Place) : Type 0 where

@@ -3,7 +3,7 @@ ghost use Rattle.std.specs.Prelude.{◌≡◌, ◌≤◌, ◌<◌, ◌+◌, ◌*
 ghost use Rattle.civl_tree.specs.declared.expr.Sort.TheVariants as sort;
 ghost use Rattle.civl_terms.specs.Graphs.{sort_at};
 ghost use Rattle.civl_terms.specs.Weights.{term_weight};
-ghost use Rattle.civl_terms.specs.Building.{Grows};
+ghost use Rattle.civl_terms.specs.Building.{Lengthens};
 ghost use Rattle.civl_rows.specs.Cells.{NumbersBelow};
 ghost use Rattle.civl_blast.specs.Standing.{NamesCells, StandsFor, GivesValues, IsSmall};
 ghost use Rattle.civl_blast.specs.Renaming.{place_of_cell, CountUp};
@@ -53,7 +53,7 @@ fn places_of_cells(alloc: Global, cells: &[Cell], places: &[Place]) -> Result<Ve
 ///
 /// The term weighs at most 1,600,000, and the graph's variables have numbers below 2^31. It uses at most four variables for each unit of the term's weight, and two more. The graph grows by a term without rows that has the same value, also where memory is wanting.
 ///
-/// Each place is that of a cell of one of the graph's variables. A cell on which the term doesn't stand once its constants are folded may have no place; then its value doesn't matter to the term (`laws`).
+/// Each place is that of a cell of a variable that the term reaches. A cell on which the term doesn't stand once its constants are folded may have no place; then its value doesn't matter to the term (`laws`).
 ///
 /// # Errors
 ///
@@ -63,8 +63,8 @@ pub fn blast(alloc: Global, terms: &mut Terms, id: Id) -> Result<Blasted, Memory
     requires truth { sort_at terms.old id ≡ Some sort.Bool }
     requires light { term_weight terms.old id ≤ 1600000 }
     requires numbers { NumbersBelow (2 ^ 31) terms.old }
-    ensures grows { Grows terms.old terms.new }
-    ensures places { IfOk result (λ blasted. NamesCells terms.old blasted.cnf.variables blasted.places) }
+    ensures grows { Lengthens terms.old terms.new }
+    ensures places { IfOk result (λ blasted. NamesCells terms.old id blasted.cnf.variables blasted.places) }
     ensures stands { IfOk result (λ blasted. StandsFor terms.old id blasted.cnf blasted.places) }
     ensures back { IfOk result (λ blasted. GivesValues terms.old blasted.places) }
     ensures small { IfOk result (λ blasted. IsSmall blasted.cnf (4 * term_weight terms.old id + 2)) }

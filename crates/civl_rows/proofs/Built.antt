@@ -14,7 +14,7 @@ use Rattle.civl_terms.specs.Building.{Grows, Numbers, Answers, Built}
 use Rattle.civl_reach.specs.Reaching.{is_plain}
 use Rattle.civl_rows.specs.Cells.{number_above}
 use Rattle.civl_rows.specs.Making.{Has, AllIn, Adds, IsCalm, MakesOne}
-use Rattle.civl_rows.proofs.Growth.{node_weight_stays, calm_more, calm_refl}
+use Rattle.civl_rows.proofs.Growth.{longer, node_weight_stays, calm_more, calm_refl}
 use Rattle.civl_rows.proofs.Solid.{adds_none, adds_node}
 
 operand : (s : List ℕ) (id a : ℕ) → id ≡ a → Has s a → AllIn s (id ∷ [])
@@ -30,8 +30,8 @@ pub record Operation (old : List Node) (Uses : List ℕ → Type 0) (n : Node) (
   pub light : node_weight (sorts old) n ≤ cost
 
 answers_add : {old new : List Node} {Uses : List ℕ → Type 0} {n : Node} {a b c cost : ℕ} (f : Folded) (id : ℕ) → Operation old Uses n a b c cost → Grows old new → IsTrue (is_plain (sort_at new id)) → Answers old new f n a b c id → Adds old new Uses (id ∷ []) cost
-answers_add {old} {new} {Uses} {n} {a} {b} {c} {cost} folded.New id o g p h = adds_node Uses id cost n g h.is p o.parts (omega (arith, node_weight_stays old new n g o.below, o.light))
-answers_add {old} {new} {Uses} {n} {a} {b} {c} {cost} (folded.Constant v) id o g p h = adds_node Uses id cost (Constant v) g h.is p (λ s u k q. absurd (false≢true q)) (omega arith)
+answers_add {old} {new} {Uses} {n} {a} {b} {c} {cost} folded.New id o g p h = adds_node Uses id cost n g o.other h.is p o.parts (omega (arith, node_weight_stays old new n (longer g) o.below, o.light))
+answers_add {old} {new} {Uses} {n} {a} {b} {c} {cost} (folded.Constant v) id o g p h = adds_node Uses id cost (Constant v) g refl h.is p (λ s u k q. absurd (false≢true q)) (omega arith)
 answers_add {old} {new} {Uses} {n} {a} {b} {c} {cost} folded.First id o g p h = adds_none Uses (id ∷ []) cost g (λ s u. operand s id a h.0 (o.first s u))
 answers_add {old} {new} {Uses} {n} {a} {b} {c} {cost} folded.Second id o g p h = adds_none Uses (id ∷ []) cost g (λ s u. operand s id b h.0 (o.second s u))
 answers_add {old} {new} {Uses} {n} {a} {b} {c} {cost} folded.Third id o g p h = adds_none Uses (id ∷ []) cost g (λ s u. operand s id c h.0 (o.third s u))
@@ -57,7 +57,7 @@ makes_one {old} {new} {Uses} {n} {a} {b} {c} f id o g p h t = record {
 pub makes_constant : {old new : List Node} {Uses : List ℕ → Type 0} {v : Value} {weight : ℕ} {value : (ℕ → Value) → Value} {s : Option Sort} (id : ℕ) → Grows old new → IsTrue (is_plain s) → Numbers old new (Constant v) id → Built old new id value s weight → MakesOne old new Uses id s value 0
 makes_constant {old} {new} {Uses} {v} id g p h b = record {
   calm = calm_more old new (Constant v) g refl h.adds;
-  adds = adds_node Uses id 0 (Constant v) g h.is (ap is_plain b.sorted ∙ p) (λ s u k q. absurd (false≢true q)) (omega arith);
+  adds = adds_node Uses id 0 (Constant v) g refl h.is (ap is_plain b.sorted ∙ p) (λ s u k q. absurd (false≢true q)) (omega arith);
   sorted = b.sorted;
   is = b.is;
 }

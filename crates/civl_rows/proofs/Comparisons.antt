@@ -13,7 +13,7 @@ use Rattle.civl_terms.specs.Graphs.{sort_at, value_at}
 use Rattle.civl_reach.specs.Reaching.{is_plain}
 use Rattle.civl_rows.specs.Making.{HaveSort, MakesOne, UsesTwo, UsesThree, UsesPairs, joined, IsComparison, IsJoin}
 use Rattle.civl_rows.proofs.Growth.{calm_trans}
-use Rattle.civl_rows.proofs.Solid.{all_at, adds_then}
+use Rattle.civl_rows.proofs.Solid.{all_at, adds_then, adds_as}
 use Rattle.civl_rows.proofs.Made.{sort_stays, value_stays, eq_sort_is, one_then}
 
 -- ---- sorts and weights of these operations
@@ -47,8 +47,8 @@ next_made {old} {mid} {new} op join all a b next id s io ij el ea eb p m n =
     let light : two_weight op (bits_in (sort_at old a)) ≡ bits_in s = comparison_weight op (bits_in (sort_at old a)) io ∙ ap bits_in ea in
     record {
       calm = calm_trans m.calm n.calm;
-      adds = adds_then {Uses = UsesThree all a b} (id ∷ []) (bits_in s + 1) (record { set = λ t solid u. m.adds.set t solid (u.1, u.2) }) n.adds
-          (λ u k h c x. (c all h.0, x.0)) (λ u k h c x y. y) (omega (arith, light, join_weight join (bits_in (sort_at mid all)) ij));
+      adds = adds_then {Uses = UsesThree all a b} (id ∷ []) (bits_in s + 1) (adds_as (UsesThree all a b) (next ∷ []) (bits_in s) m.adds (λ t u. (u.1, u.2)) (λ t u y c x. x) (omega (arith, light))) n.adds
+          (λ u k h c x. (c all h.0, x.0)) (λ u k h c x y. y) (omega (arith, join_weight join (bits_in (sort_at mid all)) ij));
       sorted = n.sorted ∙ join_sort_is join (sort_at mid all) (sort_at mid next) ij (sort_stays all w g el refl) en;
       is = λ env f. n.is env f ∙ ap₂ (two_value join) (value_stays env all w g el refl) (m.is env (n.calm.grows.fits env f));
     }
@@ -62,11 +62,7 @@ first_pair {old} {new} op join a b id s io ea eb p l size m =
     let light : two_weight op (bits_in (sort_at old (get_or a 0 0))) ≡ bits_in s = comparison_weight op (bits_in (sort_at old (get_or a 0 0))) io ∙ ap bits_in (ea 0 l) in
     record {
       calm = m.calm;
-      adds = record {
-        set = λ t solid u.
-            let x = m.adds.set t solid (all_at t a 0 0 u.0 l, all_at t b 0 0 u.1 (omega arith)) in
-            (x.0, record { solid = x.1.solid; covers = x.1.covers; all = x.1.all; weighs = omega (arith, x.1.weighs, light) });
-      };
+      adds = adds_as (UsesPairs a b) (id ∷ []) ((0 + 1) * (bits_in s + 1)) m.adds (λ t u. (all_at t a 0 0 u.0 l, all_at t b 0 0 u.1 (omega arith))) (λ t u y c x. x) (omega (arith, light));
       sorted = m.sorted ∙ comparison_sort op (sort_at old (get_or a 0 0)) (sort_at old (get_or b 0 0)) s io (ea 0 l) (eb 0 (omega arith)) p;
       is = m.is;
     }

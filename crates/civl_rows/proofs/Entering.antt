@@ -1,5 +1,5 @@
 -- The entries for the cells of the variables that are rows.
-use Rattle.std.proofs.Common.{◌≡◌, ◌⊎◌, ℕ, zero, suc, ◌+◌, ◌-◌, ◌^◌, ◌<◌, ◌≤◌, Bool, true, false, List, [], ◌∷◌, ◌++◌, length, refl, sym, ap, ◌∙◌, subst, inl, inr, arith, Some, IsTrue, append-nil}
+use Rattle.std.proofs.Common.{◌≡◌, ◌⊎◌, ℕ, ◌+◌, ◌-◌, ◌^◌, ◌<◌, ◌≤◌, Bool, true, false, List, [], ◌++◌, length, refl, sym, ap, ◌∙◌, subst, inl, inr, arith, Some, IsTrue, append-nil}
 use Rattle.std.specs.Prelude.{slice_get}
 use Rattle.std.proofs.lemmas.Bool.{false≢true, cases_lt, cases_eq}
 use Rattle.std.proofs.lemmas.Option.{slice_get_within}
@@ -13,39 +13,7 @@ use Rattle.civl_reach.specs.Marks.{marked}
 use Rattle.civl_rows.specs.Expanding.{row_entries, entries_of}
 use Rattle.civl_rows.specs.declared.flat.Cell.{Cell}
 use Rattle.civl_rows.proofs.Growth.{same_node}
-use Rattle.civl_rows.proofs.StepCells.{length-entries}
-
-abbrev pub entry : ℕ → ℕ → ℕ → Cell
-entry v c n = record { variable = v; cell = c; number = n }
-
-get-left : (xs ys : List Cell) (i : ℕ) → i < length xs → slice_get (xs ++ ys) i ≡ slice_get xs i
-get-left [] ys i h = absurd (omega arith)
-get-left (x ∷ xs) ys zero h = refl
-get-left (x ∷ xs) ys (suc i) h = get-left xs ys i (omega arith)
-
-get-right : (xs ys : List Cell) (i j : ℕ) → i ≡ length xs + j → slice_get (xs ++ ys) i ≡ slice_get ys j
-get-right [] ys i j e = ap (slice_get ys) (e ∙ omega arith)
-get-right (x ∷ xs) ys zero j e = absurd (omega arith)
-get-right (x ∷ xs) ys (suc i) j e = get-right xs ys i j (omega arith)
-
-in_block : (v f n c : ℕ) → c < n → slice_get (row_entries v f n) c ≡ Some (entry v c (f + c))
-in_block v f zero c h = absurd (omega arith)
-in_block v f (suc n) c h = elim (cases_eq c n) [
-  | inl e ↦
-      get-right (row_entries v f n) (entry v n (f + n) ∷ []) c 0 (omega (arith, length-entries v f n))
-      ∙ ap (λ (k : ℕ). Some (entry v k (f + k))) (sym e)
-  | inr d ↦
-      get-left (row_entries v f n) (entry v n (f + n) ∷ []) c (omega (arith, length-entries v f n))
-      ∙ in_block v f n c (omega arith)
-]
-
-same_cell : (d e : Cell) → Some d ≡ Some e → d ≡ e
-same_cell d e h = cc
-
-of_block : (v f n c : ℕ) (e : Cell) → slice_get (row_entries v f n) c ≡ Some e → (c < n) × (entry v c (f + c) ≡ e)
-of_block v f n c e h =
-    let l : c < n = omega (arith, slice_get_within (row_entries v f n) c e h, length-entries v f n) in
-    (l, same_cell (entry v c (f + c)) e (sym (in_block v f n c l) ∙ h))
+use Rattle.civl_rows.proofs.Blocks.{entry, get-left, get-right, in_block, of_block}
 
 -- ---- a node is a variable that is a row, or makes no entries
 

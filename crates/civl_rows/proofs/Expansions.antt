@@ -14,16 +14,18 @@ use Rattle.civl_values.proofs.Sorting.{row_of, is_a_word}
 use Rattle.civl_terms.specs.declared.node.Node.{Node}
 use Rattle.civl_terms.specs.declared.node.Node.TheVariants.{Variable}
 use Rattle.civl_terms.specs.Graphs.{sort_at, value_at, IsFree, Fits}
-use Rattle.civl_terms.specs.Building.{Grows, Numbers, Built}
+use Rattle.civl_terms.specs.Building.{Lengthens, Numbers, Built}
+use Rattle.civl_terms.proofs.Places.{slice_either}
+use Rattle.civl_terms.proofs.Soundness.{number_same}
 use Rattle.civl_reach.specs.Reaching.{is_plain}
 use Rattle.civl_rows.specs.Cells.{cell_of, next_number, Reads}
-use Rattle.civl_rows.specs.Making.{UsesNone, Adds}
+use Rattle.civl_rows.specs.Making.{UsesNone, IsNew, Takes}
 use Rattle.civl_rows.specs.Expanding.{row_entries, Expands}
 use Rattle.civl_rows.specs.declared.flat.Cell.{Cell}
 use Rattle.civl_rows.proofs.Numbering.{next-push, next_is_above}
-use Rattle.civl_rows.proofs.Growth.{grows_refl, grows_trans, slice_get-append, slice_get-last, same_node}
-use Rattle.civl_rows.proofs.Solid.{adds_none, adds_node, adds_then, all-append}
-use Rattle.civl_rows.proofs.Made.{sort_stays, value_stays}
+use Rattle.civl_rows.proofs.Growth.{lengthens_refl, lengthens_trans, node_stays, slice_get-append, slice_get-last, same_node}
+use Rattle.civl_rows.proofs.Solid.{takes_none, takes_node, takes_then, all-append}
+use Rattle.civl_rows.proofs.Made.{sort_kept, value_kept}
 
 -- ---- a number above all is free
 
@@ -78,14 +80,16 @@ reads_append env (x ∷ xs) ys r = let h = reads_append env xs ys r.1 in ((r.0, 
 
 pub expand_none : (ns : List Node) (before : List Cell) (variable index width : ℕ) → Expands ns ns before before variable index width 0 []
 expand_none ns before variable index width = record {
-  grows = grows_refl ns;
+  grows = lengthens_refl ns;
   numbers = omega arith;
   cells = sym (append-nil before);
   fits = λ env f h r. f;
   size = refl;
   sorted = λ c h. absurd (omega arith);
   is = λ env f r c h. absurd (omega arith);
-  adds = adds_none UsesNone [] (0 * width) (grows_refl ns) (λ s u. tt);
+  only = λ i k s e. inl e;
+  each = λ c h. absurd (omega arith);
+  adds = takes_none UsesNone (IsNew ns) [] (0 * width) (lengthens_refl ns) (λ s u. tt);
 }
 
 once_more : (c w : ℕ) → c * w + w ≤ (c + 1) * w
@@ -96,7 +100,7 @@ entry_of v c n = record { variable = v; cell = c; number = n }
 
 pub expand_more : {old mid new : List Node} {before cells after : List Cell} {ids out : List ℕ} {weight : ℕ} (variable index width c number id : ℕ)
     → Expands old mid before cells variable index width c ids → c < 2 ^ index → number ≡ next_number old + c
-    → Grows mid new → Numbers mid new (Variable number (sort.Word width)) id → Built mid new id (λ env. env number) (Some (sort.Word width)) weight
+    → Lengthens mid new → Numbers mid new (Variable number (sort.Word width)) id → Built mid new id (λ env. env number) (Some (sort.Word width)) weight
     → out ≡ ids ++ id ∷ [] → after ≡ cells ++ record { variable = variable; cell = c; number = number } ∷ []
     → Expands old new before after variable index width (c + 1) out
 expand_more {old} {mid} {new} {before} {cells} {after} {ids} {out} variable index width c number id m l en g n b eo ea =
@@ -112,7 +116,7 @@ expand_more {old} {mid} {new} {before} {cells} {after} {ids} {out} variable inde
     let h = reads_append env cells (entry ∷ []) (subst P ea r) in
     (h.0, h.1.0) in
     record {
-      grows = grows_trans m.grows g;
+      grows = lengthens_trans m.grows g;
       numbers = ap next_number added ∙ next-push mid (Variable number (sort.Word width)) ∙ omega (arith, k, en);
       cells = ea ∙ ap₂ (λ (xs : List Cell) (e : Cell). xs ++ e ∷ []) m.cells same ∙ append_assoc before (row_entries variable (next_number old) c) (here ∷ []) ∙ ap (λ (xs : List Cell). before ++ xs) (sym rows);
       fits = λ env f h r.
@@ -122,20 +126,35 @@ expand_more {old} {mid} {new} {before} {cells} {after} {ids} {out} variable inde
           subst P (sym added) (fits_variable env mid number (sort.Word width) (subst Q (sym x.1) (cell_sorted (env variable) index width c h l)) (m.fits env f h x.0));
       size = ap length eo ∙ length_push ids id ∙ ap (λ (x : ℕ). x + 1) m.size;
       sorted = λ i h. elim (cases_lt i c) [
-        | inl y ↦ ap (λ (xs : List ℕ). sort_at new (get_or xs i 0)) eo ∙ ap (sort_at new) (get_or_append_left ids (id ∷ []) 0 i (omega (arith, m.size))) ∙ sort_stays (get_or ids i 0) s g (m.sorted i (omega (arith, m.size))) refl
+        | inl y ↦ ap (λ (xs : List ℕ). sort_at new (get_or xs i 0)) eo ∙ ap (sort_at new) (get_or_append_left ids (id ∷ []) 0 i (omega (arith, m.size))) ∙ sort_kept (get_or ids i 0) s g (m.sorted i (omega (arith, m.size))) refl
         | inr y ↦ ap (λ (xs : List ℕ). sort_at new (get_or xs i 0)) eo ∙ ap (sort_at new) (get_or_push ids id 0 i (omega (arith, m.size, ap length eo, length_push ids id))) ∙ b.sorted
       ];
       is = λ env f r i h.
           let x = read env r in
           elim (cases_lt i c) [
-            | inl y ↦ ap (λ (xs : List ℕ). value_at env new (get_or xs i 0)) eo ∙ ap (value_at env new) (get_or_append_left ids (id ∷ []) 0 i (omega (arith, m.size))) ∙ value_stays env (get_or ids i 0) s g (m.sorted i (omega (arith, m.size))) refl ∙ m.is env (g.fits env f) x.0 i (omega (arith, m.size))
+            | inl y ↦ ap (λ (xs : List ℕ). value_at env new (get_or xs i 0)) eo ∙ ap (value_at env new) (get_or_append_left ids (id ∷ []) 0 i (omega (arith, m.size))) ∙ value_kept env (get_or ids i 0) s g (m.sorted i (omega (arith, m.size))) refl ∙ m.is env (g.fits env f) x.0 i (omega (arith, m.size))
             | inr y ↦
                 let last : i ≡ c = omega (arith, m.size, ap length eo, length_push ids id) in
                 ap (λ (xs : List ℕ). value_at env new (get_or xs i 0)) eo ∙ ap (value_at env new) (get_or_push ids id 0 i (omega (arith, m.size))) ∙ b.is env f ∙ x.1 ∙ ap (cell_of (env variable)) (sym last)
           ];
+      only = λ i k t e. elim (slice_either mid (Variable number (sort.Word width)) (Variable k t) i (ap (λ (ns : List Node). slice_get ns i) (sym added) ∙ e)) [
+        | inl q ↦ elim (m.only i k t q) [ inl r ↦ inl r | inr r ↦ inr (r.0, omega (arith, r.1), r.2, r.3) ]
+        | inr q ↦
+            let z = number_same number k (sort.Word width) t q.1 in
+            inr (c, omega arith, omega (arith, z.0, en), sym z.1)
+      ];
+      each = λ d h. elim (cases_lt d c) [
+        | inl y ↦ let z = m.each d y in (z.0, node_stays mid new z.0 g (slice_get_within mid z.0 (Variable (next_number old + d) (sort.Word width)) z.1) ∙ z.1)
+        | inr y ↦ (id, n.is ∙ ap (λ (x : ℕ). Some (Variable x (sort.Word width))) (omega (arith, en)))
+      ];
       adds =
-          let P : List ℕ → Type 0 = λ xs. Adds old new UsesNone xs ((c + 1) * width) in
-          subst P (sym eo) (adds_then (ids ++ id ∷ []) ((c + 1) * width) m.adds
-          (adds_node UsesNone id width (Variable number (sort.Word width)) g n.is (ap is_plain b.sorted) (λ u y j q. absurd (false≢true q)) (omega arith))
+          let P : List ℕ → Type 0 = λ xs. Takes old new UsesNone (IsNew old) xs ((c + 1) * width) in
+          let fresh : IsNew mid id = elim (cases_lt id (length mid)) [
+            | inl y ↦ absurd (above_all mid id number (sort.Word width) (omega (arith, k)) (sym (node_stays mid new id g y) ∙ n.is))
+            | inr y ↦ y
+          ] in
+          subst P (sym eo) (takes_then (IsNew old) (ids ++ id ∷ []) ((c + 1) * width) m.adds
+          (takes_node UsesNone (IsNew mid) id width (Variable number (sort.Word width)) g n.is (ap is_plain b.sorted) (λ u y j q. absurd (false≢true q)) (λ i t q. fresh) (omega arith))
+          (λ i y. y) (λ i y. omega (arith, y, m.grows.longer))
           (λ u t y z a. tt) (λ u t y z a d. all-append t ids (id ∷ []) a d) (once_more c width));
     }

@@ -13,6 +13,8 @@ pub mod Parts
 pub mod PlainCells
 pub mod RowCells
 pub mod Expansions
+pub mod Blocks
+pub mod Added
 pub mod StepCells
 pub mod Entering
 pub mod Walked

@@ -11,13 +11,13 @@ use Rattle.civl_tree.specs.rules.Sorts.{two_sort, pick_sort, common_sort, same_s
 use Rattle.civl_values.specs.Operators.{pick_value}
 use Rattle.civl_terms.specs.declared.node.Node.{Node}
 use Rattle.civl_terms.specs.Graphs.{sort_at, value_at, Fits}
-use Rattle.civl_terms.specs.Building.{Grows}
+use Rattle.civl_terms.specs.Building.{Lengthens, Grows}
 use Rattle.civl_reach.specs.Reaching.{is_plain}
 use Rattle.civl_rows.specs.Making.{Has, AllIn, Covers, Makes, MakesOne}
 use Rattle.std.proofs.lemmas.List.{get_or_past}
 use Rattle.civl_terms.specs.Graphs.{sorts}
 use Rattle.civl_terms.proofs.Nodes.{length-sorts}
-use Rattle.civl_rows.proofs.Growth.{calm_refl, calm_trans, grows_refl}
+use Rattle.civl_rows.proofs.Growth.{calm_refl, calm_trans, grows_refl, longer}
 use Rattle.civl_rows.proofs.Solid.{adds_none, adds_then, adds_as, all-append}
 
 -- ---- a node that has a sort is there
@@ -43,11 +43,17 @@ within_some ns i s e = elim (cases_lt i (length ns)) [
   no q = cc
 
 -- and keeps it, and its value
+pub sort_kept : {old new : List Node} (i : ℕ) (s : Option Sort) → Lengthens old new → sort_at old i ≡ s → IsTrue (is_plain s) → sort_at new i ≡ s
+sort_kept {old} {new} i s g e h = g.sorts i (within_sorted old i s e h) ∙ e
+
+pub value_kept : {old new : List Node} (env : ℕ → Value) (i : ℕ) (s : Option Sort) → Lengthens old new → sort_at old i ≡ s → IsTrue (is_plain s) → value_at env new i ≡ value_at env old i
+value_kept {old} {new} env i s g e h = g.values env i (within_sorted old i s e h)
+
 pub sort_stays : {old new : List Node} (i : ℕ) (s : Option Sort) → Grows old new → sort_at old i ≡ s → IsTrue (is_plain s) → sort_at new i ≡ s
-sort_stays {old} {new} i s g e h = g.sorts i (within_sorted old i s e h) ∙ e
+sort_stays i s g e h = sort_kept i s (longer g) e h
 
 pub value_stays : {old new : List Node} (env : ℕ → Value) (i : ℕ) (s : Option Sort) → Grows old new → sort_at old i ≡ s → IsTrue (is_plain s) → value_at env new i ≡ value_at env old i
-value_stays {old} {new} env i s g e h = g.values env i (within_sorted old i s e h)
+value_stays env i s g e h = value_kept env i s (longer g) e h
 
 -- ---- lists of nodes
 

@@ -1,5 +1,5 @@
 -- The only cell of a node that is a bool or a word.
-use Rattle.std.proofs.Common.{◌≡◌, ℕ, ◌*◌, ◌<◌, ◌≤◌, Bool, false, nat_eq, List, [], ◌∷◌, get_or, refl, sym, ap, ap₂, ◌∙◌, subst, arith, Some, Option, IsTrue}
+use Rattle.std.proofs.Common.{◌≡◌, ℕ, ◌*◌, ◌<◌, ◌≤◌, Bool, false, nat_eq, List, [], ◌∷◌, get_or, refl, sym, ap, ap₂, ◌∙◌, subst, inl, arith, Some, Option, IsTrue}
 use Rattle.std.specs.Prelude.{slice_get, ◌||◌}
 use Rattle.std.proofs.lemmas.Bool.{eq-eqb, or_left, or_right}
 use Rattle.civl_bits.specs.declared.value.Value.{Value}
@@ -15,9 +15,9 @@ use Rattle.civl_terms.specs.Graphs.{sort_at, value_at, IsGraph, Fits}
 use Rattle.civl_terms.specs.Weights.{own_weight, is_part}
 use Rattle.civl_reach.specs.Reaching.{is_plain}
 use Rattle.civl_rows.specs.Cells.{cell_of, cells_in, cell_sort}
-use Rattle.civl_rows.specs.Making.{PartsHaveCells, HasParts, Here, cells_at, Makes, MakesOne, MakesCells, UsesOne, UsesTwo, is_comparison}
-use Rattle.civl_rows.proofs.Growth.{calm_refl, grows_refl}
-use Rattle.civl_rows.proofs.Solid.{adds_as, adds_node}
+use Rattle.civl_rows.specs.Making.{PartsHaveCells, HasParts, IsOwn, Here, cells_at, Makes, MakesOne, MakesCells, UsesOne, UsesTwo, is_comparison}
+use Rattle.civl_rows.proofs.Growth.{calm_refl, lengthens_refl}
+use Rattle.civl_rows.proofs.Solid.{takes_as, takes_node}
 use Rattle.civl_rows.proofs.Parts.{here_within, here_sort, here_value, here_weight, here_sorted, IsSingle, single_part, plain_cells, plain_cell_sort, own_cell, one_part_plain, one_plain, two_plain, slice_parts, widen_parts, join_parts}
 
 -- ---- parts
@@ -45,8 +45,11 @@ finish {old} {new} {table} {n} {at} {Uses} {ids} {count} {cost} {s} {value} h m 
       shape = record { size = m.size ∙ size ∙ ap cells_in (sym es); sorted = λ c l. m.sorted c l ∙ sorted ∙ ap cell_sort (sym es) };
       is = λ env f parts c l.
           m.is env f c l ∙ is env (g.fits env f) parts c (omega (arith, m.size)) ∙ ap (λ (v : Value). cell_of v c) (sym (g.values env at (here_within h)));
-      adds = adds_as (HasParts table n) ids (2 * own_weight old at) m.adds uses (λ u t p c a. a) light;
+      adds = takes_as (HasParts table n) (IsOwn old at) ids (2 * own_weight old at) m.adds (λ i y. absurd y) uses (λ u t p c a. a) light;
     }
+
+zero_below : (c : ℕ) → c < 1 → c ≡ 0
+zero_below c l = omega arith
 
 pub finish_one : {old new : List Node} {table : List (List ℕ)} {n : Node} {at : ℕ} {Uses : List ℕ → Type 0} {id cost : ℕ} {s : Option Sort} {value : (ℕ → Value) → Value} (ids : List ℕ)
     → Here old table n at → MakesOne old new Uses id s value cost → ids ≡ id ∷ [] → s ≡ sort_at old at → IsTrue (is_plain (sort_at old at)) → ((u : List ℕ) → HasParts table n u → Uses u)
@@ -63,21 +66,21 @@ finish_one {old} {new} {table} {n} {at} {Uses} {id} {cost} {s} {value} ids h m e
     } in
     subst P (sym eq) (finish h one (sym (plain_cells (sort_at old at) p)) (sorted ∙ sym (plain_cell_sort (sort_at old at) p)) uses
     (λ env f parts c l. is env f parts ∙ sym (own_cell old h.graph env f at c p)) light)
-  where
-    zero_below : (c : ℕ) → c < 1 → c ≡ 0
-    zero_below c l = omega arith
 
 -- ---- bools and words that have no parts stand for themselves
 
 pub leaf_made : {old : List Node} (table : List (List ℕ)) (n : Node) (at : ℕ) (ids : List ℕ) → Here old table n at → ((k : ℕ) → IsTrue (is_part n k) → ⊥) → IsTrue (is_plain (sort_at old at)) → ids ≡ at ∷ [] → MakesCells old old table n at ids
 leaf_made {old} table n at ids h none p eq =
-    let one : MakesOne old old (λ u. Unit {0}) at (sort_at old at) (λ env. value_at env old at) (2 * own_weight old at) = record {
+    let P : List ℕ → Type 0 = λ xs. MakesCells old old table n at xs in
+    subst P (sym eq) (record {
       calm = calm_refl old;
-      adds = adds_node (λ u. Unit {0}) at (2 * own_weight old at) n (grows_refl old) h.node p (λ u x k q. absurd (none k q)) (omega (arith, here_weight h));
-      sorted = refl;
-      is = λ env f. refl;
-    } in
-    finish_one ids h one eq refl p (λ u x. tt) (λ env f x. refl) (omega arith)
+      shape = record {
+        size = sym (plain_cells (sort_at old at) p);
+        sorted = λ c l. ap (λ (i : ℕ). sort_at old (get_or (at ∷ []) i 0)) (zero_below c l) ∙ sym (plain_cell_sort (sort_at old at) p);
+      };
+      is = λ env f parts c l. ap (λ (i : ℕ). value_at env old (get_or (at ∷ []) i 0)) (zero_below c l) ∙ sym (own_cell old h.graph env f at c p);
+      adds = takes_node (HasParts table n) (IsOwn old at) at (2 * own_weight old at) n (lengthens_refl old) h.node p (λ u x k q. absurd (none k q)) (λ k s q. inl refl) (omega (arith, here_weight h));
+    })
 
 pub leaf_here : {old : List Node} (table : List (List ℕ)) (n : Node) (at : ℕ) → IsGraph old → slice_get old at ≡ Some n → ((k : ℕ) → IsTrue (is_part n k) → ⊥) → Here old table n at
 leaf_here {old} table n at graph e none = record { graph = graph; node = e; shaped = λ k q. absurd (none k q) }

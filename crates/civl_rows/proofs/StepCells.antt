@@ -1,8 +1,7 @@
 -- The cells of a node, whatever it is.
-use Rattle.std.proofs.Common.{◌≡◌, ℕ, zero, suc, ◌+◌, ◌*◌, ◌^◌, ◌≤◌, Bool, false, List, [], ◌∷◌, ◌++◌, length, refl, sym, ap, ◌∙◌, arith, Some, IsTrue, append-nil}
+use Rattle.std.proofs.Common.{◌≡◌, ℕ, zero, suc, ◌+◌, ◌*◌, ◌^◌, ◌≤◌, Bool, false, List, [], ◌∷◌, ◌++◌, length, refl, sym, ap, ◌∙◌, inr, arith, Some, IsTrue, append-nil}
 use Rattle.std.proofs.Common.{leb}
 use Rattle.std.proofs.lemmas.Bool.{false≢true, leb-true, and_parts}
-use Rattle.std.proofs.lemmas.List.{length_push}
 use Rattle.civl_bits.specs.declared.value.Value.{Value}
 use Rattle.civl_bits.specs.declared.value.Value.TheVariants as value
 use Rattle.civl_tree.specs.declared.expr.Sort.TheVariants as sort
@@ -14,10 +13,13 @@ use Rattle.civl_terms.specs.Graphs.{sort_at}
 use Rattle.civl_terms.specs.Weights.{own_weight}
 use Rattle.civl_reach.specs.Reaching.{is_plain}
 use Rattle.civl_rows.specs.Cells.{cell_of, cells_in, cell_sort, next_number}
-use Rattle.civl_rows.specs.Making.{HasParts, Here, MakesCells}
-use Rattle.civl_rows.specs.Expanding.{Expands, Steps, entries_of, row_entries, is_variable}
+use Rattle.civl_rows.specs.Making.{HasParts, IsOwn, Here, MakesCells}
+use Rattle.civl_rows.specs.Expanding.{Expands, Steps, entries_of, is_variable}
 use Rattle.civl_rows.specs.declared.flat.Cell.{Cell}
-use Rattle.civl_rows.proofs.Solid.{adds_as}
+use Rattle.civl_rows.proofs.Growth.{longer, calm_fits}
+use Rattle.civl_rows.proofs.Solid.{takes_as}
+use Rattle.civl_rows.proofs.Blocks.{length-entries}
+use Rattle.civl_rows.proofs.Added.{none_added, row_added}
 use Rattle.civl_rows.proofs.Parts.{here_within, here_sort, here_value, here_weight}
 use Rattle.civl_rows.proofs.PlainCells.{leaf_made}
 
@@ -46,12 +48,13 @@ no_entries (Join a b) first e = refl
 
 steps_from : {old new : List Node} {table : List (List ℕ)} {n : Node} {at : ℕ} {ids : List ℕ} (before : List Cell) → MakesCells old new table n at ids → entries_of n (next_number old) ≡ [] → Steps old new before before table n at ids
 steps_from {old} {new} before m e = record {
-  grows = m.calm.grows;
+  grows = longer m.calm.grows;
   numbers = m.calm.numbers ∙ omega (arith, ap length e);
   cells = sym (append-nil before) ∙ ap (λ (xs : List Cell). before ++ xs) (sym e);
-  fits = λ env f r. m.calm.fits env f;
+  fits = λ env f r. calm_fits m.calm env f;
   shape = m.shape;
   is = λ env f r. m.is env f;
+  variables = none_added m.calm.grows e;
   adds = m.adds;
 }
 
@@ -87,10 +90,6 @@ row_room {old} {table} {number} {index} {width} h =
     let w : 1 ≤ width = leb-true 1 width (and_parts (leb 1 width) (leb width 32) (row_width h)).0 in
     omega (arith, here_weight h, one_bit (2 ^ index) width w)
 
-pub length-entries : (v f n : ℕ) → length (row_entries v f n) ≡ n
-length-entries v f zero = refl
-length-entries v f (suc n) = length_push (row_entries v f n) (record { variable = v; cell = n; number = f + n }) ∙ omega (arith, length-entries v f n)
-
 twice_at_least : (n w : ℕ) → n * w ≤ 2 * (w * n)
 twice_at_least n w = grind arith
 
@@ -105,5 +104,6 @@ row_steps {old} {new} {before} {after} {table} {number} {index} {width} {at} {id
       fits = λ env f r. m.fits env f (f at number s h.node) r;
       shape = record { size = m.size ∙ ap cells_in (sym es); sorted = λ c l. m.sorted c l ∙ ap cell_sort (sym es) };
       is = λ env f r parts c l. m.is env f r c l ∙ ap (λ (v : Value). cell_of v c) (sym (m.grows.values env at (here_within h) ∙ here_value h env));
-      adds = adds_as (HasParts table (Variable number s)) ids (2 * own_weight old at) m.adds (λ u y. tt) (λ u t y c a. a) (omega (arith, here_weight h, twice_at_least (2 ^ index) width));
+      variables = row_added number index width at h.graph h.node m.only m.each;
+      adds = takes_as (HasParts table (Variable number s)) (IsOwn old at) ids (2 * own_weight old at) m.adds (λ i y. inr y) (λ u y. tt) (λ u t y c a. a) (omega (arith, here_weight h, twice_at_least (2 ^ index) width));
     }

@@ -3,48 +3,51 @@ use Rattle.std.proofs.Common.{◌≡◌, ℕ, zero, suc, ◌+◌, ◌*◌, ◌-�
 use Rattle.std.specs.Prelude.{slice_get, if◌then◌else◌}
 use Rattle.std.proofs.lemmas.Bool.{false≢true, cases_lt, cases_eq, cases_Bool, eqb-true, or_cases, leb-true, and_parts, lt-ltb, le-ltb}
 use Rattle.std.proofs.Common.{leb, ltb, add-one}
-use Rattle.std.proofs.lemmas.Option.{slice_get-get_or}
+use Rattle.std.proofs.lemmas.Option.{slice_get-get_or, slice_get_within}
 use Rattle.std.proofs.lemmas.List.{get_or_append_left, get_or_push, length_push}
 use Rattle.civl_bits.specs.declared.value.Value.{Value}
+use Rattle.civl_tree.specs.declared.expr.Sort.{Sort}
 use Rattle.civl_tree.specs.declared.expr.Sort.TheVariants as sort
 use Rattle.civl_values.specs.Operators.{nothing}
 use Rattle.civl_tree.specs.rules.Exprs.{is_index, is_width}
 use Rattle.civl_values.specs.Values.{is_sort}
 use Rattle.civl_terms.specs.declared.node.Node.{Node}
-use Rattle.civl_terms.specs.declared.node.Node.TheVariants.{Constant}
+use Rattle.civl_terms.specs.declared.node.Node.TheVariants.{Constant, Variable}
 use Rattle.civl_terms.specs.Graphs.{sort_at, value_at, IsGraph, IsDistinct, Fits}
 use Rattle.civl_terms.specs.Weights.{own_weight, weight_in, is_part, with_parts, reached_weight, term_weight}
-use Rattle.civl_terms.specs.Building.{Grows}
+use Rattle.civl_terms.specs.Building.{Lengthens}
 use Rattle.civl_reach.specs.Reaching.{Reaches, is_plain, IsRowless}
-use Rattle.civl_rows.specs.Cells.{cell_of, cells_in, cell_sort, next_number, Reads, HasEntries}
+use Rattle.civl_rows.specs.Cells.{cell_of, cells_in, cell_sort, next_number, Reads, HasEntries, AddsCells, ReachesOnly}
 use Rattle.civl_reach.specs.Marks.{marked, weight_from, IsMarking}
 use Rattle.civl_rows.specs.Making.{Has, AllIn, IsSolid, nodes_weight, HasShape, HasCells, PartsShaped, cells_at}
 use Rattle.civl_rows.specs.Expanding.{Steps, entries_of}
 use Rattle.civl_rows.specs.declared.flat.Cell.{Cell}
 use Rattle.civl_reach.proofs.Marked.{weight-more, part_is_below}
-use Rattle.civl_rows.proofs.Growth.{grows_refl, grows_trans, node_stays, own_weight_stays, parts_wider}
+use Rattle.civl_rows.proofs.Growth.{grows_refl, lengthens_refl, lengthens_trans, node_stays, own_weight_stays, parts_wider}
 use Rattle.civl_rows.proofs.Solid.{all_covered, all_at}
 use Rattle.civl_rows.proofs.Parts.{own_cell}
 use Rattle.civl_rows.proofs.Expansions.{reads_append}
-use Rattle.civl_rows.proofs.StepCells.{length-entries, one_bit}
+use Rattle.civl_rows.proofs.Blocks.{length-entries}
+use Rattle.civl_rows.proofs.Added.{none_added, added_then}
+use Rattle.civl_rows.proofs.StepCells.{one_bit}
 use Rattle.civl_rows.proofs.Entering.{EntriesTo, entries_none, entries_skip, entries_step, kinds, row_variable}
 
 -- ---- the cells of a node stay those of the node
 
-pub shape_stays : {old new : List Node} {ids : List ℕ} {i : ℕ} (s : List ℕ) → Grows old new → IsSolid old s → AllIn s ids → i < length old → HasShape old ids i → HasShape new ids i
+pub shape_stays : {old new : List Node} {ids : List ℕ} {i : ℕ} (s : List ℕ) → Lengthens old new → IsSolid old s → AllIn s ids → i < length old → HasShape old ids i → HasShape new ids i
 shape_stays {old} {new} {ids} {i} s g solid all l h = record {
   size = h.size ∙ ap cells_in (sym (g.sorts i l));
   sorted = λ c k. g.sorts (get_or ids c 0) (solid.within (get_or ids c 0) (all_at s ids c 0 all k)) ∙ h.sorted c k ∙ ap cell_sort (sym (g.sorts i l));
 }
 
-pub cells_stay : {old new : List Node} (ids : List ℕ) {i : ℕ} (env : ℕ → Value) (s : List ℕ) → Grows old new → IsSolid old s → AllIn s ids → i < length old → HasCells env old ids i → HasCells env new ids i
+pub cells_stay : {old new : List Node} (ids : List ℕ) {i : ℕ} (env : ℕ → Value) (s : List ℕ) → Lengthens old new → IsSolid old s → AllIn s ids → i < length old → HasCells env old ids i → HasCells env new ids i
 cells_stay {old} {new} ids {i} env s g solid all l h =
     λ c k. g.values env (get_or ids c 0) (solid.within (get_or ids c 0) (all_at s ids c 0 all k)) ∙ h c k ∙ ap (λ (v : Value). cell_of v c) (sym (g.values env i l))
 
 -- ---- the invariant
 
 pub record Flattening (source ns : List Node) (id : ℕ) (marks : List Bool) (cells : List Cell) (table : List (List ℕ)) (at : ℕ) : Type 0 where
-  pub grows : Grows source ns
+  pub grows : Lengthens source ns
   pub size : length table ≡ at
   pub fits : (env : ℕ → Value) → Fits env source → Reads env cells → Fits env ns
   pub numbers : next_number ns ≡ next_number source + length cells
@@ -56,10 +59,12 @@ pub record Flattening (source ns : List Node) (id : ℕ) (marks : List Bool) (ce
   pub weighs : nodes_weight ns set + 2 * weight_from source marks at (id + 1 - at) ≤ 2 * weight_from source marks 0 (id + 1)
   pub few : length cells + weight_from source marks at (id + 1 - at) ≤ weight_from source marks 0 (id + 1)
   pub entries : EntriesTo source marks at cells
+  pub variables : AddsCells source ns cells
+  pub reached : (i k : ℕ) (s : Sort) → Has set i → slice_get source i ≡ Some (Variable k s) → IsTrue (marked marks i)
 
 pub walk_none : (source : List Node) (id : ℕ) (marks : List Bool) → Flattening source source id marks [] [] 0
 walk_none source id marks = record {
-  grows = grows_refl source;
+  grows = lengthens_refl source;
   size = refl;
   fits = λ env f r. f;
   numbers = omega arith;
@@ -71,6 +76,8 @@ walk_none source id marks = record {
   weighs = let e : id + 1 - 0 ≡ id + 1 = omega arith in omega (arith, ap (weight_from source marks 0) e);
   few = let e : id + 1 - 0 ≡ id + 1 = omega arith in omega (arith, ap (weight_from source marks 0) e);
   entries = entries_none source marks;
+  variables = none_added (grows_refl source) refl;
+  reached = λ i k s h. absurd h;
 }
 
 if-true : (b : Bool) (x y : ℕ) → b ≡ true → (if b then x else y) ≡ x
@@ -102,7 +109,7 @@ entries_few ns graph at n first e = elim (kinds n) [
   | inr r ↦ omega (arith, ap length (r.none first))
 ]
 
-own_stays : {source ns : List Node} (at : ℕ) → IsGraph source → Grows source ns → at < length source → own_weight ns at ≡ own_weight source at
+own_stays : {source ns : List Node} (at : ℕ) → IsGraph source → Lengthens source ns → at < length source → own_weight ns at ≡ own_weight source at
 own_stays {source} {ns} at graph g l = own_weight_stays source ns at g l (λ n e. parts_wider at (length source) n (omega arith) (graph.parts at n e))
 
 -- a node that isn't marked
@@ -127,6 +134,8 @@ walk_other {source} {ns} {id} {marks} {cells} {table} {at} new after out ids m l
       weighs = omega (arith, m.weighs, rest);
       few = omega (arith, m.few, rest);
       entries = entries_skip m.entries (λ k index width z e. false≢true (sym y ∙ z));
+      variables = m.variables;
+      reached = m.reached;
     })))
 
 -- a node that is marked
@@ -144,7 +153,7 @@ walk_marked {source} {ns} {id} {marks} {cells} {table} {at} new after out ids n 
     let own : own_weight ns at ≡ own_weight source at = own_stays at graph m.grows (omega arith) in
     let many : length after ≡ length cells + length (entries_of n (next_number ns)) = ap length s.cells ∙ length-append cells (entries_of n (next_number ns)) in
     subst R (sym eo) (record {
-      grows = grows_trans m.grows s.grows;
+      grows = lengthens_trans m.grows s.grows;
       size = length_push table ids ∙ ap (λ (x : ℕ). x + 1) m.size;
       fits = λ env f r. s.fits env (m.fits env f (read env r)) r;
       numbers = s.numbers ∙ omega (arith, m.numbers, many);
@@ -168,6 +177,17 @@ walk_marked {source} {ns} {id} {marks} {cells} {table} {at} new after out ids n 
       weighs = omega (arith, added.1.weighs, m.weighs, rest, own);
       few = omega (arith, m.few, rest, many, entries_few source graph at n (next_number ns) e);
       entries = entries_step n graph distinct m.entries y e (s.cells ∙ ap (λ (x : ℕ). cells ++ entries_of n x) m.numbers);
+      variables = let P : List Cell → Type 0 = λ xs. AddsCells source new xs in subst P (sym s.cells) (added_then m.grows s.grows m.variables s.variables);
+      reached = λ i k t h f.
+          let there : i < length source = slice_get_within source i (Variable k t) f in
+          let now : slice_get new i ≡ Some (Variable k t) = node_stays ns new i s.grows (omega (arith, m.grows.longer)) ∙ node_stays source ns i m.grows there ∙ f in
+          elim (added.1.variables i k t h now) [
+            | inl q ↦ m.reached i k t q f
+            | inr o ↦ elim o [
+              | inl q ↦ ap (marked marks) q ∙ y
+              | inr far ↦ absurd (omega (arith, far, there, m.grows.longer))
+            ]
+          ];
     })
 
 -- ---- the step, as the code makes it
@@ -288,6 +308,8 @@ pub record Walked (source ns : List Node) (id flat : ℕ) (cells : List Cell) : 
   pub fits : (env : ℕ → Value) → Fits env source → Reads env cells → Fits env ns
   pub value : (env : ℕ → Value) → Fits env source → Reads env cells → value_at env ns flat ≡ value_at env source id
   pub weight : term_weight ns flat ≤ 2 * term_weight source id
+  pub variables : AddsCells source ns cells
+  pub reaches : ReachesOnly source id ns flat cells
 
 pub walk_all : {source ns : List Node} {id : ℕ} {marks : List Bool} {cells : List Cell} {table : List (List ℕ)} {at : ℕ} (flat : ℕ) (ts : List (List ℕ)) → IsGraph source → IsMarking source id 0 marks → Flattening source ns id marks cells table at → at ≡ id + 1 → id < length source → sort_at source id ≡ Some sort.Bool → ts ≡ table → flat ≡ get_or (cells_at ts id) 0 0 → Walked source ns id flat cells
 walk_all {source} {ns} {id} {marks} {cells} {table} {at} flat ts graph marking m ea w boolean et ef =
@@ -310,6 +332,11 @@ walk_all {source} {ns} {id} {marks} {cells} {table} {at} flat ts graph marking m
           ∙ ap (λ (v : Value). cell_of v 0) (m.grows.values env id w)
           ∙ own_cell source graph env f id 0 (ap is_plain boolean);
       weight = omega (arith, term_at_most flat m.solid inside, m.weighs, total_weight marking, none);
+      variables = m.variables;
+      reaches = λ i k s r e. elim (m.variables.only i k s e) [
+        | inl q ↦ inl (marking.only i (m.reached i k s (reached_inside m.solid inside i r) q), q)
+        | inr c ↦ inr c
+      ];
     } where
       minus : (id at : ℕ) → at ≡ id + 1 → id + 1 - at ≡ 0
       minus id at e = omega arith

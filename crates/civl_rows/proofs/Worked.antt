@@ -13,7 +13,8 @@ use Rattle.civl_rows.specs.Cells.{cell_of, Reads, HasEntries}
 use Rattle.civl_rows.specs.Example.{index_bits, cell_bits, pair, example, example_cells, example_array}
 use Rattle.civl_rows.specs.declared.flat.Cell.{Cell}
 use Rattle.civl_rows.proofs.Growth.{same_node}
-use Rattle.civl_rows.proofs.Entering.{row_variable, entry}
+use Rattle.civl_rows.proofs.Blocks.{entry}
+use Rattle.civl_rows.proofs.Entering.{row_variable}
 
 pub worked_reaches : Reaches example 4 0
 worked_reaches = Reaches.part 2 0 (Get 0 1) (Reaches.part 4 2 (Twice Eq 2 3) Reaches.itself refl refl) refl refl

@@ -1,6 +1,6 @@
 -- The cells of values, and the variables that stand for the cells of variables that are rows (the expansion of an array
 -- with finitely many indices to its elements).
-use Rattle.std.specs.Prelude.{◌≡◌, ℕ, ◌+◌, ◌^◌, ◌<◌, max, List, [], ◌∷◌, slice_get, Option, None, Some}
+use Rattle.std.specs.Prelude.{◌≡◌, ◌⊎◌, ℕ, ◌+◌, ◌^◌, ◌<◌, max, List, [], ◌∷◌, slice_get, Option, None, Some}
 use Rattle.civl_bits.specs.Row.{cell_at}
 use Rattle.civl_bits.specs.declared.value.Value.{Value}
 use Rattle.civl_bits.specs.declared.value.Value.TheVariants as value
@@ -52,6 +52,27 @@ pub record HasEntries (ns : List Node) (id : ℕ) (cells : List Cell) : Type 0 w
   pub only : (p : ℕ) (e : Cell) → slice_get cells p ≡ Some e → (i index width : ℕ) × Reaches ns id i × (slice_get ns i ≡ Some (Variable e.variable (sort.Row index width))) × (e.cell < 2 ^ index)
   pub numbers : (p : ℕ) (e : Cell) → slice_get cells p ≡ Some e → e.number ≡ next_number ns + p
   pub once : (p q : ℕ) (d e : Cell) → slice_get cells p ≡ Some d → slice_get cells q ≡ Some e → d.variable ≡ e.variable → d.cell ≡ e.cell → p ≡ q
+
+-- a variable of this number and sort stands for a cell: the number is an entry's, and the sort that of the cells of the entry's row
+pub record StandsForCell (ns : List Node) (cells : List Cell) (k : ℕ) (s : Sort) : Type 0 where
+  pub place : ℕ
+  pub entry : Cell
+  pub there : slice_get cells place ≡ Some entry
+  pub numbered : k ≡ entry.number
+  pub row : ℕ
+  pub index : ℕ
+  pub width : ℕ
+  pub is_row : slice_get ns row ≡ Some (Variable entry.variable (sort.Row index width))
+  pub sorted : s ≡ sort.Word width
+
+-- the new graph's variables are those of the old one and one for each of these cells
+pub record AddsCells (old new : List Node) (cells : List Cell) : Type 0 where
+  pub only : (i k : ℕ) (s : Sort) → slice_get new i ≡ Some (Variable k s) → (slice_get old i ≡ Some (Variable k s)) ⊎ StandsForCell old cells k s
+  pub each : (k : ℕ) (s : Sort) → StandsForCell old cells k s → (i : ℕ) × (slice_get new i ≡ Some (Variable k s))
+
+-- each variable that the new term reaches is one that the old term reaches, or it stands for one of these cells
+abbrev pub ReachesOnly : List Node → ℕ → List Node → ℕ → List Cell → Type 0
+ReachesOnly old id new flat cells = (i k : ℕ) (s : Sort) → Reaches new flat i → slice_get new i ≡ Some (Variable k s) → (Reaches old id i × (slice_get old i ≡ Some (Variable k s))) ⊎ StandsForCell old cells k s
 
 -- all numbers of variables are below this one
 abbrev pub NumbersBelow : ℕ → List Node → Type 0

@@ -9,9 +9,10 @@ use Rattle.civl_values.specs.Operators.{two_value, slice_value, pick_value}
 use Rattle.civl_tree.specs.declared.expr.Sort.{Sort}
 use Rattle.civl_tree.specs.declared.expr.Sort.TheVariants as sort
 use Rattle.civl_terms.specs.declared.node.Node.{Node}
+use Rattle.civl_terms.specs.declared.node.Node.TheVariants.{Variable}
 use Rattle.civl_terms.specs.Graphs.{sort_at, value_at, Fits, IsGraph}
 use Rattle.civl_terms.specs.Weights.{is_part, own_weight}
-use Rattle.civl_terms.specs.Building.{Grows}
+use Rattle.civl_terms.specs.Building.{Lengthens, Grows}
 use Rattle.civl_reach.specs.Reaching.{is_plain}
 use Rattle.civl_rows.specs.Cells.{cell_of, cells_in, cell_sort, next_number}
 
@@ -41,16 +42,34 @@ abbrev pub nodes_weight : List Node → List ℕ → ℕ
 nodes_weight ns [] = 0
 nodes_weight ns (x ∷ xs) = own_weight ns x + nodes_weight ns xs
 
--- a set grew by these nodes and what they reach, at this cost
-pub record IsExtended (old new : List Node) (set more made : List ℕ) (cost : ℕ) : Type 0 where
+-- a set grew by these nodes and what they reach, at this cost, and each variable that came to it is an own one
+pub record IsExtended (old new : List Node) (Own : ℕ → Type 0) (set more made : List ℕ) (cost : ℕ) : Type 0 where
   pub solid : IsSolid new more
   pub covers : Covers set more
   pub all : AllIn more made
+  pub variables : (i k : ℕ) (s : Sort) → Has more i → slice_get new i ≡ Some (Variable k s) → Has set i ⊎ Own i
   pub weighs : nodes_weight new more ≤ nodes_weight old set + cost
 
 -- any set of which this holds can grow so
-pub record Adds (old new : List Node) (Uses : List ℕ → Type 0) (made : List ℕ) (cost : ℕ) : Type 0 where
-  pub set : (s : List ℕ) → IsSolid old s → Uses s → (t : List ℕ) × IsExtended old new s t made cost
+pub record Takes (old new : List Node) (Uses : List ℕ → Type 0) (Own : ℕ → Type 0) (made : List ℕ) (cost : ℕ) : Type 0 where
+  pub grows : Lengthens old new
+  pub set : (s : List ℕ) → IsSolid old s → Uses s → (t : List ℕ) × IsExtended old new Own s t made cost
+
+-- the own variables are none, ..
+abbrev pub NoNode : ℕ → Type 0
+NoNode i = ⊥
+
+-- .. or new nodes, ..
+abbrev pub IsNew : List Node → ℕ → Type 0
+IsNew old i = length old ≤ i
+
+-- .. or a node itself and new ones
+abbrev pub IsOwn : List Node → ℕ → ℕ → Type 0
+IsOwn old at i = (i ≡ at) ⊎ IsNew old i
+
+-- the set grows, and no variable comes to it
+abbrev pub Adds : List Node → List Node → (List ℕ → Type 0) → List ℕ → ℕ → Type 0
+Adds old new Uses made cost = Takes old new Uses NoNode made cost
 
 -- the sets that hold these nodes
 abbrev pub UsesNone : List ℕ → Type 0
@@ -82,7 +101,6 @@ UsesRead row at set = AllIn set row × Has set at
 -- no variable is new
 pub record IsCalm (old new : List Node) : Type 0 where
   pub grows : Grows old new
-  pub fits : (env : ℕ → Value) → Fits env old → Fits env new
   pub numbers : next_number new ≡ next_number old
 
 -- each of these nodes has this sort
@@ -143,7 +161,7 @@ pub record MakesCells (old new : List Node) (table : List (List ℕ)) (n : Node)
   pub calm : IsCalm old new
   pub shape : HasShape new ids at
   pub is : (env : ℕ → Value) → Fits env new → PartsHaveCells env old table n → HasCells env new ids at
-  pub adds : Adds old new (HasParts table n) ids (2 * own_weight old at)
+  pub adds : Takes old new (HasParts table n) (IsOwn old at) ids (2 * own_weight old at)
 
 -- ---- what is built for rows
 

@@ -2,7 +2,7 @@
 ghost use Rattle.std.specs.Prelude.{◌≡◌, ◌+◌, ◌^◌, ◌<◌, ◌≤◌, IfOk, IsTrue};
 ghost use Rattle.civl_tree.specs.declared.expr.Sort.TheVariants as sort;
 ghost use Rattle.civl_values.specs.Values.{is_sort};
-ghost use Rattle.civl_terms.specs.Building.{Grows};
+ghost use Rattle.civl_terms.specs.Building.{Lengthens};
 ghost use Rattle.civl_rows.specs.Cells.{next_number};
 ghost use Rattle.civl_rows.specs.Expanding.{Expands};
 
@@ -13,7 +13,7 @@ use civl_tree::{List, Sort};
 use std::alloc::Global;
 
 /// One variable for each cell of a variable that is a row. Their numbers go up from `first`, the least number above all.
-#[tactic(auto, using(crate::proofs::Growth::growth))]
+#[tactic(auto, using(crate::proofs::Growth::lengthening))]
 pub(crate) fn expand(
     alloc: Global,
     terms: &mut Terms,
@@ -27,7 +27,7 @@ pub(crate) fn expand(
     requires room { first + 2 ^ index < 2 ^ 32 }
     requires index { index ≤ 6 }
     requires width { IsTrue (is_sort (sort.Word width)) }
-    ensures grows { Grows terms.old terms.new }
+    ensures grows { Lengthens terms.old terms.new }
     ensures made { IfOk result (λ ids. Expands terms.old terms.new cells.old.items cells.new.items variable index width (2 ^ index) ids) }
 {
     let mut ids: Vec<Id> = Vec::new(alloc);

@@ -1,7 +1,7 @@
 // The cells of a node, from those of its parts.
 ghost use Rattle.std.specs.Prelude.{◌≡◌, ◌+◌, ◌<◌, ◌^◌, false, length, IfOk, IsTrue};
 ghost use Rattle.civl_terms.specs.declared.node.Node.TheVariants as node;
-ghost use Rattle.civl_terms.specs.Building.{Grows};
+ghost use Rattle.civl_terms.specs.Building.{Lengthens, Grows};
 ghost use Rattle.civl_terms.specs.Weights.{own_weight};
 ghost use Rattle.civl_rows.specs.Cells.{next_number};
 ghost use Rattle.civl_rows.specs.Making.{Here, MakesCells};
@@ -139,6 +139,7 @@ fn operation(
 }
 
 /// A variable.
+#[tactic(auto, using(crate::proofs::Growth::lengthening))]
 fn variable(
     alloc: Global,
     terms: &mut Terms,
@@ -152,7 +153,7 @@ fn variable(
     requires first { first ≡ next_number terms.old }
     requires room { first + own_weight terms.old at < 2 ^ 32 }
     requires here { Here terms.old table.now (node.Variable number sort) at }
-    ensures grows { Grows terms.old terms.new }
+    ensures grows { Lengthens terms.old terms.new }
     ensures made { IfOk result (λ ids. Steps terms.old terms.new cells.old.items cells.new.items table.now (node.Variable number sort) at ids) }
 {
     match sort {
@@ -173,6 +174,7 @@ fn variable(
 
 /// The cells of a node, from those of its parts; a variable that is a row is expanded, with numbers from `first` on, the
 /// least number above all.
+#[tactic(auto, using(crate::proofs::Growth::lengthening))]
 pub(crate) fn step(
     alloc: Global,
     terms: &mut Terms,
@@ -186,7 +188,7 @@ pub(crate) fn step(
     requires first { first ≡ next_number terms.old }
     requires room { first + own_weight terms.old at < 2 ^ 32 }
     requires here { Here terms.old table.now node at }
-    ensures grows { Grows terms.old terms.new }
+    ensures grows { Lengthens terms.old terms.new }
     ensures made { IfOk result (λ ids. Steps terms.old terms.new cells.old.items cells.new.items table.now node at ids) }
 {
     match node {

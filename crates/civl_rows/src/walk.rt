@@ -5,10 +5,10 @@ ghost use Rattle.civl_tree.specs.declared.expr.Sort.TheVariants as sort;
 ghost use Rattle.civl_terms.specs.declared.node.Node.{Node};
 ghost use Rattle.civl_terms.specs.Graphs.{sort_at, value_at, Fits};
 ghost use Rattle.civl_terms.specs.Weights.{own_weight, term_weight};
-ghost use Rattle.civl_terms.specs.Building.{Grows};
+ghost use Rattle.civl_terms.specs.Building.{Lengthens};
 ghost use Rattle.civl_reach.specs.Reaching.{IsRowless};
 ghost use Rattle.civl_reach.specs.Marks.{marked};
-ghost use Rattle.civl_rows.specs.Cells.{next_number, NumbersBelow, Reads, HasEntries};
+ghost use Rattle.civl_rows.specs.Cells.{next_number, NumbersBelow, Reads, HasEntries, AddsCells, ReachesOnly};
 ghost use Rattle.civl_rows.specs.Making.{PartsShaped};
 ghost use Rattle.civl_rows.specs.Expanding.{Steps};
 
@@ -23,6 +23,7 @@ use civl_tree::List;
 use std::alloc::Global;
 
 /// The cells of a node where it is marked, and else none.
+#[tactic(auto, using(crate::proofs::Growth::lengthening))]
 fn visit(
     alloc: Global,
     terms: &mut Terms,
@@ -38,7 +39,7 @@ fn visit(
     requires first { first ≡ next_number terms.old }
     requires room { IsTrue (marked marks.now at) → first + own_weight terms.old at < 2 ^ 32 }
     requires shaped { IsTrue (marked marks.now at) → (n : Node) → slice_get terms.old at ≡ Some n → PartsShaped terms.old table.now n }
-    ensures grows { Grows terms.old terms.new }
+    ensures grows { Lengthens terms.old terms.new }
     ensures steps { IfOk result (λ ids. IsTrue (marked marks.now at) → (n : Node) → slice_get terms.old at ≡ Some n
         → Steps terms.old terms.new cells.old.items cells.new.items table.now n at ids) }
     ensures other { OnOk result (marked marks.now at ≡ false → (terms.new ≡ terms.old) × (cells.new.items ≡ cells.old.items)) }
@@ -58,20 +59,25 @@ fn visit(
 /// The term weighs at most 1,600,000, and the graph's variables have numbers below 2^31. Each node that the term reaches is
 /// expanded to its cells, from those of its parts, in the order of the nodes; so deep terms take no more of the stack.
 ///
+/// The graph's new variables are one for each cell of each row variable that the term reaches. Of the others the answered
+/// term reaches at most those that the given term reaches.
+///
 /// # Errors
 ///
 /// For want of memory. The nodes that the graph had stay, also then.
-#[tactic(auto, using(crate::proofs::Growth::growth))]
+#[tactic(auto, using(crate::proofs::Growth::lengthening))]
 pub fn flatten(alloc: Global, terms: &mut Terms, id: Id) -> Result<Flat, Memory>
     requires within { id < length terms.old }
     requires boolean { sort_at terms.old id ≡ Some sort.Bool }
     requires light { term_weight terms.old id ≤ 1600000 }
     requires numbers { NumbersBelow (2 ^ 31) terms.old }
-    ensures grows { Grows terms.old terms.new }
+    ensures grows { Lengthens terms.old terms.new }
     ensures within { IfOk result (λ flat. flat.id < length terms.new) }
     ensures boolean { IfOk result (λ flat. sort_at terms.new flat.id ≡ Some sort.Bool) }
     ensures rowless { IfOk result (λ flat. IsRowless terms.new flat.id) }
     ensures entries { IfOk result (λ flat. HasEntries terms.old id flat.cells) }
+    ensures variables { IfOk result (λ flat. AddsCells terms.old terms.new flat.cells) }
+    ensures reaches { IfOk result (λ flat. ReachesOnly terms.old id terms.new flat.id flat.cells) }
     ensures fits { IfOk result (λ flat. (env : ℕ → Value) → Fits env terms.old → Reads env flat.cells → Fits env terms.new) }
     ensures value { IfOk result (λ flat. (env : ℕ → Value) → Fits env terms.old → Reads env flat.cells
         → value_at env terms.new flat.id ≡ value_at env terms.old id) }

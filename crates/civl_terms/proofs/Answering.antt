@@ -1,6 +1,6 @@
 -- A call that builds a term has built the operation's.
 use Rattle.std.specs.Prelude.{slice_get, IsSome, nat_eq}
-use Rattle.std.proofs.Common.{◌≡◌, ◌∙◌, ℕ, ◌<◌, List, length, get_or, refl, sym, ap, subst, arith, Option, Some, None}
+use Rattle.std.proofs.Common.{◌≡◌, ◌∙◌, false, ℕ, ◌<◌, List, length, get_or, refl, sym, ap, subst, arith, Option, Some, None}
 use Rattle.std.proofs.lemmas.Bool.{eqb-true, false≢true}
 use Rattle.std.proofs.lemmas.Option.{slice_get-get_or}
 use Rattle.civl_bits.specs.declared.value.Value.{Value}
@@ -17,7 +17,7 @@ use Rattle.civl_terms.specs.Weights.{node_weight}
 use Rattle.civl_terms.specs.Building.{Grows, Numbers, Answers, Built, constant_of, constant_at}
 use Rattle.civl_terms.proofs.Nodes.{value_of_node}
 use Rattle.civl_terms.proofs.Soundness.{sort_is, one_sort_each, nodes_have_their_sorts, zeros, zeros_fit}
-use Rattle.civl_terms.proofs.Growing.{grows_kept, grows_numbered, built_numbered}
+use Rattle.civl_terms.proofs.Growing.{is_variable, grows_kept, grows_numbered, built_numbered}
 
 -- ---- what is known of an operand
 
@@ -37,12 +37,12 @@ value_fits = nodes_have_their_sorts
 
 -- ---- the growth
 
-pub grows_answered : (old new : List Node) (f : Folded) (n : Node) (a b c id : ℕ) → Answers old new f n a b c id → Grows old new
-grows_answered old new folded.New n a b c id h = grows_numbered old new n id h
-grows_answered old new (folded.Constant v) n a b c id h = grows_numbered old new (Constant v) id h
-grows_answered old new folded.First n a b c id h = grows_kept old new h.1
-grows_answered old new folded.Second n a b c id h = grows_kept old new h.1
-grows_answered old new folded.Third n a b c id h = grows_kept old new h.1
+pub grows_answered : (old new : List Node) (f : Folded) (n : Node) (a b c id : ℕ) → is_variable n ≡ false → Answers old new f n a b c id → Grows old new
+grows_answered old new folded.New n a b c id v h = grows_numbered old new n id v h
+grows_answered old new (folded.Constant w) n a b c id v h = grows_numbered old new (Constant w) id refl h
+grows_answered old new folded.First n a b c id v h = grows_kept old new h.1
+grows_answered old new folded.Second n a b c id v h = grows_kept old new h.1
+grows_answered old new folded.Third n a b c id v h = grows_kept old new h.1
 
 -- ---- the term
 
@@ -98,7 +98,7 @@ constant old new graph n s v id e h k m =
     let f = zeros_fit old graph in
     let same : sort_of_value v ≡ s = sort_is v s (subst (λ (x : Value). HasSort x s) (k env f) (h env f)) in
     let b = built_numbered old new (Constant v) id graph tt m in
-    let g = grows_numbered old new (Constant v) id m in
+    let g = grows_numbered old new (Constant v) id refl m in
     record {
       within = b.within;
       is = λ env f. b.is env f ∙ sym (k env (g.fits env f));

@@ -1,15 +1,17 @@
 -- A graph with one more node.
 use Rattle.std.specs.Prelude.{slice_get, IsSome}
-use Rattle.std.proofs.Common.{◌≡◌, ◌∙◌, ℕ, ◌+◌, ◌<◌, ◌≤◌, List, [], ◌∷◌, ◌++◌, length, get_or, take, drop, refl, sym, ap, ap₂, subst, arith, Option, Some, None, inl, inr, length-append, take-append-drop, append_assoc}
+use Rattle.std.proofs.Common.{◌≡◌, ◌∙◌, Bool, true, false, ℕ, ◌+◌, ◌<◌, ◌≤◌, List, [], ◌∷◌, ◌++◌, length, get_or, take, drop, refl, sym, ap, ap₂, subst, arith, Option, Some, None, inl, inr, length-append, take-append-drop, append_assoc}
 use Rattle.std.proofs.Math.Seq.{take-append_seam}
+use Rattle.std.proofs.lemmas.Bool.{false≢true}
 use Rattle.std.proofs.lemmas.List.{take_all, map-append, length-map, get_or-map}
 use Rattle.std.proofs.lemmas.Option.{slice_get_within}
+use Rattle.civl_bits.specs.declared.value.Value.{Value}
 use Rattle.civl_tree.specs.declared.expr.Sort.{Sort}
 use Rattle.civl_terms.specs.declared.node.Node.{Node}
 use Rattle.civl_terms.specs.declared.node.Node.TheVariants.{Constant, Variable, One as Once, Two as Twice, Pick, Get, Set, Fill, Slice, Widen, Join}
-use Rattle.civl_terms.specs.Graphs.{PartsBelow, node_value, values, value_at, node_sort, sorts, sort_at, InLimits, IsFree, VariablesFit, IsGraph, HoldsGraph}
+use Rattle.civl_terms.specs.Graphs.{PartsBelow, node_value, values, value_at, node_sort, sorts, sort_at, InLimits, IsFree, VariablesFit, IsGraph, HoldsGraph, Fits}
 use Rattle.civl_terms.specs.Weights.{node_weight, graph_weight}
-use Rattle.civl_terms.specs.Building.{Grows, Numbers, Built}
+use Rattle.civl_terms.specs.Building.{Lengthens, Grows, Numbers, Built}
 use Rattle.civl_terms.proofs.Along.{along-push}
 use Rattle.civl_terms.proofs.Nodes.{get_slice, values_begin, sorts_begin, value_last, sort_last, value_of_node, sort_of_node, length-sorts}
 use Rattle.civl_terms.proofs.Places.{slice_front, slice_either}
@@ -18,8 +20,17 @@ use Rattle.civl_terms.proofs.Weighing.{weight_push}
 
 -- ---- the nodes before
 
-pub grows_same : (ns : List Node) → Grows ns ns
-grows_same ns = record {
+split : (xs ys : List Node) → take (length xs) ys ≡ xs → ys ≡ xs ++ drop (length xs) ys
+split xs ys e = sym (take-append-drop (length xs) ys) ∙ ap (λ zs. zs ++ drop (length xs) ys) e
+
+stays : (a b c : List Node) → take (length a) b ≡ a → take (length b) c ≡ b → take (length a) c ≡ a
+stays a b c p q =
+    let e : c ≡ a ++ (drop (length a) b ++ drop (length b) c) =
+    split b c q ∙ ap (λ zs. zs ++ drop (length b) c) (split a b p) ∙ append_assoc a (drop (length a) b) (drop (length b) c) in
+    ap (take (length a)) e ∙ take-append_seam a (drop (length a) b ++ drop (length b) c)
+
+pub lengthens_same : (ns : List Node) → Lengthens ns ns
+lengthens_same ns = record {
   longer = omega arith;
   stay = take_all (length ns) ns (omega arith);
   values = λ env i l. refl;
@@ -27,26 +38,17 @@ grows_same ns = record {
   fits = λ env f. f;
 }
 
-pub grows_trans : (a b c : List Node) → Grows a b → Grows b c → Grows a c
-grows_trans a b c g h = record {
+pub lengthens_trans : (a b c : List Node) → Lengthens a b → Lengthens b c → Lengthens a c
+lengthens_trans a b c g h = record {
   longer = omega (arith, g.longer, h.longer);
-  stay = stays g.stay h.stay;
+  stay = stays a b c g.stay h.stay;
   values = λ env i l. h.values env i (omega (arith, l, g.longer)) ∙ g.values env i l;
   sorts = λ i l. h.sorts i (omega (arith, l, g.longer)) ∙ g.sorts i l;
   fits = λ env f. g.fits env (h.fits env f);
 }
-  where
-    split : (xs ys : List Node) → take (length xs) ys ≡ xs → ys ≡ xs ++ drop (length xs) ys
-    split xs ys e = sym (take-append-drop (length xs) ys) ∙ ap (λ zs. zs ++ drop (length xs) ys) e
 
-    stays : take (length a) b ≡ a → take (length b) c ≡ b → take (length a) c ≡ a
-    stays p q =
-        let e : c ≡ a ++ (drop (length a) b ++ drop (length b) c) =
-        split b c q ∙ ap (λ zs. zs ++ drop (length b) c) (split a b p) ∙ append_assoc a (drop (length a) b) (drop (length b) c) in
-        ap (take (length a)) e ∙ take-append_seam a (drop (length a) b ++ drop (length b) c)
-
-pub grows_push : (ns : List Node) (n : Node) → Grows ns (ns ++ n ∷ [])
-grows_push ns n = record {
+pub lengthens_push : (ns : List Node) (n : Node) → Lengthens ns (ns ++ n ∷ [])
+lengthens_push ns n = record {
   longer = omega (arith, length-append ns (n ∷ []));
   stay = take-append_seam ns (n ∷ []);
   values = λ env i l. values_begin env ns (n ∷ []) i l;
@@ -54,15 +56,63 @@ grows_push ns n = record {
   fits = λ env f i k s e. f i k s (slice_front ns (n ∷ []) i (Variable k s) e);
 }
 
+pub lengthens_kept : (old new : List Node) → new ≡ old → Lengthens old new
+lengthens_kept old new e = subst (Lengthens old) (sym e) (lengthens_same old)
+
+pub lengthens_numbered : (old new : List Node) (n : Node) (id : ℕ) → Numbers old new n id → Lengthens old new
+lengthens_numbered old new n id h = elim h.adds [
+  | inl e ↦ lengthens_kept old new e
+  | inr e ↦ subst (Lengthens old) (sym e) (lengthens_push old n)
+]
+
+-- ---- the nodes before, and no new variables
+
+-- a graph that only grows, and its variables
+with_variables : (old new : List Node) → Lengthens old new → ((i k : ℕ) (s : Sort) → slice_get new i ≡ Some (Variable k s) → slice_get old i ≡ Some (Variable k s)) → Grows old new
+with_variables old new g v = record {
+  longer = g.longer;
+  stay = g.stay;
+  values = g.values;
+  sorts = g.sorts;
+  fits = g.fits;
+  variables = v;
+}
+
+pub lengthened : (old new : List Node) → Grows old new → Lengthens old new
+lengthened old new g = record { longer = g.longer; stay = g.stay; values = g.values; sorts = g.sorts; fits = g.fits }
+
+-- values that fit the old graph fit the new one
+pub fits_grown : (old new : List Node) (env : ℕ → Value) → Grows old new → Fits env old → Fits env new
+fits_grown old new env g f i k s e = f i k s (g.variables i k s e)
+
+pub grows_same : (ns : List Node) → Grows ns ns
+grows_same ns = with_variables ns ns (lengthens_same ns) (λ i k s e. e)
+
+pub grows_trans : (a b c : List Node) → Grows a b → Grows b c → Grows a c
+grows_trans a b c g h = with_variables a c (lengthens_trans a b c (lengthened a b g) (lengthened b c h)) (λ i k s e. g.variables i k s (h.variables i k s e))
+
+abbrev pub is_variable : Node → Bool
+is_variable (Variable k s) = true
+is_variable _ = false
+
+not_variable : (n : Node) (k : ℕ) (s : Sort) → is_variable n ≡ false → Variable k s ≡ n → ⊥
+not_variable n k s h e = false≢true (sym h ∙ ap is_variable (sym e))
+
+pub grows_push : (ns : List Node) (n : Node) → is_variable n ≡ false → Grows ns (ns ++ n ∷ [])
+grows_push ns n h = with_variables ns (ns ++ n ∷ []) (lengthens_push ns n) (λ i k s e. elim (slice_either ns n (Variable k s) i e) [
+  | inl q ↦ q
+  | inr q ↦ absurd (not_variable n k s h (sym q.1))
+])
+
 pub grows_kept : (old new : List Node) → new ≡ old → Grows old new
 grows_kept old new e = subst (Grows old) (sym e) (grows_same old)
 
 pub ruleset growth = (grows_trans, grows_same)
 
-pub grows_numbered : (old new : List Node) (n : Node) (id : ℕ) → Numbers old new n id → Grows old new
-grows_numbered old new n id h = elim h.adds [
+pub grows_numbered : (old new : List Node) (n : Node) (id : ℕ) → is_variable n ≡ false → Numbers old new n id → Grows old new
+grows_numbered old new n id v h = elim h.adds [
   | inl e ↦ grows_kept old new e
-  | inr e ↦ subst (Grows old) (sym e) (grows_push old n)
+  | inr e ↦ subst (Grows old) (sym e) (grows_push old n v)
 ]
 
 -- ---- the new node

@@ -8,17 +8,26 @@ use Rattle.civl_folding.specs.declared.folded.Folded.{Folded}
 use Rattle.civl_folding.specs.declared.folded.Folded.TheVariants as folded
 use Rattle.civl_folding.specs.Folding.{folded_one, folded_two, folded_pick, folded_get, folded_set, folded_fill, folded_slice, folded_widen, folded_join}
 use Rattle.civl_terms.specs.declared.node.Node.{Node}
-use Rattle.civl_terms.specs.declared.node.Node.TheVariants.{Constant}
+use Rattle.civl_terms.specs.declared.node.Node.TheVariants.{Constant, Variable}
 use Rattle.civl_terms.specs.Graphs.{value_at, sort_at, Fits}
 use Rattle.civl_terms.specs.Weights.{graph_weight}
 
 -- the nodes before stay: their values and sorts too, and values that fit the new graph fit the old one
+pub record Lengthens (old new : List Node) : Type 0 where
+  pub longer : length old ≤ length new
+  pub stay : take (length old) new ≡ old
+  pub values : (env : ℕ → Value) (i : ℕ) → i < length old → value_at env new i ≡ value_at env old i
+  pub sorts : (i : ℕ) → i < length old → sort_at new i ≡ sort_at old i
+  pub fits : (env : ℕ → Value) → Fits env new → Fits env old
+
+-- besides, no node that is added is a variable: the graph's variables are those of before
 pub record Grows (old new : List Node) : Type 0 where
   pub longer : length old ≤ length new
   pub stay : take (length old) new ≡ old
   pub values : (env : ℕ → Value) (i : ℕ) → i < length old → value_at env new i ≡ value_at env old i
   pub sorts : (i : ℕ) → i < length old → sort_at new i ≡ sort_at old i
   pub fits : (env : ℕ → Value) → Fits env new → Fits env old
+  pub variables : (i k : ℕ) (s : Sort) → slice_get new i ≡ Some (Variable k s) → slice_get old i ≡ Some (Variable k s)
 
 -- the node has this number; where an equal node was there, nothing is added, and else this node alone
 pub record Numbers (old new : List Node) (n : Node) (id : ℕ) : Type 0 where

@@ -7,7 +7,7 @@ ghost use Rattle.civl_values.specs.Operators.{one_value, two_value, pick_value, 
 ghost use Rattle.civl_values.specs.Values.{sort_of_value, is_sort};
 ghost use Rattle.civl_values.specs.Weights.{bits_in, one_weight, two_weight, pick_weight, get_weight, set_weight, move_weight};
 ghost use Rattle.civl_terms.specs.Graphs.{PartsBelow, node_sort, sorts, sort_at, value_at, InLimits, VariablesFit, IsFree, IsGraph, IsDistinct, listed};
-ghost use Rattle.civl_terms.specs.Building.{Grows, Numbers, Answers, Built, constant_at, one_in, two_in, pick_in, get_in, set_in, fill_in, slice_in, widen_in, join_in};
+ghost use Rattle.civl_terms.specs.Building.{Lengthens, Grows, Numbers, Answers, Built, constant_at, one_in, two_in, pick_in, get_in, set_in, fill_in, slice_in, widen_in, join_in};
 ghost use Rattle.civl_terms.specs.declared.node.Node.TheVariants as node;
 
 use crate::evaluate::{node_value, value_in};
@@ -147,7 +147,7 @@ impl Terms {
         requires free { IsFree self.old number sort }
         ensures node { IfOk result (λ id. Numbers self.old self.new (node.Variable number sort) id) }
         ensures built { IfOk result (λ id. Built self.old self.new id (λ env. env number) (Some sort) (bits_of sort)) }
-        ensures grows { Grows self.old self.new }
+        ensures grows { Lengthens self.old self.new }
         ensures err { OnErr result (self.new ≡ self.old) }
     {
         let id = self.add(Node::Variable(number, sort), sort)?;

@@ -1,5 +1,5 @@
 use Rattle.std.proofs.Common.{arith}
-use Rattle.civl_rows.proofs.Growth.{grows_refl}
+use Rattle.civl_rows.proofs.Growth.{lengthens_refl}
 use Rattle.civl_rows.proofs.StepCells.{bool_steps, word_steps, row_width, row_index, row_room, row_steps}
 use Rattle.civl_rows.proofs.node.variable.Goals as goal
 
@@ -17,8 +17,8 @@ returns-in_ok-ids-in-Row-clause-made c = rw c.in-Row.is (row_steps (rw c.in-Row.
 
 pub returns-in_ok-ids-in-Bool : goal.returns-in_ok-ids-in-Bool
 returns-in_ok-ids-in-Bool c =
-    record { grows = grows_refl _; made = rw c.in-Bool.is (bool_steps _ _ (rw c.in-Bool.is at c.requires.here) c.in_ok-ids-in-Bool.ensures) }
+    record { grows = lengthens_refl _; made = rw c.in-Bool.is (bool_steps _ _ (rw c.in-Bool.is at c.requires.here) c.in_ok-ids-in-Bool.ensures) }
 
 pub returns-in_ok-ids-in-Word : goal.returns-in_ok-ids-in-Word
 returns-in_ok-ids-in-Word c =
-    record { grows = grows_refl _; made = rw c.in-Word.is (word_steps _ _ (rw c.in-Word.is at c.requires.here) c.in_ok-ids-in-Word.ensures) }
+    record { grows = lengthens_refl _; made = rw c.in-Word.is (word_steps _ _ (rw c.in-Word.is at c.requires.here) c.in_ok-ids-in-Word.ensures) }

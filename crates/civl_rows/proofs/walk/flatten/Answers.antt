@@ -38,3 +38,9 @@ returns-clause-value c = rw c.from_vec.ensures ((walk_all _ _ c.len-count.ensure
 
 pub returns-clause-weight : goal.returns-clause-weight
 returns-clause-weight c = (walk_all _ _ c.len-count.ensures.graph c.in_ok-marks.ensures c.loop-at.invariant (omega arith) c.requires.within c.requires.boolean c.as_slice-2.ensures.value c.cell-id.ensures).weight
+
+pub returns-clause-variables : goal.returns-clause-variables
+returns-clause-variables c = rw c.from_vec.ensures ((walk_all _ _ c.len-count.ensures.graph c.in_ok-marks.ensures c.loop-at.invariant (omega arith) c.requires.within c.requires.boolean c.as_slice-2.ensures.value c.cell-id.ensures).variables)
+
+pub returns-clause-reaches : goal.returns-clause-reaches
+returns-clause-reaches c = rw c.from_vec.ensures ((walk_all _ _ c.len-count.ensures.graph c.in_ok-marks.ensures c.loop-at.invariant (omega arith) c.requires.within c.requires.boolean c.as_slice-2.ensures.value c.cell-id.ensures).reaches)

@@ -1,3 +1,4 @@
+use Rattle.std.proofs.Common.{refl}
 use Rattle.civl_terms.proofs.Growing.{grows_kept, grows_numbered, built_numbered}
 use Rattle.civl_terms.proofs.terms.Terms.constant.Goals as goal
 
@@ -8,4 +9,4 @@ pub returns-clause-built : goal.returns-clause-built
 returns-clause-built c = built_numbered _ _ _ _ c.add.ensures.graph tt c.in_ok-id.ensures.numbers
 
 pub returns-clause-grows : goal.returns-clause-grows
-returns-clause-grows c = grows_numbered _ _ _ _ c.in_ok-id.ensures.numbers
+returns-clause-grows c = grows_numbered _ _ _ _ refl c.in_ok-id.ensures.numbers

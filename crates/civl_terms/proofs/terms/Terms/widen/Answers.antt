@@ -1,4 +1,4 @@
-use Rattle.std.proofs.Common.{rules}
+use Rattle.std.proofs.Common.{refl, rules}
 use Rattle.civl_terms.specs.declared.node.Node.TheVariants as node
 use Rattle.civl_terms.specs.Building.{Answers, widen_in}
 use Rattle.civl_terms.proofs.Growing.{grows_kept}
@@ -16,4 +16,4 @@ returns-clause-built c =
     (widen_operation c.args.self.now c.answer.ensures.graph c.args.a c.args.width c.requires.a c.requires.fits) h
 
 pub returns-clause-grows : goal.returns-clause-grows
-returns-clause-grows c = grows_answered _ _ _ _ _ _ _ _ c.in_ok-id.ensures.answers
+returns-clause-grows c = grows_answered _ _ _ _ _ _ _ _ refl c.in_ok-id.ensures.answers
