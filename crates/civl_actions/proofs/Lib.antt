@@ -1,4 +1,5 @@
 pub mod Typing
+pub mod Staying
 pub mod Building
 pub mod Operations
 pub mod Arms

@@ -12,15 +12,17 @@ use Rattle.civl_bits.specs.declared.value.Value.{Value}
 use Rattle.civl_tree.specs.declared.name.Name.{Name}
 use Rattle.civl_tree.specs.declared.expr.Sort.{Sort}
 use Rattle.civl_tree.specs.declared.action.Action.{Action}
+use Rattle.civl_tree.specs.declared.action.Choice.{Choice}
 use Rattle.civl_tree.specs.declared.action.Param.{Param}
 use Rattle.civl_tree.specs.declared.action.Update.{Update}
 use Rattle.civl_tree.specs.declared.program.Global.{Global}
 use Rattle.civl_tree.specs.declared.program.Program.{Program}
 use Rattle.civl_tree.specs.rules.Names.{same_name, has_name, global_names, param_names}
-use Rattle.civl_tree.specs.rules.Scopes.{Binding, sort_in, bind_globals, bind_params, guard_scope}
+use Rattle.civl_tree.specs.rules.Scopes.{Scope as Sorts, Binding, sort_in, bind_globals, bind_params, gate_scope, guard_scope}
 use Rattle.civl_tree.specs.rules.Sorts.{sort_of}
 use Rattle.civl_values.specs.Values.{zero_of, is_sort, sort_of_value}
 use Rattle.civl_values.specs.Weights.{weight_of}
+use Rattle.civl_values.specs.ActionWeights.{update_weights, offer_weights}
 use Rattle.civl_values.proofs.Zeros.{zeros_have_their_sorts}
 use Rattle.civl_firing.specs.declared.scope.Scope.{Scope as Meant}
 use Rattle.civl_firing.specs.Eval.{value_of}
@@ -31,34 +33,11 @@ use Rattle.civl_terms.specs.Graphs.{value_at, sort_at, Fits}
 use Rattle.civl_terms.specs.Building.{Grows, Built}
 use Rattle.civl_terms.proofs.Soundness.{sort_is}
 use Rattle.civl_actions.specs.declared.scope.Scope.{Scope}
-use Rattle.civl_actions.specs.Scopes.{AreOf, meant, ScopeFits, Means}
-use Rattle.civl_actions.specs.Actions.{values_at, updates_weight}
-use Rattle.civl_actions.specs.Steps.{AreZeros, AreUpdated}
-use Rattle.civl_actions.proofs.Building.{sorted_within, map_values, meant_stays, fits_stay}
-use Rattle.civl_actions.proofs.Rules.{Kept, out_apart, bytes_same, update_typed, update_sorted}
-
-heads : (a b : Option Sort) (os ps : List (Option Sort)) → a ∷ os ≡ b ∷ ps → (a ≡ b) × (os ≡ ps)
-heads a b os ps e = (cc, cc)
-
--- terms that have sorts are there
-pub are_within : (ns : List Node) (ids : List ℕ) (ss : List Sort) → AreOf ns ids ss → (place id : ℕ) → slice_get ids place ≡ Some id → id < length ns
-are_within ns [] ss h place id e = absurd (cc)
-are_within ns (i ∷ ids) [] h place id e = absurd (cc)
-are_within ns (i ∷ ids) (s ∷ ss) h zero id e =
-    let q : i ≡ id = cc in
-    subst (λ k. k < length ns) q (sorted_within ns i s (heads (sort_at ns i) (Some s) (map (sort_at ns) ids) (map (λ (t : Sort). Some t) ss) h).0)
-are_within ns (i ∷ ids) (s ∷ ss) h (suc place) id e =
-    are_within ns ids ss (heads (sort_at ns i) (Some s) (map (sort_at ns) ids) (map (λ (t : Sort). Some t) ss) h).1 place id e
-
-map_sorts : (ns ms : List Node) (ids : List ℕ) → ((place id : ℕ) → slice_get ids place ≡ Some id → id < length ns) → Grows ns ms → map (sort_at ms) ids ≡ map (sort_at ns) ids
-map_sorts ns ms [] h g = refl
-map_sorts ns ms (i ∷ ids) h g = ap₂ (λ (v : Option Sort) (vs : List (Option Sort)). v ∷ vs) (g.sorts i (h zero i refl)) (map_sorts ns ms ids (λ k j e. h (suc k) j e) g)
-
-pub are_stay : (ns ms : List Node) (ids : List ℕ) (ss : List Sort) → AreOf ns ids ss → Grows ns ms → AreOf ms ids ss
-are_stay ns ms ids ss h g = map_sorts ns ms ids (are_within ns ids ss h) g ∙ h
-
-pub values_stay : (env : ℕ → Value) (ns ms : List Node) (ids : List ℕ) (ss : List Sort) → AreOf ns ids ss → Grows ns ms → values_at env ms ids ≡ values_at env ns ids
-values_stay env ns ms ids ss h g = map_values env ns ms ids (are_within ns ids ss h) g
+use Rattle.civl_actions.specs.Scopes.{AreOf, meant, ScopeFits, IsTyped, Means}
+use Rattle.civl_actions.specs.Actions.{values_at}
+use Rattle.civl_actions.specs.Steps.{AreZeros, AreOffered, AreUpdated}
+use Rattle.civl_actions.proofs.Staying.{are_stay, values_stay, meant_stays, fits_stay}
+use Rattle.civl_actions.proofs.Rules.{Kept, out_apart, bytes_same, offer_typed, offer_sorted, update_typed, update_sorted}
 
 -- ---- zeros
 
@@ -92,6 +71,47 @@ zeros_step old now new outs i p ids more v id all l is z g e b m =
     let next : take (i + 1) outs ≡ take i outs ++ p ∷ [] = take_more outs i p l ∙ ap (λ (q : Param). take i outs ++ q ∷ []) (sym is) in
     subst (λ (ps : List Param). AreZeros old new ps more) (sym next) (subst (AreZeros old new (take i outs ++ p ∷ [])) (sym m) (zeros_more old now new (take i outs) p ids id z limit g made))
 
+-- ---- offers
+
+module _ (program : Program) (a : Action) (k : Kept program a) where
+  abbrev sorts : Sorts
+  sorts = gate_scope program a
+
+  offer_weights-push : (cs : List Choice) (c : Choice) → offer_weights sorts (cs ++ c ∷ []) ≡ offer_weights sorts cs + weight_of sorts c.offer
+  offer_weights-push [] c = omega arith
+  offer_weights-push (x ∷ cs) c = omega (arith, offer_weights-push cs c)
+
+  pub offered_none : (ns : List Node) (scope : Scope) → AreOffered ns ns scope sorts [] []
+  offered_none ns scope = record { values = λ env f. refl; are = refl; weighs = omega arith }
+
+  offered_push : (old now new : List Node) (scope : Scope) (cs : List Choice) (i : ℕ) (c : Choice) (ids : List ℕ) (id : ℕ) → slice_get a.choices i ≡ Some c → ScopeFits old scope sorts → Grows old now
+      → AreOffered old now scope sorts cs ids → Grows now new → Means now new scope c.offer id → AreOffered old new scope sorts (cs ++ c ∷ []) (ids ++ id ∷ [])
+  offered_push old now new scope cs i c ids id at fits g o h m = record {
+    values = λ env f.
+        map-append (value_at env new) ids (id ∷ [])
+        ∙ ap₂ (λ (vs : List Value) (v : Value). vs ++ v ∷ []) (values_stay env now new ids (map (λ d. d.sort) cs) o.are h ∙ o.values env (h.fits env f)) (m.is env f ∙ ap (λ (s : Meant). value_of s c.offer) (meant_stays env old now scope sorts fits g))
+        ∙ sym (map-append (λ (d : Choice). value_of (meant env old scope) d.offer) cs (c ∷ []));
+    are =
+        map-append (sort_at new) ids (id ∷ [])
+        ∙ ap₂ (λ (os : List (Option Sort)) (s : Option Sort). os ++ s ∷ []) (are_stay now new ids (map (λ d. d.sort) cs) o.are h) (m.sorted sorts there typed ∙ offer_sorted program a k i c at)
+        ∙ sym (map-append (λ (s : Sort). Some s) (map (λ (d : Choice). d.sort) cs) (c.sort ∷ []))
+        ∙ ap (map (λ (s : Sort). Some s)) (sym (map-append (λ (d : Choice). d.sort) cs (c ∷ [])));
+    weighs = omega (arith, o.weighs, m.weighs sorts there typed, offer_weights-push cs c);
+  }
+    where
+      there : ScopeFits now scope sorts
+      there = fits_stay old now scope sorts g fits
+
+      typed : IsTyped sorts c.offer
+      typed = offer_typed program a k i c at
+
+  pub offered_step : (old now new : List Node) (scope : Scope) (i : ℕ) (c : Choice) (ids more : List ℕ) (id : ℕ) → slice_get a.choices i ≡ Some c → ScopeFits old scope sorts → Grows old now
+      → AreOffered old now scope sorts (take i a.choices) ids → Grows now new → Means now new scope c.offer id → more ≡ ids ++ id ∷ [] → AreOffered old new scope sorts (take (i + 1) a.choices) more
+  offered_step old now new scope i c ids more id at fits g o h m e =
+      let next : take (i + 1) a.choices ≡ take i a.choices ++ c ∷ [] = take_more a.choices i c (slice_get_within a.choices i c at) ∙ ap (λ (d : Choice). take i a.choices ++ d ∷ []) (get_or_from_slice_get a.choices i c c at) in
+      subst (λ (cs : List Choice). AreOffered old new scope sorts cs more) (sym next)
+      (subst (AreOffered old new scope sorts (take i a.choices ++ c ∷ [])) (sym e) (offered_push old now new scope (take i a.choices) i c ids id at fits g o h m))
+
 -- ---- writes
 
 map_set : {A B : Type 0} (f : A → B) (xs : List A) (k : ℕ) (x : A) → map f (set xs k x) ≡ set (map f xs) k (f x)
@@ -111,9 +131,9 @@ updated-push : (names : List Name) (vs : List Value) (scope : Meant) (us : List 
 updated-push names vs scope [] u = refl
 updated-push names vs scope (x ∷ us) u = updated-push names (set vs (place_of names x.target) (value_of scope x.expr)) scope us u
 
-updates_weight-push : (program : Program) (a : Action) (us : List Update) (u : Update) → updates_weight (guard_scope program a) (us ++ u ∷ []) ≡ updates_weight (guard_scope program a) us + weight_of (guard_scope program a) u.expr
-updates_weight-push program a [] u = omega arith
-updates_weight-push program a (x ∷ us) u = omega (arith, updates_weight-push program a us u)
+update_weights-push : (program : Program) (a : Action) (us : List Update) (u : Update) → update_weights (guard_scope program a) (us ++ u ∷ []) ≡ update_weights (guard_scope program a) us + weight_of (guard_scope program a) u.expr
+update_weights-push program a [] u = omega arith
+update_weights-push program a (x ∷ us) u = omega (arith, update_weights-push program a us u)
 
 -- ---- the sort of a target
 
@@ -181,7 +201,7 @@ module _ (program : Program) (a : Action) (k : Kept program a) where
     outs = λ env f. written env f (param_names a.outs) os more_os (values_stay env now new more_os (map (λ q. q.sort) a.outs) h.out_sorts r ∙ h.outs env (r.fits env f));
     global_sorts = are_written new more_gs (map (λ q. q.sort) program.globals) (place_of (global_names program.globals) u.target) id (are_stay now new more_gs (map (λ q. q.sort) program.globals) h.global_sorts r) (λ s e. sorted ∙ global_target i u at s e);
     out_sorts = are_written new more_os (map (λ q. q.sort) a.outs) (place_of (param_names a.outs) u.target) id (are_stay now new more_os (map (λ q. q.sort) a.outs) h.out_sorts r) (λ s e. sorted ∙ out_target i u at s e);
-    weighs = omega (arith, h.weighs, m.weighs (guard_scope program a) (fits_stay old now scope (guard_scope program a) g fits) (update_typed program a k i u at), updates_weight-push program a (take i a.updates) u, ap (updates_weight (guard_scope program a)) (take_next a.updates i u at));
+    weighs = omega (arith, h.weighs, m.weighs (guard_scope program a) (fits_stay old now scope (guard_scope program a) g fits) (update_typed program a k i u at), update_weights-push program a (take i a.updates) u, ap (update_weights (guard_scope program a)) (take_next a.updates i u at));
   }
     where
       take_next : (us : List Update) (j : ℕ) (x : Update) → slice_get us j ≡ Some x → take (j + 1) us ≡ take j us ++ x ∷ []

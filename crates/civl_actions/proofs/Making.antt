@@ -5,40 +5,53 @@ use Rattle.std.proofs.lemmas.List.{map-append, append-nil, take_all}
 use Rattle.civl_bits.specs.declared.value.Value.{Value}
 use Rattle.civl_bits.specs.declared.value.Value.TheVariants as value
 use Rattle.civl_tree.specs.declared.name.Name.{Name}
+use Rattle.civl_tree.specs.declared.expr.Expr.{Expr}
 use Rattle.civl_tree.specs.declared.expr.Sort.{Sort}
 use Rattle.civl_tree.specs.declared.expr.Sort.TheVariants.{Bool as Truth}
 use Rattle.civl_tree.specs.declared.action.Action.{Action}
 use Rattle.civl_tree.specs.declared.action.Choice.{Choice}
+use Rattle.civl_tree.specs.declared.action.Param.{Param}
 use Rattle.civl_tree.specs.declared.action.Update.{Update}
 use Rattle.civl_tree.specs.declared.program.Program.{Program}
+use Rattle.civl_tree.specs.rules.Names.{global_names, param_names}
 use Rattle.civl_tree.specs.rules.Scopes.{Scope as Sorts, Binding, sort_in, bind_globals, bind_params, gate_scope, guard_scope}
+use Rattle.civl_tree.specs.rules.Sorts.{sort_of}
 use Rattle.civl_values.specs.Values.{is_true}
 use Rattle.civl_firing.specs.declared.scope.Scope.{Scope as Meant}
 use Rattle.civl_firing.specs.Eval.{value_of}
-use Rattle.civl_firing.specs.Scope.{present_values, zeros_of_params, guard_values}
-use Rattle.civl_tree.specs.rules.Names.{global_names, param_names}
-use Rattle.civl_firing.specs.Fired.{gate_holds, guard_holds, store_after, outs_after, updated}
+use Rattle.civl_firing.specs.Scope.{present_values, zeros_of_params, gate_values, guard_values}
+use Rattle.civl_firing.specs.Fired.{gate_holds, updated}
 use Rattle.civl_firing.specs.Truth.{place_of}
 use Rattle.civl_terms.specs.declared.node.Node.{Node}
 use Rattle.civl_terms.specs.Graphs.{value_at, sort_at, IsGraph, Fits}
 use Rattle.civl_terms.specs.Building.{Grows, Built}
-use Rattle.civl_terms.proofs.Growing.{grows_trans}
 use Rattle.civl_terms.proofs.Soundness.{nodes_have_their_sorts}
 use Rattle.civl_actions.specs.declared.scope.Scope.{Scope}
-use Rattle.civl_actions.specs.declared.made.Instance.{Instance}
-use Rattle.civl_actions.specs.Scopes.{names_in, meant, StandsAt, AreOf, ScopeFits, HasTyping, Means}
-use Rattle.civl_actions.specs.Actions.{values_at, store_at, updates_weight, IsInstance}
-use Rattle.civl_actions.specs.Steps.{AreZeros, Prepared, IsGate, IsChange, AreUpdated}
-use Rattle.civl_actions.proofs.Building.{truth_value, meant_stays, sorted_within}
+use Rattle.civl_actions.specs.declared.named.Named.{Named}
+use Rattle.civl_actions.specs.Scopes.{names_in, meant, StandsAt, AreOf, ScopeFits, IsTyped, Means}
+use Rattle.civl_actions.specs.Actions.{values_at, store_at, IsGate, IsGuard, AreOffers, IsChange}
+use Rattle.civl_actions.specs.Steps.{AreZeros, IsNamed, AreOffered, AreUpdated}
+use Rattle.civl_actions.proofs.Building.{truth_value}
+use Rattle.civl_actions.proofs.Staying.{are_within, are_stay, values_stay}
 use Rattle.civl_actions.proofs.Rules.{Kept, gate_typed, gate_sort, guard_typed, guard_sort}
 use Rattle.civl_actions.proofs.Scoping.{Found, all_names, Listed, names_found, olds_found}
-use Rattle.civl_actions.proofs.Listing.{are_within, are_stay, values_stay}
 
 -- ---- the scope
 
 are_joined : (ns : List Node) (xs ys : List ℕ) (ss ts : List Sort) → AreOf ns xs ss → AreOf ns ys ts → AreOf ns (xs ++ ys) (ss ++ ts)
 are_joined ns xs ys ss ts h k =
     map-append (sort_at ns) xs ys ∙ ap₂ (λ (a b : List (Option Sort)). a ++ b) h k ∙ sym (map-append (λ (s : Sort). Some s) ss ts)
+
+-- the terms for an action's names, with these choices: those of the globals, the parameters and the choices, the zeros of its
+-- outputs, and that of `done`, which is false
+pub record Prepared (ns : List Node) (program : Program) (a : Action) (choices : List Choice) (globals inputs chosen zeros : List ℕ) (nay : ℕ) : Type 0 where
+  pub globals_are : AreOf ns globals (map (λ g. g.sort) program.globals)
+  pub inputs_are : AreOf ns inputs (map (λ q. q.sort) a.params)
+  pub chosen_are : AreOf ns chosen (map (λ c. c.sort) choices)
+  pub zeros_are : AreOf ns zeros (map (λ q. q.sort) a.outs)
+  pub zero_values : (env : ℕ → Value) → Fits env ns → values_at env ns zeros ≡ zeros_of_params a.outs
+  pub no_sort : sort_at ns nay ≡ Some Truth
+  pub no_value : (env : ℕ → Value) → Fits env ns → value_at env ns nay ≡ value.Bool false
 
 -- what a scope is made of
 pub record Made (sc : Scope) (program : Program) (a : Action) (choices : List Choice) (globals inputs chosen zeros : List ℕ) (nay : ℕ) : Type 0 where
@@ -50,7 +63,7 @@ pub record Made (sc : Scope) (program : Program) (a : Action) (choices : List Ch
 
 module _ (ns : List Node) (sc : Scope) (program : Program) (a : Action) (choices : List Choice) (globals inputs chosen zeros : List ℕ) (nay : ℕ)
     (p : Prepared ns program a choices globals inputs chosen zeros nay) (m : Made sc program a choices globals inputs chosen zeros nay) where
-  listed : Listed ns program a choices globals inputs chosen zeros
+  pub listed : Listed ns program a choices globals inputs chosen zeros
   listed = record { globals_are = p.globals_are; inputs_are = p.inputs_are; chosen_are = p.chosen_are; zeros_are = p.zeros_are }
 
   abbrev ids : List ℕ
@@ -78,9 +91,6 @@ module _ (ns : List Node) (sc : Scope) (program : Program) (a : Action) (choices
     old_done = ap (sort_at ns) m.old_done ∙ p.no_sort;
   }
 
-  pub listed_here : Listed ns program a choices globals inputs chosen zeros
-  listed_here = listed
-
   values_joined : (env : ℕ → Value) → Fits env ns → map (value_at env ns) ids ≡ values_at env ns globals ++ (values_at env ns inputs ++ (values_at env ns chosen ++ zeros_of_params a.outs))
   values_joined env f =
       map-append (value_at env ns) globals (inputs ++ (chosen ++ zeros))
@@ -104,132 +114,129 @@ module _ (ns : List Node) (sc : Scope) (program : Program) (a : Action) (choices
           ∙ ap (λ (z : Bool). record { names = xs2; values = vs2; old = os2; done = z; old_done = e }) s
           ∙ ap (λ (z : Bool). record { names = xs2; values = vs2; old = os2; done = d2; old_done = z }) t
 
--- ---- the gate
+-- ---- a scope, from terms of an earlier graph
 
-module _ (ns : List Node) (sc : Scope) (program : Program) (a : Action) (k : Kept program a) (globals inputs zeros : List ℕ) (nay : ℕ)
-    (p : Prepared ns program a [] globals inputs [] zeros nay) (m : Made sc program a [] globals inputs [] zeros nay) where
-  gate_names : Found ns (all_names program a []) (globals ++ (inputs ++ ([] ++ zeros))) (gate_scope program a).names
-  gate_names =
-      subst (λ (bs : List Binding). Found ns (all_names program a []) (globals ++ (inputs ++ ([] ++ zeros))) (bind_globals program.globals ++ bs)) (append-nil (bind_params a.params))
-      (names_found ns program a [] globals inputs [] zeros (listed_here ns sc program a [] globals inputs [] zeros nay p m))
+-- the scope fits these sorts, and its names stand for these values
+pub record Sees (ns : List Node) (sc : Scope) (sorts : Sorts) (meaning : (ℕ → Value) → Meant) : Type 0 where
+  pub fits : ScopeFits ns sc sorts
+  pub means : (env : ℕ → Value) → Fits env ns → meant env ns sc ≡ meaning env
 
-  pub gate_fits : ScopeFits ns sc (gate_scope program a)
-  gate_fits = scope_fits ns sc program a [] globals inputs [] zeros nay p m (gate_scope program a) gate_names
-      (olds_found ns program a [] globals inputs [] zeros (listed_here ns sc program a [] globals inputs [] zeros nay p m) k (λ name e. refl))
+prepared : (old ns : List Node) (program : Program) (a : Action) (choices : List Choice) (globals inputs chosen : List ℕ) (n : Named)
+    → AreOf old globals (map (λ g. g.sort) program.globals) → AreOf old inputs (map (λ q. q.sort) a.params) → AreOf old chosen (map (λ c. c.sort) choices)
+    → Grows old ns → IsNamed old ns a.outs globals inputs chosen n → Prepared ns program a choices globals inputs chosen n.zeros.items n.no
+prepared old ns program a choices globals inputs chosen n hg hi hc g is = record {
+  globals_are = are_stay old ns globals (map (λ q. q.sort) program.globals) hg g;
+  inputs_are = are_stay old ns inputs (map (λ q. q.sort) a.params) hi g;
+  chosen_are = are_stay old ns chosen (map (λ c. c.sort) choices) hc g;
+  zeros_are = is.zeros_are;
+  zero_values = is.zero_values;
+  no_sort = is.no_sort;
+  no_value = is.no_value;
+}
 
-  pub gate_asks : HasTyping ns sc a.gate
-  gate_asks = (gate_scope program a, gate_fits, gate_typed program a k)
+-- a gate's scope, also that of the offers
+pub gate_sees : (old ns : List Node) (sc : Scope) (program : Program) (a : Action) (globals inputs : List ℕ) (n : Named) → Kept program a
+    → AreOf old globals (map (λ g. g.sort) program.globals) → AreOf old inputs (map (λ q. q.sort) a.params) → Grows old ns → IsNamed old ns a.outs globals inputs [] n
+    → Made sc program a [] globals inputs [] n.zeros.items n.no → Sees ns sc (gate_scope program a) (λ env. gate_values program.globals (store_at env old globals) a (values_at env old inputs))
+gate_sees old ns sc program a globals inputs n k hg hi g is m =
+    let zeros = n.zeros.items in
+    let p = prepared old ns program a [] globals inputs [] n hg hi refl g is in
+    let l = listed ns sc program a [] globals inputs [] zeros n.no p m in
+    let names : Found ns (all_names program a []) (globals ++ (inputs ++ ([] ++ zeros))) (gate_scope program a).names =
+    subst (λ (bs : List Binding). Found ns (all_names program a []) (globals ++ (inputs ++ ([] ++ zeros))) (bind_globals program.globals ++ bs)) (append-nil (bind_params a.params))
+    (names_found ns program a [] globals inputs [] zeros l) in
+    record {
+      fits = scope_fits ns sc program a [] globals inputs [] zeros n.no p m (gate_scope program a) names (olds_found ns program a [] globals inputs [] zeros l k (λ name e. refl));
+      means = λ env f.
+          scope_meant ns sc program a [] globals inputs [] zeros n.no p m env f
+          ∙ ap₂ (λ (vs us : List Value). gate_values program.globals (record { values = vs }) a us)
+          (values_stay env old ns globals (map (λ q. q.sort) program.globals) hg g) (values_stay env old ns inputs (map (λ q. q.sort) a.params) hi g);
+    }
 
-  pub gate_is : (new : List Node) (id : ℕ) → IsGraph new → Grows ns new → Means ns new sc a.gate id → IsGate ns new program a globals inputs id
-  unfolding gate_holds
-  gate_is new id graph g t =
-      let s : sort_at new id ≡ Some Truth = t.sorted (gate_scope program a) gate_fits (gate_typed program a k) ∙ gate_sort program a k in
-      record {
-        is = λ env f.
+-- a guard's scope, also that of the updates
+pub guard_sees : (old ns : List Node) (sc : Scope) (program : Program) (a : Action) (globals inputs chosen : List ℕ) (n : Named) → Kept program a
+    → AreOf old globals (map (λ g. g.sort) program.globals) → AreOf old inputs (map (λ q. q.sort) a.params) → AreOf old chosen (map (λ c. c.sort) a.choices)
+    → Grows old ns → IsNamed old ns a.outs globals inputs chosen n → Made sc program a a.choices globals inputs chosen n.zeros.items n.no
+    → Sees ns sc (guard_scope program a) (λ env. guard_values program.globals (store_at env old globals) a (values_at env old inputs) (values_at env old chosen))
+guard_sees old ns sc program a globals inputs chosen n k hg hi hc g is m =
+    let zeros = n.zeros.items in
+    let p = prepared old ns program a a.choices globals inputs chosen n hg hi hc g is in
+    let l = listed ns sc program a a.choices globals inputs chosen zeros n.no p m in
+    record {
+      fits = scope_fits ns sc program a a.choices globals inputs chosen zeros n.no p m (guard_scope program a)
+          (names_found ns program a a.choices globals inputs chosen zeros l) (olds_found ns program a a.choices globals inputs chosen zeros l k (λ name e. e));
+      means = λ env f.
+          scope_meant ns sc program a a.choices globals inputs chosen zeros n.no p m env f
+          ∙ ap₂ (λ (vs us : List Value). guard_values program.globals (record { values = vs }) a us (values_at env ns chosen))
+          (values_stay env old ns globals (map (λ q. q.sort) program.globals) hg g) (values_stay env old ns inputs (map (λ q. q.sort) a.params) hi g)
+          ∙ ap (λ (ws : List Value). guard_values program.globals (store_at env old globals) a (values_at env old inputs) ws) (values_stay env old ns chosen (map (λ c. c.sort) a.choices) hc g);
+    }
+
+-- ---- the gate and the guard
+
+module _ (old mid new : List Node) (sc : Scope) (program : Program) (a : Action) (k : Kept program a) (graph : IsGraph new) (g : Grows mid new) where
+  -- an expression that has the sort of bools
+  truth_is : (sorts : Sorts) (meaning : (ℕ → Value) → Meant) (e : Expr) (id : ℕ) → Sees mid sc sorts meaning → IsTyped sorts e → sort_of sorts e ≡ Some Truth → Means mid new sc e id
+      → ((env : ℕ → Value) → Fits env new → value_at env new id ≡ value.Bool (is_true (value_of (meaning env) e))) × (sort_at new id ≡ Some Truth)
+  truth_is sorts meaning e id sees typed sorted t =
+      let s : sort_at new id ≡ Some Truth = t.sorted sorts sees.fits typed ∙ sorted in (
+        λ env f.
             truth_value (value_at env new id) (nodes_have_their_sorts new graph env f id Truth s)
             ∙ ap (λ (v : Value). value.Bool (is_true v)) (t.is env f)
-            ∙ ap (λ (c : Meant). value.Bool (is_true (value_of c a.gate))) (scope_meant ns sc program a [] globals inputs [] zeros nay p m env (g.fits env f));
-        sort = s;
-        weighs = t.weighs (gate_scope program a) gate_fits (gate_typed program a k);
-      }
+            ∙ ap (λ (c : Meant). value.Bool (is_true (value_of c e))) (sees.means env (g.fits env f)),
+        s,
+      )
 
--- ---- the guard and the updates
+  pub gate_is : (globals inputs : List ℕ) (id : ℕ) → Sees mid sc (gate_scope program a) (λ env. gate_values program.globals (store_at env old globals) a (values_at env old inputs))
+      → Means mid new sc a.gate id → IsGate old new program a globals inputs id
+  unfolding gate_holds
+  gate_is globals inputs id sees t =
+      let h = truth_is (gate_scope program a) (λ env. gate_values program.globals (store_at env old globals) a (values_at env old inputs)) a.gate id sees (gate_typed program a k) (gate_sort program a k) t in
+      record { is = λ env f. h.0 env f; sort = h.1 }
 
-module _ (ns : List Node) (sc : Scope) (program : Program) (a : Action) (k : Kept program a) (globals inputs chosen zeros : List ℕ) (nay : ℕ)
-    (p : Prepared ns program a a.choices globals inputs chosen zeros nay) (m : Made sc program a a.choices globals inputs chosen zeros nay) where
-  pub guard_fits : ScopeFits ns sc (guard_scope program a)
-  guard_fits = scope_fits ns sc program a a.choices globals inputs chosen zeros nay p m (guard_scope program a)
-      (names_found ns program a a.choices globals inputs chosen zeros (listed_here ns sc program a a.choices globals inputs chosen zeros nay p m))
-      (olds_found ns program a a.choices globals inputs chosen zeros (listed_here ns sc program a a.choices globals inputs chosen zeros nay p m) k (λ name e. e))
+  pub guard_is : (globals inputs chosen : List ℕ) (id : ℕ) → Sees mid sc (guard_scope program a) (λ env. guard_values program.globals (store_at env old globals) a (values_at env old inputs) (values_at env old chosen))
+      → Means mid new sc a.guard id → IsGuard old new program a globals inputs chosen id
+  guard_is globals inputs chosen id sees t =
+      let h = truth_is (guard_scope program a) (λ env. guard_values program.globals (store_at env old globals) a (values_at env old inputs) (values_at env old chosen)) a.guard id sees (guard_typed program a k) (guard_sort program a k) t in
+      record { is = λ env f. h.0 env f; sort = h.1 }
 
-  pub guard_asks : HasTyping ns sc a.guard
-  guard_asks = (guard_scope program a, guard_fits, guard_typed program a k)
+-- ---- the offers and the updates
 
-  guard_meaning : (env : ℕ → Value) → Fits env ns → meant env ns sc ≡ guard_values program.globals (store_at env ns globals) a (values_at env ns inputs) (values_at env ns chosen)
-  guard_meaning env f = scope_meant ns sc program a a.choices globals inputs chosen zeros nay p m env f
+module _ (old mid new : List Node) (sc : Scope) (program : Program) (a : Action) (globals inputs : List ℕ) (g : Grows mid new) where
+  pub offers_are : (made : List ℕ) → Sees mid sc (gate_scope program a) (λ env. gate_values program.globals (store_at env old globals) a (values_at env old inputs))
+      → AreOffered mid new sc (gate_scope program a) a.choices made → AreOffers old new program a globals inputs made
+  offers_are made sees o = record {
+    values = λ env f. o.values env f ∙ ap (λ (s : Meant). map (λ (c : Choice). value_of s c.offer) a.choices) (sees.means env (g.fits env f));
+    sorts = o.are;
+  }
 
-  pub change_is : (mid new : List Node) (made : Instance) → IsGraph new → Grows ns mid → Means ns mid sc a.guard made.guard → Grows mid new → AreUpdated mid new sc program a (length a.updates) globals zeros made.globals made.outs → IsChange ns new program a globals inputs chosen made
-  change_is mid new made graph g t h u =
-      let fits : Grows ns new = grows_trans ns mid new g h in
-      let s0 : sort_at mid made.guard ≡ Some Truth = t.sorted (guard_scope program a) guard_fits (guard_typed program a k) ∙ guard_sort program a k in
-      let s : sort_at new made.guard ≡ Some Truth = h.sorts made.guard t.within ∙ s0 in
+  pub change_is : (chosen globals_then outs_then : List ℕ) (n : Named) → Sees mid sc (guard_scope program a) (λ env. guard_values program.globals (store_at env old globals) a (values_at env old inputs) (values_at env old chosen))
+      → AreOf old globals (map (λ q. q.sort) program.globals) → Grows old mid → IsNamed old mid a.outs globals inputs chosen n
+      → AreUpdated mid new sc program a (length a.updates) globals n.zeros.items globals_then outs_then → IsChange old new program a globals inputs chosen globals_then outs_then
+  change_is chosen globals_then outs_then n sees hg before is u =
       let all : take (length a.updates) a.updates ≡ a.updates = take_all (length a.updates) a.updates (omega arith) in
       record {
-        guard = λ env f.
-            truth_value (value_at env new made.guard) (nodes_have_their_sorts new graph env f made.guard Truth s)
-            ∙ ap (λ (v : Value). value.Bool (is_true v)) (h.values env made.guard t.within ∙ t.is env (h.fits env f))
-            ∙ ap (λ (c : Meant). value.Bool (is_true (value_of c a.guard))) (guard_meaning env (fits.fits env f));
         store = λ env f. ap (λ (vs : List Value). record { values = vs })
             (u.globals env f
             ∙ ap (λ (us : List Update). updated (global_names program.globals) (values_at env mid globals) (meant env mid sc) us) all
-            ∙ ap₂ (λ (vs : List Value) (c : Meant). updated (global_names program.globals) vs c a.updates) (values_stay env ns mid globals (map (λ q. q.sort) program.globals) p.globals_are g) (meant_stays env ns mid sc (guard_scope program a) guard_fits g ∙ guard_meaning env (fits.fits env f)));
+            ∙ ap₂ (λ (vs : List Value) (c : Meant). updated (global_names program.globals) vs c a.updates) (values_stay env old mid globals (map (λ q. q.sort) program.globals) hg before) (sees.means env (g.fits env f)));
         outs = λ env f.
             u.outs env f
-            ∙ ap (λ (us : List Update). updated (param_names a.outs) (values_at env mid zeros) (meant env mid sc) us) all
-            ∙ ap₂ (λ (vs : List Value) (c : Meant). updated (param_names a.outs) vs c a.updates) (values_stay env ns mid zeros (map (λ q. q.sort) a.outs) p.zeros_are g ∙ p.zero_values env (fits.fits env f)) (meant_stays env ns mid sc (guard_scope program a) guard_fits g ∙ guard_meaning env (fits.fits env f));
-        guard_sort = s;
+            ∙ ap (λ (us : List Update). updated (param_names a.outs) (values_at env mid n.zeros.items) (meant env mid sc) us) all
+            ∙ ap₂ (λ (vs : List Value) (c : Meant). updated (param_names a.outs) vs c a.updates) (is.zero_values env (g.fits env f)) (sees.means env (g.fits env f));
         global_sorts = u.global_sorts;
         out_sorts = u.out_sorts;
-        weighs = omega (arith, u.weighs, t.weighs (guard_scope program a) guard_fits (guard_typed program a k), ap (updates_weight (guard_scope program a)) all);
       }
 
--- ---- preparing
+-- ---- the terms of the names
 
-pub prepared : (old one two : List Node) (program : Program) (a : Action) (choices : List Choice) (globals inputs chosen zeros : List ℕ) (nay : ℕ)
-    → AreOf old globals (map (λ g. g.sort) program.globals) → AreOf old inputs (map (λ q. q.sort) a.params) → AreOf old chosen (map (λ c. c.sort) choices)
-    → Grows old one → Built old one nay (λ env. value.Bool false) (Some Truth) 0 → Grows one two → AreZeros one two a.outs zeros → Prepared two program a choices globals inputs chosen zeros nay
-prepared old one two program a choices globals inputs chosen zeros nay hg hi hc g b h z = record {
-  globals_are = are_stay old two globals (map (λ q. q.sort) program.globals) hg (grows_trans old one two g h);
-  inputs_are = are_stay old two inputs (map (λ q. q.sort) a.params) hi (grows_trans old one two g h);
-  chosen_are = are_stay old two chosen (map (λ c. c.sort) choices) hc (grows_trans old one two g h);
+pub named_is : (old one new : List Node) (outs : List Param) (globals inputs chosen : List ℕ) (n : Named) → n.values.items ≡ globals ++ (inputs ++ (chosen ++ n.zeros.items))
+    → Built old one n.no (λ env. value.Bool false) (Some Truth) 0 → Grows one new → AreZeros one new outs n.zeros.items → IsNamed old new outs globals inputs chosen n
+named_is old one new outs globals inputs chosen n e b h z = record {
+  all = e;
   zeros_are = z.sorts;
   zero_values = z.values;
-  no_sort = h.sorts nay b.within ∙ b.sorted;
-  no_value = λ env f. h.values env nay b.within ∙ b.is env (h.fits env f);
+  no_sort = h.sorts n.no b.within ∙ b.sorted;
+  no_value = λ env f. h.values env n.no b.within ∙ b.is env (h.fits env f);
+  weighs = omega (arith, b.weighs, z.weighs);
 }
-
-pub prepared_later : (old new : List Node) (program : Program) (a : Action) (choices : List Choice) (globals inputs chosen zeros : List ℕ) (nay : ℕ)
-    → Prepared old program a choices globals inputs chosen zeros nay → Grows old new → Prepared new program a choices globals inputs chosen zeros nay
-prepared_later old new program a choices globals inputs chosen zeros nay p g = record {
-  globals_are = are_stay old new globals (map (λ q. q.sort) program.globals) p.globals_are g;
-  inputs_are = are_stay old new inputs (map (λ q. q.sort) a.params) p.inputs_are g;
-  chosen_are = are_stay old new chosen (map (λ c. c.sort) choices) p.chosen_are g;
-  zeros_are = are_stay old new zeros (map (λ q. q.sort) a.outs) p.zeros_are g;
-  zero_values = λ env f. values_stay env old new zeros (map (λ q. q.sort) a.outs) p.zeros_are g ∙ p.zero_values env (g.fits env f);
-  no_sort = g.sorts nay (sorted_within old nay Truth p.no_sort) ∙ p.no_sort;
-  no_value = λ env f. g.values env nay (sorted_within old nay Truth p.no_sort) ∙ p.no_value env (g.fits env f);
-}
-
--- ---- all of it
-
-pub instance_is : (old one two three new : List Node) (program : Program) (a : Action) (globals inputs chosen zeros : List ℕ) (nay : ℕ) (made : Instance)
-    → AreOf old globals (map (λ g. g.sort) program.globals) → AreOf old inputs (map (λ q. q.sort) a.params) → AreOf old chosen (map (λ c. c.sort) a.choices)
-    → Grows old one → Built old one nay (λ env. value.Bool false) (Some Truth) 0 → Grows one two → AreZeros one two a.outs zeros
-    → Grows two three → IsGate two three program a globals inputs made.gate → made.gate < length three → Grows three new → IsChange three new program a globals inputs chosen made → IsInstance old new program a globals inputs chosen made
-instance_is old one two three new program a globals inputs chosen zeros nay made hg hi hc g1 b g2 z g3 gate within g4 change =
-    let to_two = grows_trans old one two g1 g2 in
-    let to_three = grows_trans old two three to_two g3 in
-    let gs = λ (env : ℕ → Value). values_stay env old three globals (map (λ q. q.sort) program.globals) hg to_three in
-    let is = λ (env : ℕ → Value). values_stay env old three inputs (map (λ q. q.sort) a.params) hi to_three in
-    let cs = λ (env : ℕ → Value). values_stay env old three chosen (map (λ c. c.sort) a.choices) hc to_three in
-    record {
-      gate = λ env f.
-          g4.values env made.gate within ∙ gate.is env (g4.fits env f)
-          ∙ ap₂ (λ (vs us : List Value). value.Bool (gate_holds program.globals (record { values = vs }) a us)) (values_stay env old two globals (map (λ q. q.sort) program.globals) hg to_two) (values_stay env old two inputs (map (λ q. q.sort) a.params) hi to_two);
-      guard = λ env f. change.guard env f ∙ moved env (λ (vs us ws : List Value). value.Bool (guard_holds program.globals (record { values = vs }) a us ws)) (gs env) (is env) (cs env);
-      store = λ env f. change.store env f ∙ moved env (λ (vs us ws : List Value). store_after program.globals (record { values = vs }) a us ws) (gs env) (is env) (cs env);
-      outs = λ env f. change.outs env f ∙ moved env (λ (vs us ws : List Value). outs_after program.globals (record { values = vs }) a us ws) (gs env) (is env) (cs env);
-      gate_sort = g4.sorts made.gate within ∙ gate.sort;
-      guard_sort = change.guard_sort;
-      global_sorts = change.global_sorts;
-      out_sorts = change.out_sorts;
-      weighs = omega (arith, b.weighs, z.weighs, gate.weighs, change.weighs);
-    }
-  where
-    moved : {B : Type 0} (env : ℕ → Value) (f : List Value → List Value → List Value → B)
-        → values_at env three globals ≡ values_at env old globals → values_at env three inputs ≡ values_at env old inputs → values_at env three chosen ≡ values_at env old chosen
-        → f (values_at env three globals) (values_at env three inputs) (values_at env three chosen) ≡ f (values_at env old globals) (values_at env old inputs) (values_at env old chosen)
-    moved env f p q r =
-        ap (λ (x : List Value). f x (values_at env three inputs) (values_at env three chosen)) p
-        ∙ ap (λ (x : List Value). f (values_at env old globals) x (values_at env three chosen)) q
-        ∙ ap (λ (x : List Value). f (values_at env old globals) (values_at env old inputs) x) r

@@ -28,7 +28,8 @@ use Rattle.civl_values.specs.Values.{sort_of_value}
 use Rattle.civl_values.specs.Operators.{literal_value}
 use Rattle.civl_terms.proofs.Soundness.{sort_is}
 use Rattle.civl_actions.proofs.Typing.{layer_typed}
-use Rattle.civl_actions.proofs.Building.{stands, means_from, weighs_from, fits_stay}
+use Rattle.civl_actions.proofs.Staying.{term_stays, term_since, fits_stay}
+use Rattle.civl_actions.proofs.Building.{weighs_from}
 
 -- ---- constants
 
@@ -137,8 +138,8 @@ means_widen old now new scope n a i id m g b = record {
 
 pub fits_two : (old mid now : List Node) (scope : Scope) (op : Two) (a b : Expr) (i j : ℕ) (h : HasTyping old scope (roll-Expr (expr.Two op a b))) → Means old mid scope a i → Grows old mid → Means mid now scope b j → Grows mid now → IsSome (two_sort op (sort_at now i) (sort_at now j))
 fits_two old mid now scope op a b i j h m g k l =
-    let p = stands old mid now scope a i m l in
-    let q = means_from old mid now scope h.0 b j h.1 g k in
+    let p = term_stays old mid now scope a i m l in
+    let q = term_since old mid now scope h.0 b j h.1 g k in
     let e : sort_at now i ≡ sort_of h.0 a = p.sorted h.0 h.1 ((typed_two h.0 op a b h.2).0) in
     let f : sort_at now j ≡ sort_of h.0 b = q.sorted h.0 h.1 ((typed_two h.0 op a b h.2).1) in
     subst (λ (o : Option Sort). IsSome (two_sort op o (sort_at now j))) (sym e)
@@ -147,8 +148,8 @@ fits_two old mid now scope op a b i j h m g k l =
 pub means_two : (old mid now new : List Node) (scope : Scope) (op : Two) (a b : Expr) (i j id : ℕ) (h : HasTyping old scope (roll-Expr (expr.Two op a b))) → Means old mid scope a i → Grows old mid → Means mid now scope b j → Grows mid now → Grows now new
     → Built now new id (λ env. two_value op (value_at env now i) (value_at env now j)) (two_sort op (sort_at now i) (sort_at now j)) (two_weight op (bits_in (sort_at now i))) → Means old new scope (roll-Expr (expr.Two op a b)) id
 means_two old mid now new scope op a b i j id h m g k l r built =
-    let p = stands old mid now scope a i m l in
-    let q = means_from old mid now scope h.0 b j h.1 g k in
+    let p = term_stays old mid now scope a i m l in
+    let q = term_since old mid now scope h.0 b j h.1 g k in
     record {
       within = built.within;
       is = λ env f. built.is env f ∙ ap₂ (λ (v u : Value). two_value op v u) (p.is env (r.fits env f)) (q.is env (r.fits env f)) ∙ sym (fold-roll-Expr Value (value_step (meant env old scope)) (expr.Two op a b));
@@ -160,8 +161,8 @@ means_two old mid now new scope op a b i j id h m g k l r built =
 
 pub fits_get : (old mid now : List Node) (scope : Scope) (a b : Expr) (i j : ℕ) (h : HasTyping old scope (roll-Expr (expr.Get a b))) → Means old mid scope a i → Grows old mid → Means mid now scope b j → Grows mid now → IsSome (get_sort (sort_at now i) (sort_at now j))
 fits_get old mid now scope a b i j h m g k l =
-    let p = stands old mid now scope a i m l in
-    let q = means_from old mid now scope h.0 b j h.1 g k in
+    let p = term_stays old mid now scope a i m l in
+    let q = term_since old mid now scope h.0 b j h.1 g k in
     let e : sort_at now i ≡ sort_of h.0 a = p.sorted h.0 h.1 ((typed_get h.0 a b h.2).0) in
     let f : sort_at now j ≡ sort_of h.0 b = q.sorted h.0 h.1 ((typed_get h.0 a b h.2).1) in
     subst (λ (o : Option Sort). IsSome (get_sort o (sort_at now j))) (sym e)
@@ -170,8 +171,8 @@ fits_get old mid now scope a b i j h m g k l =
 pub means_get : (old mid now new : List Node) (scope : Scope) (a b : Expr) (i j id : ℕ) (h : HasTyping old scope (roll-Expr (expr.Get a b))) → Means old mid scope a i → Grows old mid → Means mid now scope b j → Grows mid now → Grows now new
     → Built now new id (λ env. get_value (value_at env now i) (value_at env now j)) (get_sort (sort_at now i) (sort_at now j)) (get_weight (bits_in (sort_at now i))) → Means old new scope (roll-Expr (expr.Get a b)) id
 means_get old mid now new scope a b i j id h m g k l r built =
-    let p = stands old mid now scope a i m l in
-    let q = means_from old mid now scope h.0 b j h.1 g k in
+    let p = term_stays old mid now scope a i m l in
+    let q = term_since old mid now scope h.0 b j h.1 g k in
     record {
       within = built.within;
       is = λ env f. built.is env f ∙ ap₂ (λ (v u : Value). get_value v u) (p.is env (r.fits env f)) (q.is env (r.fits env f)) ∙ sym (fold-roll-Expr Value (value_step (meant env old scope)) (expr.Get a b));
@@ -183,8 +184,8 @@ means_get old mid now new scope a b i j id h m g k l r built =
 
 pub fits_join : (old mid now : List Node) (scope : Scope) (a b : Expr) (i j : ℕ) (h : HasTyping old scope (roll-Expr (expr.Join a b))) → Means old mid scope a i → Grows old mid → Means mid now scope b j → Grows mid now → IsSome (join_sort (sort_at now i) (sort_at now j))
 fits_join old mid now scope a b i j h m g k l =
-    let p = stands old mid now scope a i m l in
-    let q = means_from old mid now scope h.0 b j h.1 g k in
+    let p = term_stays old mid now scope a i m l in
+    let q = term_since old mid now scope h.0 b j h.1 g k in
     let e : sort_at now i ≡ sort_of h.0 a = p.sorted h.0 h.1 ((typed_join h.0 a b h.2).0) in
     let f : sort_at now j ≡ sort_of h.0 b = q.sorted h.0 h.1 ((typed_join h.0 a b h.2).1) in
     subst (λ (o : Option Sort). IsSome (join_sort o (sort_at now j))) (sym e)
@@ -193,8 +194,8 @@ fits_join old mid now scope a b i j h m g k l =
 pub means_join : (old mid now new : List Node) (scope : Scope) (a b : Expr) (i j id : ℕ) (h : HasTyping old scope (roll-Expr (expr.Join a b))) → Means old mid scope a i → Grows old mid → Means mid now scope b j → Grows mid now → Grows now new
     → Built now new id (λ env. join_value (value_at env now i) (value_at env now j)) (join_sort (sort_at now i) (sort_at now j)) (move_weight) → Means old new scope (roll-Expr (expr.Join a b)) id
 means_join old mid now new scope a b i j id h m g k l r built =
-    let p = stands old mid now scope a i m l in
-    let q = means_from old mid now scope h.0 b j h.1 g k in
+    let p = term_stays old mid now scope a i m l in
+    let q = term_since old mid now scope h.0 b j h.1 g k in
     record {
       within = built.within;
       is = λ env f. built.is env f ∙ ap₂ (λ (v u : Value). join_value v u) (p.is env (r.fits env f)) (q.is env (r.fits env f)) ∙ sym (fold-roll-Expr Value (value_step (meant env old scope)) (expr.Join a b));
@@ -209,9 +210,9 @@ means_join old mid now new scope a b i j id h m g k l r built =
 pub fits_pick : (old one two now : List Node) (scope : Scope) (c a b : Expr) (k i j : ℕ) (h : HasTyping old scope (roll-Expr (expr.Pick c a b))) → Means old one scope c k → Grows old one → Means one two scope a i → Grows one two → Means two now scope b j → Grows two now → IsSome (pick_sort (sort_at now k) (sort_at now i) (sort_at now j))
 fits_pick old one two now scope c a b k i j h mc gc ma ga mb gb =
     let g = grows_trans old one two gc ga in
-    let x = stands old one now scope c k mc (grows_trans one two now ga gb) in
-    let y = means_from old one two scope h.0 a i h.1 gc ma in
-    let z = means_from old two now scope h.0 b j h.1 g mb in
+    let x = term_stays old one now scope c k mc (grows_trans one two now ga gb) in
+    let y = term_since old one two scope h.0 a i h.1 gc ma in
+    let z = term_since old two now scope h.0 b j h.1 g mb in
     let d : sort_at now k ≡ sort_of h.0 c = x.sorted h.0 h.1 ((typed_pick h.0 c a b h.2).0) in
     let e : sort_at now i ≡ sort_of h.0 a = gb.sorts i y.within ∙ y.sorted h.0 h.1 ((typed_pick h.0 c a b h.2).1) in
     let f : sort_at now j ≡ sort_of h.0 b = z.sorted h.0 h.1 ((typed_pick h.0 c a b h.2).2) in
@@ -223,9 +224,9 @@ pub means_pick : (old one two now new : List Node) (scope : Scope) (c a b : Expr
     → Built now new id (λ env. pick_value (value_at env now k) (value_at env now i) (value_at env now j)) (pick_sort (sort_at now k) (sort_at now i) (sort_at now j)) (pick_weight (bits_in (sort_at now i))) → Means old new scope (roll-Expr (expr.Pick c a b)) id
 means_pick old one two now new scope c a b k i j id h mc gc ma ga mb gb r built =
     let g = grows_trans old one two gc ga in
-    let x = stands old one now scope c k mc (grows_trans one two now ga gb) in
-    let y = means_from old one two scope h.0 a i h.1 gc ma in
-    let z = means_from old two now scope h.0 b j h.1 g mb in
+    let x = term_stays old one now scope c k mc (grows_trans one two now ga gb) in
+    let y = term_since old one two scope h.0 a i h.1 gc ma in
+    let z = term_since old two now scope h.0 b j h.1 g mb in
     record {
       within = built.within;
       is = λ env f.
@@ -249,9 +250,9 @@ means_pick old one two now new scope c a b k i j id h mc gc ma ga mb gb r built 
 pub fits_set : (old one two now : List Node) (scope : Scope) (c a b : Expr) (k i j : ℕ) (h : HasTyping old scope (roll-Expr (expr.Set c a b))) → Means old one scope c k → Grows old one → Means one two scope a i → Grows one two → Means two now scope b j → Grows two now → IsSome (set_sort (sort_at now k) (sort_at now i) (sort_at now j))
 fits_set old one two now scope c a b k i j h mc gc ma ga mb gb =
     let g = grows_trans old one two gc ga in
-    let x = stands old one now scope c k mc (grows_trans one two now ga gb) in
-    let y = means_from old one two scope h.0 a i h.1 gc ma in
-    let z = means_from old two now scope h.0 b j h.1 g mb in
+    let x = term_stays old one now scope c k mc (grows_trans one two now ga gb) in
+    let y = term_since old one two scope h.0 a i h.1 gc ma in
+    let z = term_since old two now scope h.0 b j h.1 g mb in
     let d : sort_at now k ≡ sort_of h.0 c = x.sorted h.0 h.1 ((typed_set h.0 c a b h.2).0) in
     let e : sort_at now i ≡ sort_of h.0 a = gb.sorts i y.within ∙ y.sorted h.0 h.1 ((typed_set h.0 c a b h.2).1) in
     let f : sort_at now j ≡ sort_of h.0 b = z.sorted h.0 h.1 ((typed_set h.0 c a b h.2).2) in
@@ -263,9 +264,9 @@ pub means_set : (old one two now new : List Node) (scope : Scope) (c a b : Expr)
     → Built now new id (λ env. set_value (value_at env now k) (value_at env now i) (value_at env now j)) (set_sort (sort_at now k) (sort_at now i) (sort_at now j)) (set_weight (sort_at now k)) → Means old new scope (roll-Expr (expr.Set c a b)) id
 means_set old one two now new scope c a b k i j id h mc gc ma ga mb gb r built =
     let g = grows_trans old one two gc ga in
-    let x = stands old one now scope c k mc (grows_trans one two now ga gb) in
-    let y = means_from old one two scope h.0 a i h.1 gc ma in
-    let z = means_from old two now scope h.0 b j h.1 g mb in
+    let x = term_stays old one now scope c k mc (grows_trans one two now ga gb) in
+    let y = term_since old one two scope h.0 a i h.1 gc ma in
+    let z = term_since old two now scope h.0 b j h.1 g mb in
     record {
       within = built.within;
       is = λ env f.

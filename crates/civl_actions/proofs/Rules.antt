@@ -10,6 +10,7 @@ use Rattle.civl_tree.specs.declared.name.Name.{Name}
 use Rattle.civl_tree.specs.declared.expr.Sort.{Sort}
 use Rattle.civl_tree.specs.declared.expr.Sort.TheVariants.{Bool as Truth, Word, Row}
 use Rattle.civl_tree.specs.declared.action.Action.{Action}
+use Rattle.civl_tree.specs.declared.action.Choice.{Choice}
 use Rattle.civl_tree.specs.declared.action.Param.{Param}
 use Rattle.civl_tree.specs.declared.action.Update.{Update}
 use Rattle.civl_tree.specs.declared.program.Program.{Program}
@@ -114,6 +115,9 @@ module _ (program : Program) (a : Action) (k : Kept program a) where
       let d = or_parts (p (truth_use (guard_scope program a) a.guard)) _ c.1 in
       (c.0, d.0, d.1)
 
+  offered : (p : Use → Bool) → list_any p (action_uses program a) ≡ false → list_any p offers ≡ false
+  offered p e = (any_append p offers two e).0
+
   gate_sound : Sound (truth_use (gate_scope program a) a.gate)
   gate_sound = record { serves_it = not-false _ (rest missorted k.sorted).0; widths_it = not-false _ (rest miswide wide).0; indices_it = not-false _ (rest misindexed indexed).0 }
 
@@ -129,6 +133,15 @@ module _ (program : Program) (a : Action) (k : Kept program a) where
         indices_it = not-false _ (any_map misindexed f a.updates (rest misindexed indexed).2 i u at);
       }
 
+  offer_sound : (i : ℕ) (c : Choice) → slice_get a.choices i ≡ Some c → Sound (target_use (gate_scope program a) c.offer (Some c.sort))
+  offer_sound i c at =
+      let f = λ (d : Choice). target_use (gate_scope program a) d.offer (Some d.sort) in
+      record {
+        serves_it = not-false _ (any_map missorted f a.choices (offered missorted k.sorted) i c at);
+        widths_it = not-false _ (any_map miswide f a.choices (offered miswide wide) i c at);
+        indices_it = not-false _ (any_map misindexed f a.choices (offered misindexed indexed) i c at);
+      }
+
   pub gate_typed : IsTyped (gate_scope program a) a.gate
   gate_typed = typed_use (truth_use (gate_scope program a) a.gate) gate_sound
 
@@ -140,6 +153,13 @@ module _ (program : Program) (a : Action) (k : Kept program a) where
 
   pub guard_sort : sort_of (guard_scope program a) a.guard ≡ Some Truth
   guard_sort = served_only (sort_of (guard_scope program a) a.guard) Truth guard_sound.serves_it
+
+  pub offer_typed : (i : ℕ) (c : Choice) → slice_get a.choices i ≡ Some c → IsTyped (gate_scope program a) c.offer
+  offer_typed i c at = typed_use (target_use (gate_scope program a) c.offer (Some c.sort)) (offer_sound i c at)
+
+  -- an offer has its choice's sort
+  pub offer_sorted : (i : ℕ) (c : Choice) → slice_get a.choices i ≡ Some c → sort_of (gate_scope program a) c.offer ≡ Some c.sort
+  offer_sorted i c at = served_only (sort_of (gate_scope program a) c.offer) c.sort (offer_sound i c at).serves_it
 
   pub update_typed : (i : ℕ) (u : Update) → slice_get a.updates i ≡ Some u → IsTyped (guard_scope program a) u.expr
   update_typed i u at = typed_use (target_use (guard_scope program a) u.expr (update_sort program a u.target)) (change_sound i u at)

@@ -1,32 +1,16 @@
--- The terms of an action at given terms for the globals, its parameters and its choices.
-use Rattle.std.specs.Prelude.{◌≡◌, ℕ, ◌+◌, ◌≤◌, List, [], ◌∷◌, map, Some}
+-- The terms of an action and of its parts, at given terms for the globals, its parameters and its choices.
+use Rattle.std.specs.Prelude.{◌≡◌, ℕ, List, map, Some}
 use Rattle.civl_bits.specs.declared.value.Value.{Value}
 use Rattle.civl_bits.specs.declared.value.Value.TheVariants as value
 use Rattle.civl_tree.specs.declared.expr.Sort.TheVariants.{Bool as Truth}
 use Rattle.civl_tree.specs.declared.action.Action.{Action}
-use Rattle.civl_tree.specs.declared.action.Update.{Update}
 use Rattle.civl_tree.specs.declared.program.Program.{Program}
-use Rattle.civl_tree.specs.rules.Scopes.{Scope as Sorts, gate_scope, guard_scope}
-use Rattle.civl_values.specs.Weights.{weight_of}
 use Rattle.civl_firing.specs.declared.store.Store.{Store}
-use Rattle.civl_firing.specs.Fired.{gate_holds, guard_holds, store_after, outs_after}
+use Rattle.civl_firing.specs.Fired.{gate_holds, guard_holds, offers, store_after, outs_after}
 use Rattle.civl_terms.specs.declared.node.Node.{Node}
 use Rattle.civl_terms.specs.Graphs.{value_at, sort_at, Fits}
-use Rattle.civl_terms.specs.Weights.{graph_weight}
 use Rattle.civl_actions.specs.declared.made.Instance.{Instance}
 use Rattle.civl_actions.specs.Scopes.{AreOf}
-
--- ---- weights
-
-abbrev pub updates_weight : Sorts → List Update → ℕ
-updates_weight sorts [] = 0
-updates_weight sorts (u ∷ us) = weight_of sorts u.expr + updates_weight sorts us
-
--- the weight of an action: that of its gate, its guard and its updates
-abbrev pub action_weight : Program → Action → ℕ
-action_weight program action =
-    weight_of (gate_scope program action) action.gate + weight_of (guard_scope program action) action.guard
-    + updates_weight (guard_scope program action) action.updates
 
 -- ---- values
 
@@ -37,16 +21,34 @@ values_at env ns ids = map (value_at env ns) ids
 abbrev pub store_at : (ℕ → Value) → List Node → List ℕ → Store
 store_at env ns ids = record { values = values_at env ns ids }
 
--- the terms' values are whether the gate holds and whether the guard does, and what the globals and the outputs are after
--- the updates, which are all made at once; their sorts are those of these; and the graph's weight rises by at most the
--- action's
+-- ---- the parts: a new graph's terms, at terms of the old one
+
+-- the term's value is whether the gate holds
+pub record IsGate (old new : List Node) (program : Program) (action : Action) (globals inputs : List ℕ) (id : ℕ) : Type 0 where
+  pub is : (env : ℕ → Value) → Fits env new → value_at env new id ≡ value.Bool (gate_holds program.globals (store_at env old globals) action (values_at env old inputs))
+  pub sort : sort_at new id ≡ Some Truth
+
+-- the term's value is whether the guard holds
+pub record IsGuard (old new : List Node) (program : Program) (action : Action) (globals inputs choices : List ℕ) (id : ℕ) : Type 0 where
+  pub is : (env : ℕ → Value) → Fits env new → value_at env new id ≡ value.Bool (guard_holds program.globals (store_at env old globals) action (values_at env old inputs) (values_at env old choices))
+  pub sort : sort_at new id ≡ Some Truth
+
+-- the terms' values are those that are offered for the choices, one for each
+pub record AreOffers (old new : List Node) (program : Program) (action : Action) (globals inputs ids : List ℕ) : Type 0 where
+  pub values : (env : ℕ → Value) → Fits env new → values_at env new ids ≡ offers program.globals (store_at env old globals) action (values_at env old inputs)
+  pub sorts : AreOf new ids (map (λ c. c.sort) action.choices)
+
+-- the terms' values are what the globals and the outputs are after the updates, which are all made at once
+pub record IsChange (old new : List Node) (program : Program) (action : Action) (globals inputs choices globals_then outs_then : List ℕ) : Type 0 where
+  pub store : (env : ℕ → Value) → Fits env new → store_at env new globals_then ≡ store_after program.globals (store_at env old globals) action (values_at env old inputs) (values_at env old choices)
+  pub outs : (env : ℕ → Value) → Fits env new → values_at env new outs_then ≡ outs_after program.globals (store_at env old globals) action (values_at env old inputs) (values_at env old choices)
+  pub global_sorts : AreOf new globals_then (map (λ g. g.sort) program.globals)
+  pub out_sorts : AreOf new outs_then (map (λ p. p.sort) action.outs)
+
+-- ---- all of them
+
+-- the terms are those of the gate, of the guard, and of the globals and the outputs after the updates
 pub record IsInstance (old new : List Node) (program : Program) (action : Action) (globals inputs choices : List ℕ) (made : Instance) : Type 0 where
-  pub gate : (env : ℕ → Value) → Fits env new → value_at env new made.gate ≡ value.Bool (gate_holds program.globals (store_at env old globals) action (values_at env old inputs))
-  pub guard : (env : ℕ → Value) → Fits env new → value_at env new made.guard ≡ value.Bool (guard_holds program.globals (store_at env old globals) action (values_at env old inputs) (values_at env old choices))
-  pub store : (env : ℕ → Value) → Fits env new → store_at env new made.globals ≡ store_after program.globals (store_at env old globals) action (values_at env old inputs) (values_at env old choices)
-  pub outs : (env : ℕ → Value) → Fits env new → values_at env new made.outs ≡ outs_after program.globals (store_at env old globals) action (values_at env old inputs) (values_at env old choices)
-  pub gate_sort : sort_at new made.gate ≡ Some Truth
-  pub guard_sort : sort_at new made.guard ≡ Some Truth
-  pub global_sorts : AreOf new made.globals (map (λ g. g.sort) program.globals)
-  pub out_sorts : AreOf new made.outs (map (λ p. p.sort) action.outs)
-  pub weighs : graph_weight new ≤ graph_weight old + action_weight program action
+  pub gate : IsGate old new program action globals inputs made.gate
+  pub guard : IsGuard old new program action globals inputs choices made.guard
+  pub change : IsChange old new program action globals inputs choices made.globals made.outs

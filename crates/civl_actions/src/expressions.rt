@@ -20,6 +20,9 @@ fn term_at(ids: &[Id], at: usize) -> Id
 
 /// The term of an expression, where the names stand for these terms.
 ///
+/// The expression has a sort, where the names have those of their terms. Its term has its value and its sort, and the graph's
+/// weight rises by at most the expression's.
+///
 /// # Errors
 ///
 /// For want of memory; the nodes before stay.

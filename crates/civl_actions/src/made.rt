@@ -11,3 +11,10 @@ pub struct Instance {
     pub globals: List<Id>,
     pub outs: List<Id>,
 }
+
+/// The terms of what an action's updates give: the globals after them, and its outputs.
+#[derive(Drop)]
+pub struct Changed {
+    pub globals: List<Id>,
+    pub outs: List<Id>,
+}

@@ -5,10 +5,10 @@ use Rattle.civl_tree.specs.rules.Names.{global_names, param_names}
 use Rattle.civl_firing.specs.Truth.{place_of}
 use Rattle.civl_terms.proofs.Growing.{grows_trans}
 use Rattle.civl_actions.specs.Steps.{AreUpdated}
-use Rattle.civl_actions.proofs.Building.{fits_stay}
+use Rattle.civl_actions.proofs.Staying.{fits_stay}
 use Rattle.civl_actions.proofs.Rules.{kept, update_typed}
 use Rattle.civl_actions.proofs.Listing.{item_at, updated_more}
-use Rattle.civl_actions.proofs.actions.update.Goals as goal
+use Rattle.civl_actions.proofs.parts.update.Goals as goal
 
 pub term-requires : goal.term-requires
 term-requires c =

@@ -1,7 +1,7 @@
 use Rattle.std.proofs.Common.{arith}
 use Rattle.civl_terms.proofs.Growing.{grows_trans}
 use Rattle.civl_actions.proofs.Listing.{zeros_step}
-use Rattle.civl_actions.proofs.actions.zeros.Goals as goal
+use Rattle.civl_actions.proofs.named.zeros.Goals as goal
 
 pub returns-in_err-push-clause-grows : goal.returns-in_err-push-clause-grows
 returns-in_err-push-clause-grows c = grows_trans _ _ _ c.loop-out.invariant.1 c.in_ok-id.ensures.grows
