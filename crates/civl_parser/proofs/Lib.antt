@@ -1,9 +1,3 @@
-pub mod OfNames
-pub mod Lists
-pub mod OfExprs
-pub mod OfStmts
-pub mod OfActions
-pub mod OfProcs
 pub mod Nests
 pub mod OfPrograms
 pub mod Shallow

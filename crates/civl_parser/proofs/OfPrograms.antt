@@ -1,13 +1,11 @@
--- Declarations and programs are read as they are spelled.
+-- Programs are read as they are spelled.
 use Rattle.std.proofs.Common.{◌≡◌, ℕ, Bool, true, false, List, [], ◌∷◌, ◌++◌, map, Some, refl, sym, ap, subst, ◌∙◌, append_assoc, append-nil}
-use Rattle.std.specs.Prelude.{codes, IsTrue, ◌==◌}
+use Rattle.std.specs.Prelude.{codes, ◌==◌}
 use Rattle.std.specs.List.{AllByRecursion, list_all}
 use Rattle.civl_tree.specs.Token.{Token, Reserved, Number}
-use Rattle.civl_tree.specs.Spelling.{semicolon, colon, name_token, joined, spell_sort}
+use Rattle.civl_tree.specs.Spelling.{semicolon, joined}
 use Rattle.civl_tree.specs.SpellingProgram.{spell_global, spell_init, spell_invariant, spell_action, spell_proc, spell_thread, spell_program}
-use Rattle.civl_tree.specs.SpellingDomain.{allows_name, allows_expr, allows_global, allows_invariant, allows_action, allows_proc, allows_thread, HasSpelling}
-use Rattle.civl_tree.specs.declared.name.Name.{Name}
-use Rattle.civl_tree.specs.declared.expr.Sort.{Sort}
+use Rattle.civl_tree.specs.SpellingDomain.{allows_expr, allows_global, allows_invariant, allows_action, allows_proc, allows_thread, HasSpelling}
 use Rattle.civl_tree.specs.declared.expr.Expr.{Expr}
 use Rattle.civl_tree.specs.declared.action.Action.{Action}
 use Rattle.civl_tree.specs.declared.program.Global.{Global}
@@ -21,63 +19,23 @@ use Rattle.civl_phrases.specs.List.{repeated}
 use Rattle.civl_phrases.specs.Phrase.{Any, AtEnd, IsReader, Heads}
 use Rattle.civl_phrases.proofs.Joins.{both_is, mapped_is}
 use Rattle.civl_phrases.proofs.Tokens.{after_is, then_is, ended_is}
-use Rattle.civl_phrases.proofs.Lists.{repeated_is, flagged_is}
+use Rattle.civl_phrases.proofs.Lists.{repeated_is}
 use Rattle.civl_phrases.proofs.Heads.{heads_mapped, heads_repeated, heads_end}
 use Rattle.civl_phrases.proofs.Tables.{and_parts, and_join}
 use Rattle.civl_phrases.proofs.Leaves.{number_is}
 use Rattle.civl_parser.specs.declared.program.Header.{Header}
 use Rattle.civl_parser.specs.declared.program.Claims.{Claims}
 use Rattle.civl_parser.specs.declared.program.Bodies.{Bodies}
-use Rattle.civl_parser.specs.readers.Names.{FitsName}
-use Rattle.civl_parser.specs.readers.Exprs.{FitsExpr}
-use Rattle.civl_parser.specs.readers.Actions.{action_word, action_at}
-use Rattle.civl_parser.specs.readers.Procs.{proc_word, proc_at}
-use Rattle.civl_parser.specs.readers.Programs.{global_word, invariant_word, thread_word, make_global, global_at, init_at, make_invariant, invariant_at, make_thread, thread_at, number_line_at, sizes_at, make_header, header_at, make_bodies, bodies_at, make_claims, claims_at, make_program, program_at, program_text_at}
-use Rattle.civl_parser.proofs.Lists.{all_from, all_to}
+use Rattle.civl_expressions.specs.readers.Exprs.{FitsExpr}
+use Rattle.civl_declarations.specs.readers.Actions.{action_word, action_at}
+use Rattle.civl_statements.specs.readers.Procs.{proc_word, proc_at}
+use Rattle.civl_declarations.specs.readers.Declarations.{global_word, invariant_word, thread_word, global_at, init_at, invariant_at, thread_at}
+use Rattle.civl_parser.specs.readers.Programs.{number_line_at, sizes_at, make_header, header_at, make_bodies, bodies_at, make_claims, claims_at, make_program, program_at, program_text_at}
+use Rattle.civl_expressions.proofs.Lists.{all_from, all_to}
 use Rattle.civl_parser.proofs.Nests.{nested}
-use Rattle.civl_parser.proofs.OfNames.{name_is}
-use Rattle.civl_parser.proofs.OfExprs.{sort_is, expr_is}
-use Rattle.civl_parser.proofs.OfStmts.{args_is}
-use Rattle.civl_parser.proofs.OfActions.{spell_range, range_is, FitsAction, action_is}
-use Rattle.civl_parser.proofs.OfProcs.{FitsProc, proc_is}
-
--- ---- declarations
-
-abbrev FitsGlobal : Global → Type 0
-FitsGlobal g = IsTrue (allows_global g)
-
-abbrev global_rest : Name × (Sort × (ℕ × ℕ)) → List Token
-global_rest p = name_token p.0 ∷ colon ∷ (spell_sort p.1.0 ++ (spell_range p.1.1 ++ semicolon ∷ []))
-
-abbrev RestFits : Name × (Sort × (ℕ × ℕ)) → Type 0
-RestFits p = FitsName p.0 × (Unit {0} × (Unit {0} × Unit {0}))
-
-global_is : (d : ℕ) → IsReader d d Any spell_global FitsGlobal (global_at d)
-unfolding global_at
-global_is d = mapped_is make_global spell_global FitsGlobal (λ p h. refl) (λ p h. h.0) (λ g h. ((g.linear, (g.name, (g.sort, (g.first, g.last)))), refl, (h, (tt, (tt, tt)))))
-    (after_is d global_word refl refl (flagged_is {s = global_rest} {f = RestFits} (Reserved (codes "linear")) refl refl (record { next = λ p rest fits ends. refl })
-    (both_is (name_is d) (λ _. after_is d colon refl refl (both_is (sort_is d) (λ _. then_is {s = spell_range} d semicolon refl refl (range_is d)))))))
-
-init_is : (new : Bool) (d : ℕ) → IsReader d d Any spell_init (FitsExpr new) (init_at new d)
-unfolding init_at
-init_is new d = after_is d (Reserved (codes "init")) refl refl (then_is d semicolon refl refl (expr_is new d))
-
-abbrev FitsInvariant : Bool → Invariant → Type 0
-FitsInvariant new i = IsTrue (allows_invariant new i)
-
-invariant_is : (new : Bool) (d : ℕ) → IsReader d d Any spell_invariant (FitsInvariant new) (invariant_at new d)
-unfolding invariant_at
-invariant_is new d = mapped_is make_invariant spell_invariant (FitsInvariant new) (λ p h. refl) (λ p h. h.1) (λ i h. ((i.step, i.expr), refl, (tt, h)))
-    (after_is d invariant_word refl refl (both_is (number_is d) (λ _. then_is d semicolon refl refl (expr_is new d))))
-
-abbrev FitsThread : Bool → Thread → Type 0
-FitsThread new t = IsTrue (allows_thread new t)
-
-thread_is : (new : Bool) (d : ℕ) → IsReader d d Any spell_thread (FitsThread new) (thread_at new d)
-unfolding thread_at
-thread_is new d = mapped_is make_thread spell_thread (FitsThread new) (λ p h. refl) (λ p h. and_join (allows_name p.0) _ h.0 (all_from (allows_expr new) p.1 h.1))
-    (λ t h. let k = and_parts (allows_name t.callee) _ h in ((t.callee, t.args), refl, (k.0, all_to (allows_expr new) t.args k.1)))
-    (after_is d thread_word refl refl (both_is (name_is d) (λ _. then_is d semicolon refl refl (args_is new d))))
+use Rattle.civl_declarations.proofs.OfActions.{FitsAction, action_is}
+use Rattle.civl_statements.proofs.OfProcs.{FitsProc, proc_is}
+use Rattle.civl_declarations.proofs.OfDeclarations.{FitsGlobal, global_is, init_is, FitsInvariant, invariant_is, FitsThread, thread_is}
 
 -- ---- the header
 

@@ -5,11 +5,10 @@ ghost use Rattle.civl_lex.specs.Spelled.{spelled};
 ghost use Rattle.civl_phrases.specs.Reader.{Gives};
 ghost use Rattle.civl_parser.specs.readers.Programs.{number_line_at, sizes_at, header_at, bodies_at, claims_at, make_program, program_at, program_text_at};
 
-use crate::actions::ActionPhrase;
-use crate::declarations::{GlobalPhrase, InvariantPhrase, ThreadPhrase, init};
-use crate::procedures::ProcPhrase;
+use civl_declarations::{ActionPhrase, GlobalPhrase, InvariantPhrase, ThreadPhrase, init};
 use civl_lex::Token;
 use civl_phrases::{Halt, end, many, number, sign, word};
+use civl_statements::ProcPhrase;
 use civl_tree::{Action, Expr, Global as GlobalItem, Invariant, List, Proc, Program, Thread};
 use std::alloc::Global;
 

@@ -1,0 +1,3 @@
+pub mod OfActions
+pub mod OfDeclarations
+pub mod OfSteps

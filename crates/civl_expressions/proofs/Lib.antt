@@ -1,0 +1,4 @@
+pub mod OfNames
+pub mod Lists
+pub mod OfExprs
+pub mod OfHeadings

@@ -1,5 +1,0 @@
-use Rattle.civl_parser.proofs.OfExprs.{inner_expr_at}
-use Rattle.civl_parser.proofs.expressions.+expr.Goals as goal
-
-pub inner-returns : goal.inner-returns
-inner-returns t c = rw (inner_expr_at c.args.new c.args.most c.requires) c.expr.ensures

@@ -1,0 +1,2 @@
+pub mod OfStmts
+pub mod OfProcs

@@ -1,0 +1,4 @@
+-- How the code reads each phrase, with readers of civl_phrases. The grammar is the spelling of civl_tree. That these
+-- readers read what it spells, and nothing else, is proved (proofs/), and `parse` of civl_parser says it of whole texts.
+pub mod Stmts
+pub mod Procs
