@@ -1,0 +1,6 @@
+pub mod Saying
+pub mod Listing
+pub mod Giving
+pub mod Masks
+pub mod Carrying
+pub mod CarriedWeights

@@ -1,0 +1,4 @@
+pub mod Said
+pub mod Lists
+pub mod Given
+pub mod Masks
