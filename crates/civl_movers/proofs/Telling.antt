@@ -1,0 +1,59 @@
+-- What conditions on actions come to, as tests that are all true.
+use Rattle.std.specs.Prelude.{if◌then◌else◌}
+use Rattle.std.proofs.Common.{◌≡◌, ◌∙◌, ℕ, ◌-◌, Bool, true, false, ◌&&◌, not, List, refl, sym, ap, Some, None}
+use Rattle.civl_bits.specs.declared.value.Value.{Value}
+use Rattle.civl_tree.specs.declared.action.Action.{Action}
+use Rattle.civl_tree.specs.declared.program.Program.{Program}
+use Rattle.civl_firing.specs.declared.store.Store.{Store}
+use Rattle.civl_firing.specs.Fired.{gate_holds, guard_holds, store_after, outs_after, fires}
+use Rattle.civl_conditions.specs.Movers.{on_some, spoils, reveals, clashes}
+use Rattle.civl_conditions.specs.Values.{same_values, same_stores}
+use Rattle.civl_footprints.specs.Agreement.{exists_at}
+use Rattle.civl_movers.specs.Runs.{invoke}
+use Rattle.civl_movers.specs.Ends.{end_alike}
+
+fires_where : (guard : Bool) (s : Store × List Value) (test : Store × List Value → Bool) → on_some (if guard then Some s else None) test ≡ (guard && test s)
+fires_where true s test = refl
+fires_where false s test = refl
+
+pub fires_is : (program : Program) (g : Store) (a : Action) (i c : List Value) (test : Store × List Value → Bool)
+    → on_some (fires program.globals g a i c) test ≡ (guard_holds program.globals g a i c && test (store_after program.globals g a i c, outs_after program.globals g a i c))
+unfolding fires
+fires_is program g a i c test = fires_where (guard_holds program.globals g a i c) (store_after program.globals g a i c, outs_after program.globals g a i c) test
+
+true_last : (a : Bool) → (a && true) ≡ a
+true_last true = refl
+true_last false = refl
+
+pub spoils_is : (program : Program) (g : Store) (a b : Action) (i c j d : List Value)
+    → (gate_holds program.globals g a i && (gate_holds program.globals g b j && (guard_holds program.globals g a i c && (not (gate_holds program.globals (store_after program.globals g a i c) b j) && true))))
+    ≡ spoils program g (invoke a i c) (invoke b j d)
+spoils_is program g a b i c j d =
+    ap (λ (t : Bool). gate_holds program.globals g a i && (gate_holds program.globals g b j && t))
+    (ap (λ (t : Bool). guard_holds program.globals g a i c && t) (true_last (not (gate_holds program.globals (store_after program.globals g a i c) b j)))
+    ∙ sym (fires_is program g a i c (λ s. not (gate_holds program.globals s.0 b j))))
+
+pub reveals_is : (program : Program) (g : Store) (a b : Action) (i c j d : List Value)
+    → (gate_holds program.globals g a i && (not (gate_holds program.globals g b j) && (guard_holds program.globals g a i c && (gate_holds program.globals (store_after program.globals g a i c) b j && true))))
+    ≡ reveals program g (invoke a i c) (invoke b j d)
+reveals_is program g a b i c j d =
+    ap (λ (t : Bool). gate_holds program.globals g a i && (not (gate_holds program.globals g b j) && t))
+    (ap (λ (t : Bool). guard_holds program.globals g a i c && t) (true_last (gate_holds program.globals (store_after program.globals g a i c) b j))
+    ∙ sym (fires_is program g a i c (λ s. gate_holds program.globals s.0 b j)))
+
+pub clashes_is : (program : Program) (step : ℕ) (g : Store) (a b : Action) (i c j d : List Value)
+    → (gate_holds program.globals g a i && (gate_holds program.globals g b j && (guard_holds program.globals g a i c
+    && (gate_holds program.globals (store_after program.globals g a i c) b j && (guard_holds program.globals (store_after program.globals g a i c) b j d
+    && (not (end_alike program (step - 1) g a i c b j d) && true))))))
+    ≡ clashes program step g (invoke a i c) (invoke b j d)
+clashes_is program step g a b i c j d =
+    let gs = program.globals in
+    let s = store_after gs g a i c in
+    let t = store_after gs g b j d in
+    let same = same_stores (exists_at (step - 1)) program (store_after gs s b j d) (store_after gs t a i c) && (same_values (outs_after gs g a i c) (outs_after gs t a i c) && same_values (outs_after gs s b j d) (outs_after gs g b j d)) in
+    let alike : on_some (fires gs g b j d) (λ z. on_some (fires gs z.0 a i c) (λ w. same_stores (exists_at (step - 1)) program (store_after gs s b j d) w.0 && (same_values (outs_after gs g a i c) w.1 && same_values (outs_after gs s b j d) z.1))) ≡ end_alike program (step - 1) g a i c b j d =
+    fires_is program g b j d (λ z. on_some (fires gs z.0 a i c) (λ w. same_stores (exists_at (step - 1)) program (store_after gs s b j d) w.0 && (same_values (outs_after gs g a i c) w.1 && same_values (outs_after gs s b j d) z.1)))
+    ∙ ap (λ (x : Bool). guard_holds gs g b j d && x) (fires_is program t a i c (λ w. same_stores (exists_at (step - 1)) program (store_after gs s b j d) w.0 && (same_values (outs_after gs g a i c) w.1 && same_values (outs_after gs s b j d) (outs_after gs g b j d)))) in
+    ap (λ (x : Bool). gate_holds gs g a i && (gate_holds gs g b j && x))
+    (ap (λ (x : Bool). guard_holds gs g a i c && (gate_holds gs s b j && (guard_holds gs s b j d && x))) (true_last (not (end_alike program (step - 1) g a i c b j d)) ∙ ap not (sym alike))
+    ∙ sym (fires_is program g a i c (λ y. gate_holds gs y.0 b j && on_some (fires gs y.0 b j d) (λ u. not (on_some (fires gs g b j d) (λ z. on_some (fires gs z.0 a i c) (λ w. same_stores (exists_at (step - 1)) program u.0 w.0 && (same_values y.1 w.1 && same_values u.1 z.1)))))) ∙ ap (λ (x : Bool). guard_holds gs g a i c && (gate_holds gs s b j && x)) (fires_is program s b j d (λ u. not (on_some (fires gs g b j d) (λ z. on_some (fires gs z.0 a i c) (λ w. same_stores (exists_at (step - 1)) program u.0 w.0 && (same_values (outs_after gs g a i c) w.1 && same_values u.1 z.1))))))))
