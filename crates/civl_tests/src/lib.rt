@@ -6,15 +6,9 @@ mod codes;
 #[cfg(test)]
 mod devices;
 #[cfg(test)]
-mod ends;
-#[cfg(test)]
 mod entries;
 #[cfg(test)]
-mod flattening;
-#[cfg(test)]
 mod folding;
-#[cfg(test)]
-mod graphs;
 #[cfg(test)]
 mod instances;
 #[cfg(test)]
@@ -27,8 +21,6 @@ mod measuring;
 mod models;
 #[cfg(test)]
 mod parsing;
-#[cfg(test)]
-mod phrases;
 #[cfg(test)]
 mod replays;
 #[cfg(test)]
