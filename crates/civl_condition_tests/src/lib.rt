@@ -7,3 +7,5 @@ mod layering;
 mod lists;
 #[cfg(test)]
 mod meeting;
+#[cfg(test)]
+mod weights;

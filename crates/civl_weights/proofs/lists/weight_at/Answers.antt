@@ -1,0 +1,10 @@
+use Rattle.std.proofs.Common.{Some, None, sym}
+use Rattle.civl_weights.proofs.Acting.{got}
+use Rattle.civl_weights.proofs.Listing.{found_at, none_at}
+use Rattle.civl_weights.proofs.lists.weight_at.Goals as goal
+
+pub returns-in-Some : goal.returns-in-Some
+returns-in-Some c = found_at (sym (got c.args.weights.now c.args.at (Some c.in-Some.weight) c.in-Some.ensures.lookup))
+
+pub returns-in-None : goal.returns-in-None
+returns-in-None c = none_at (sym (got c.args.weights.now c.args.at None c.in-None.ensures.lookup)) c.of.ensures
