@@ -7,5 +7,3 @@ mod layering;
 mod lists;
 #[cfg(test)]
 mod meeting;
-#[cfg(test)]
-mod weights;
