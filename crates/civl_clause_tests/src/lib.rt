@@ -4,8 +4,6 @@
 #[cfg(test)]
 mod circuits;
 #[cfg(test)]
-mod clauses;
-#[cfg(test)]
 mod dimacs;
 #[cfg(test)]
 mod logs;

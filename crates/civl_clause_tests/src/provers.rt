@@ -205,9 +205,27 @@ fn probing(rt: HostRuntime) -> Result<(), Fail> {
     Ok(())
 }
 
-/// The kind of what a portfolio of a probe of these tries and a splitter to a depth finds, with no budget for the house. Both stay.
+/// The kind of what these provers find, with no budget for the house; nothing where it is spent, or where one of them was dropped.
+fn asked(
+    alloc: Global,
+    provers: &mut Vec<Box<dyn Prover>>,
+    cnf: &Cnf,
+) -> Result<Option<Found>, AllocError> {
+    let Ok(asked) = ask(alloc, provers, cnf, 0) else {
+        return Err(AllocError);
+    };
+    if asked.retired != 0 {
+        return Ok(None);
+    }
+    match &asked.outcome {
+        Outcome::Sat(_) => Ok(Some(Found::Sat)),
+        Outcome::Unsat(_) => Ok(Some(Found::Unsat)),
+        Outcome::Spent(_) => Ok(None),
+    }
+}
+
+/// What a portfolio of a probe of these tries and a splitter to a depth finds.
 fn asked_of(
-    rt: &impl Abort,
     alloc: Global,
     cnf: &Cnf,
     tries: &str,
@@ -217,28 +235,25 @@ fn asked_of(
     let mut provers: Vec<Box<dyn Prover>> = Vec::new(alloc);
     provers.push(Box::new(alloc, probe)?)?;
     provers.push(Box::new(alloc, Splitter::new(depth))?)?;
-    let Ok(asked) = ask(alloc, &mut provers, cnf, 0) else {
-        return Err(AllocError);
-    };
-    assert_eq!(rt; asked.retired, 0);
-    assert_eq!(rt; provers.len(), 2);
-    match &asked.outcome {
-        Outcome::Sat(_) => Ok(Some(Found::Sat)),
-        Outcome::Unsat(_) => Ok(Some(Found::Unsat)),
-        Outcome::Spent(_) => Ok(None),
-    }
+    let found = asked(alloc, &mut provers, cnf)?;
+    Ok(found)
 }
 
 #[test]
 fn in_a_portfolio(rt: HostRuntime) -> Result<(), Fail> {
     let alloc = rt.alloc();
     let cnf = cnf_of(&rt, alloc, 12, PIGEONS)?;
-    let deep = asked_of(&rt, alloc, &cnf, "000000000000", 8)?;
+    let deep = asked_of(alloc, &cnf, "000000000000", 8)?;
     assert_eq!(rt; deep, Some(Found::Unsat));
-    let flat = asked_of(&rt, alloc, &cnf, "000000000000", 3)?;
+    let flat = asked_of(alloc, &cnf, "000000000000", 3)?;
     assert_eq!(rt; flat, None);
-    let half = cnf_of(&rt, alloc, 2, "1 2 0 1 -2 0")?;
-    let tried = asked_of(&rt, alloc, &half, "01 10", 0)?;
+    Ok(())
+}
+
+#[test]
+fn a_try_in_a_portfolio(rt: HostRuntime) -> Result<(), Fail> {
+    let half = cnf_of(&rt, rt.alloc(), 2, "1 2 0 1 -2 0")?;
+    let tried = asked_of(rt.alloc(), &half, "01 10", 0)?;
     assert_eq!(rt; tried, Some(Found::Sat));
     Ok(())
 }

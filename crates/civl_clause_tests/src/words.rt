@@ -1,16 +1,10 @@
 // What the operations give, against tables that were worked out from the standard's definitions by bits.
-ghost use Rattle.std.specs.Prelude.{◌≡◌};
+ghost use Rattle.std.specs.Prelude.{◌≡◌, ◌≤◌, ◌⊎◌};
 
-use civl_bits::{Row, Value, Word};
-use std::process::Abort;
+use civl_bits::{Row, Word};
+use std::test::Fail;
 
-fn word(rt: &impl Abort, width: u32, value: u32) -> Word
-    ensures { result ≡ (width, value) }
-{
-    Word::new(width, value).expect(rt, "a word")
-}
-
-// The sixteen results of two words of one width, in the order of the tables.
+/// The sixteen results of two words of one width, in the order of the tables.
 fn results(a: Word, b: Word) -> [u32; 16]
     requires { a.0 ≡ b.0 }
 {
@@ -34,7 +28,7 @@ fn results(a: Word, b: Word) -> [u32; 16]
     ]
 }
 
-// A line for each pair of words of 1 bit, the second running faster: a digit for each result.
+/// A line for each pair of words of 1 bit, the second running faster: a digit for each result.
 const PAIRS_AT_1: [&[u8; 16]; 4] = [
     b"0000000001001011",
     b"1100110000011000",
@@ -42,7 +36,7 @@ const PAIRS_AT_1: [&[u8; 16]; 4] = [
     b"0011100011001011",
 ];
 
-// A line for each pair of words of 3 bits, the second running faster: a digit for each result.
+/// A line for each pair of words of 3 bits, the second running faster: a digit for each result.
 const PAIRS_AT_3: [&[u8; 16]; 64] = [
     b"0000000007001011",
     b"1700110000011110",
@@ -110,7 +104,7 @@ const PAIRS_AT_3: [&[u8; 16]; 64] = [
     b"6017700071001011",
 ];
 
-// Pairs of words of 32 bits, and their results.
+/// Pairs of words of 32 bits, and their results.
 const PAIRS_AT_32: [(u32, u32, [u32; 16]); 12] = [
     (
         0xFFFFFFFF,
@@ -203,7 +197,7 @@ const PAIRS_AT_32: [(u32, u32, [u32; 16]); 12] = [
     ),
 ];
 
-// A width, a value, its negative and its complement.
+/// A width, a value, its negative and its complement.
 const SINGLE: [(u32, u32, u32, u32); 16] = [
     (1, 0, 0, 1),
     (1, 1, 1, 0),
@@ -223,7 +217,7 @@ const SINGLE: [(u32, u32, u32, u32); 16] = [
     (32, 0xDEADBEEF, 0x21524111, 0x21524110),
 ];
 
-// A width, a value, two places of bits, and the bits between.
+/// A width, a value, two places of bits, and the bits between.
 const SLICES: [(u32, u32, u32, u32, u32); 24] = [
     (1, 1, 0, 0, 1),
     (3, 2, 0, 0, 0),
@@ -251,7 +245,7 @@ const SLICES: [(u32, u32, u32, u32, u32); 24] = [
     (32, 0x80000000, 31, 16, 0x8000),
 ];
 
-// Two words, each as its width and value, and the value of the first above the second.
+/// Two words, each as its width and value, and the value of the first above the second.
 const JOINS: [(u32, u32, u32, u32, u32); 8] = [
     (1, 1, 1, 0, 2),
     (1, 0, 1, 1, 1),
@@ -263,95 +257,181 @@ const JOINS: [(u32, u32, u32, u32, u32); 8] = [
     (1, 1, 31, 5, 0x80000005),
 ];
 
-fn agree(rt: &impl Abort, got: &[u32; 16], want: &[u8; 16], place: u32) {
-    for i in 0..16 {
-        assert_eq!(rt;
-            got[i],
-            u32::from(want[i] & 7),
-            "result {i} of pair {place}"
-        );
-    }
+/// The results of two words of this width.
+fn results_at(width: u32, first: u32, second: u32) -> Option<[u32; 16]> {
+    let a = Word::new(width, first)?;
+    let b = Word::new(width, second)?;
+    Some(results(a, b))
 }
 
-#[test]
-fn every_pair_of_one_bit_and_of_three(rt: HostRuntime) {
-    for place in 0..4 {
-        let got = results(word(&rt, 1, place / 2), word(&rt, 1, place % 2));
-        agree(&rt, &got, PAIRS_AT_1[place as usize], place);
-    }
-    for place in 0..64 {
-        let got = results(word(&rt, 3, place / 8), word(&rt, 3, place % 8));
-        agree(&rt, &got, PAIRS_AT_3[place as usize], place);
-    }
-}
-
-#[test]
-fn edges_of_32_bits(rt: HostRuntime) {
-    for (a, b, want) in PAIRS_AT_32 {
-        let got = results(word(&rt, 32, a), word(&rt, 32, b));
-        assert_eq!(rt; got, want, "at {a} and {b}");
-    }
-}
-
-#[test]
-fn single_words(rt: HostRuntime) {
-    for (width, value, negative, complement) in SINGLE {
-        let a = word(&rt, width, value);
-        assert_eq!(rt; a.neg(), word(&rt, width, negative), "at {value}:{width}");
-        assert_eq!(rt; a.not(), word(&rt, width, complement), "at {value}:{width}");
-    }
-}
-
-#[test]
-fn parts_of_words(rt: HostRuntime) {
-    for (width, value, high, low, want) in SLICES {
-        assert!(rt; low <= high);
-        assert!(rt; high < width);
-        let part = word(&rt, width, value).slice(high, low);
-        assert_eq!(rt; part, word(&rt, high - low + 1, want), "at {value}:{width}");
-    }
-    for (width, value, low_width, low_value, want) in JOINS {
-        assert!(rt; width <= 32);
-        assert!(rt; low_width <= 32 - width);
-        let both = word(&rt, width, value).join(word(&rt, low_width, low_value));
-        assert_eq!(rt;
-            both,
-            word(&rt, width + low_width, want),
-            "at {value}:{width}"
-        );
-    }
-    assert_eq!(rt; word(&rt, 3, 5).widen(32), word(&rt, 32, 5));
-}
-
-#[test]
-fn words_that_do_not_fit(rt: HostRuntime) {
-    for (width, value) in [
-        (0, 0),
-        (33, 0),
-        (1, 2),
-        (3, 8),
-        (31, 0x80000000),
-        (0xFFFFFFFF, 0),
-    ] {
-        assert_eq!(rt; Word::new(width, value), None);
-    }
-}
-
-#[test]
-fn cells_of_rows(rt: HostRuntime) {
-    for index in 1..7 {
-        let first = word(&rt, 5, 9);
-        let last = word(&rt, 5, 31);
-        let ones = word(&rt, index, 0).not();
-        let row = Row::fill(index, first).set(ones, last);
-        assert_eq!(rt; row.size(), 1 << index);
-        for at in 0..row.size() {
-            let want = if at == row.size() - 1 { last } else { first };
-            assert_eq!(rt; row.cell(at), want, "cell {at} of {index}");
-            assert_eq!(rt; row.get(word(&rt, index, at)), want, "cell {at} of {index}");
+/// Whether these are the digits of a line.
+fn agree(got: &[u32; 16], want: &[u8; 16]) -> bool {
+    for at in 0..16 {
+        if got[at] != u32::from(want[at] & 7) {
+            return false;
         }
-        assert_ne!(rt; row, Row::fill(index, first));
-        assert_eq!(rt; row.set(ones, first), Row::fill(index, first));
     }
-    assert_ne!(rt; Value::Word(word(&rt, 7, 1)), Value::Word(word(&rt, 8, 1)));
+    true
+}
+
+/// The place of the first pair of words of this width, of so many values, that hasn't the results of its line.
+fn first_pair(width: u32, values: u32, lines: &[&[u8; 16]]) -> Option<usize>
+    requires { values ≡ 2 ⊎ values ≡ 8 }
+{
+    for at in 0..lines.len().min(64) {
+        let place = at as u32;
+        match results_at(width, place / values, place % values) {
+            Some(got) if agree(&got, lines[at]) => {}
+            _ => return Some(at),
+        }
+    }
+    None
+}
+
+#[test]
+fn every_pair_of_one_bit_and_of_three(rt: HostRuntime) -> Result<(), Fail> {
+    assert_eq!(rt; first_pair(1, 2, &PAIRS_AT_1), None);
+    assert_eq!(rt; first_pair(3, 8, &PAIRS_AT_3), None);
+    Ok(())
+}
+
+/// The place of the first pair of words of 32 bits that hasn't the results of its row.
+fn first_edge(rows: &[(u32, u32, [u32; 16])]) -> Option<usize> {
+    for at in 0..rows.len() {
+        if results_at(32, rows[at].0, rows[at].1) != Some(rows[at].2) {
+            return Some(at);
+        }
+    }
+    None
+}
+
+#[test]
+fn edges_of_32_bits(rt: HostRuntime) -> Result<(), Fail> {
+    assert_eq!(rt; first_edge(&PAIRS_AT_32), None);
+    Ok(())
+}
+
+/// The place of the first word whose negative or complement isn't that of its row.
+fn first_single(rows: &[(u32, u32, u32, u32)]) -> Option<usize> {
+    for at in 0..rows.len() {
+        let (width, value, negative, complement) = rows[at];
+        let Some(word) = Word::new(width, value) else {
+            return Some(at);
+        };
+        if word.neg().value() != negative || word.not().value() != complement {
+            return Some(at);
+        }
+    }
+    None
+}
+
+#[test]
+fn single_words(rt: HostRuntime) -> Result<(), Fail> {
+    assert_eq!(rt; first_single(&SINGLE), None);
+    Ok(())
+}
+
+/// The bits of a word between two places.
+fn part(width: u32, value: u32, high: u32, low: u32) -> Option<u32> {
+    if low > high || high >= width {
+        return None;
+    }
+    let word = Word::new(width, value)?;
+    Some(word.slice(high, low).value())
+}
+
+/// The place of the first part that isn't that of its row.
+fn first_part(rows: &[(u32, u32, u32, u32, u32)]) -> Option<usize> {
+    for at in 0..rows.len() {
+        let (width, value, high, low, want) = rows[at];
+        if part(width, value, high, low) != Some(want) {
+            return Some(at);
+        }
+    }
+    None
+}
+
+/// One word above another.
+fn both(width: u32, value: u32, low_width: u32, low_value: u32) -> Option<u32> {
+    if width > 32 || low_width > 32 - width {
+        return None;
+    }
+    let high = Word::new(width, value)?;
+    let low = Word::new(low_width, low_value)?;
+    Some(high.join(low).value())
+}
+
+/// The place of the first join that isn't that of its row.
+fn first_join(rows: &[(u32, u32, u32, u32, u32)]) -> Option<usize> {
+    for at in 0..rows.len() {
+        let (width, value, low_width, low_value, want) = rows[at];
+        if both(width, value, low_width, low_value) != Some(want) {
+            return Some(at);
+        }
+    }
+    None
+}
+
+#[test]
+fn parts_of_words(rt: HostRuntime) -> Result<(), Fail> {
+    assert_eq!(rt; first_part(&SLICES), None);
+    assert_eq!(rt; first_join(&JOINS), None);
+    Ok(())
+}
+
+/// The place of the first word that fits.
+fn first_fitting(words: &[(u32, u32)]) -> Option<usize> {
+    for at in 0..words.len() {
+        if Word::new(words[at].0, words[at].1).is_some() {
+            return Some(at);
+        }
+    }
+    None
+}
+
+const UNFIT: [(u32, u32); 6] = [
+    (0, 0),
+    (33, 0),
+    (1, 2),
+    (3, 8),
+    (31, 0x80000000),
+    (0xFFFFFFFF, 0),
+];
+
+#[test]
+fn words_that_do_not_fit(rt: HostRuntime) -> Result<(), Fail> {
+    assert_eq!(rt; first_fitting(&UNFIT), None);
+    Ok(())
+}
+
+/// Whether a row of 9s of 5 bits, whose last cell is 31, has these cells.
+fn has_cells(index: u32) -> Option<bool>
+    requires some { 1 ≤ index }
+    requires few { index ≤ 6 }
+{
+    let first = Word::new(5, 9)?;
+    let last = Word::new(5, 31)?;
+    let ones = Word::new(index, 0)?.not();
+    let row = Row::fill(index, first).set(ones, last);
+    for at in 0..row.size() {
+        let want = if at == row.size() - 1 { 31 } else { 9 };
+        if row.cell(at).value() != want {
+            return Some(false);
+        }
+    }
+    Some(row.get(ones).value() == 31 && row.set(ones, first) == Row::fill(index, first))
+}
+
+#[test]
+fn cells_of_rows(rt: HostRuntime) -> Result<(), Fail> {
+    assert_eq!(rt; has_cells(1), Some(true));
+    assert_eq!(rt; has_cells(6), Some(true));
+    Ok(())
+}
+
+#[test]
+fn words_of_two_widths_differ(rt: HostRuntime) -> Result<(), Fail> {
+    let both = (Word::new(7, 1), Word::new(8, 1));
+    assert!(rt; both.0 != both.1);
+    Ok(())
 }

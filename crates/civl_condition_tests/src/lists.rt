@@ -121,29 +121,39 @@ fn all_kinds_are_listed(rt: HostRuntime) -> Result<(), Fail> {
     Ok(())
 }
 
+/// Conditions of the mixed program, and the names of their variables.
+const VARIABLES: [(Condition, &[u8]); 7] = [
+    (Condition::Start(1, 0), b"x "),
+    (Condition::Pair(3, 1, 0, 1), b"x X.c Y.n "),
+    (Condition::Fire(1, 1), b"x X.n "),
+    (Condition::Path(Part::Gate, 1, 0, 0), b"x t call0.c "),
+    (
+        Condition::Path(Part::Gate, 1, 0, 1),
+        b"x t r i done call3.c ",
+    ),
+    (
+        Condition::Path(Part::Rank, 1, 0, 2),
+        b"x old.x t r i old.r done old.done ",
+    ),
+    (
+        Condition::Act(1, 1, Target::Yield(0, 1)),
+        b"x X.n other.t other.r other.i other.done ",
+    ),
+];
+
+/// The place of the first condition that has other variables.
+fn first_other(alloc: Global, rows: &[(Condition, &[u8])]) -> Result<Option<usize>, Fail> {
+    for at in 0..rows.len() {
+        let found = variables_of(alloc, MIXED, rows[at].0)?;
+        if found.as_slice() != rows[at].1 {
+            return Ok(Some(at));
+        }
+    }
+    Ok(None)
+}
+
 #[test]
 fn conditions_have_variables(rt: HostRuntime) -> Result<(), Fail> {
-    let rows: [(Condition, &[u8]); 7] = [
-        (Condition::Start(1, 0), b"x "),
-        (Condition::Pair(3, 1, 0, 1), b"x X.c Y.n "),
-        (Condition::Fire(1, 1), b"x X.n "),
-        (Condition::Path(Part::Gate, 1, 0, 0), b"x t call0.c "),
-        (
-            Condition::Path(Part::Gate, 1, 0, 1),
-            b"x t r i done call3.c ",
-        ),
-        (
-            Condition::Path(Part::Rank, 1, 0, 2),
-            b"x old.x t r i old.r done old.done ",
-        ),
-        (
-            Condition::Act(1, 1, Target::Yield(0, 1)),
-            b"x X.n other.t other.r other.i other.done ",
-        ),
-    ];
-    for (condition, wanted) in rows {
-        let found = variables_of(rt.alloc(), MIXED, condition)?;
-        assert!(rt; found.as_slice() == wanted, "{condition:?}");
-    }
+    assert_eq!(rt; first_other(rt.alloc(), &VARIABLES)?, None);
     Ok(())
 }

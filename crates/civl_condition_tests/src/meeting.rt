@@ -1,7 +1,7 @@
-// What the paths from a cut meet.
+// What the paths from a cut meet, and the program of a layer.
 
 use crate::layering::{MIXED, layered_of};
-use civl_layers::{Layered, cuts, program};
+use civl_layers::{Layered, at, cuts, program};
 use civl_paths::{ends_from, met_from};
 use civl_tree::Memory;
 use std::alloc::Global;
@@ -41,12 +41,27 @@ fn first_wrong(alloc: Global, src: &Layered) -> Result<Option<usize>, Memory> {
     Ok(None)
 }
 
+/// Whether in the program of the first layer the first of two procedures is an action and the second means its body.
+fn has_first(alloc: Global, src: &Layered) -> Result<bool, Memory> {
+    if program(src).layers < 1 {
+        return Ok(false);
+    }
+    let plain = at(alloc, src, 1)?;
+    Ok(plain.bodies.len() == 2 && !*plain.bodies.get(0) && *plain.bodies.get(1))
+}
+
+/// The first row that isn't met in the mixed program, and whether it has that program of the first layer.
+fn found(alloc: Global) -> Result<(Option<usize>, bool), Fail> {
+    let Some(src) = layered_of(alloc, MIXED)? else {
+        return Ok((None, false));
+    };
+    let wrong = first_wrong(alloc, &src)?;
+    let has = has_first(alloc, &src)?;
+    Ok((wrong, has))
+}
+
 #[test]
 fn paths_meet_statements(rt: HostRuntime) -> Result<(), Fail> {
-    let Some(src) = layered_of(rt.alloc(), MIXED)? else {
-        return Ok(());
-    };
-    let wrong = first_wrong(rt.alloc(), &src)?;
-    assert_eq!(rt; wrong, None);
+    assert_eq!(rt; found(rt.alloc())?, (None, true));
     Ok(())
 }

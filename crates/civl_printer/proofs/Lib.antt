@@ -1,3 +1,2 @@
-pub mod Joining
-pub mod Reading
-pub mod Writing
+mod Joining
+mod Reading

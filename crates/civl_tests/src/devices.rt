@@ -3,77 +3,88 @@
 use crate::texts::{FLAG, words};
 use civl_command::{Status, command};
 use civl_outside::{MemorySink, MemorySource, PlainSink, PlainSource};
+use std::alloc::Global;
 use std::test::Fail;
 
 const REPORT: &[u8] = b"accepted 6 conditions\n";
 
-/// Each read in turn fails: nothing is written.
-#[test]
-fn each_read_fails(rt: HostRuntime) -> Result<(), Fail> {
-    let alloc = rt.alloc();
+/// The status of `check` on the flag program, and what was written, where the read with this number fails, at 16 bytes a read.
+fn where_read_fails(alloc: Global, call: u64) -> Result<(Status, Vec<u8>), Fail> {
     let words = words(alloc, &["check"])?;
-    let reads = (FLAG.len() as u64) / 16 + 2;
-    for call in 0..reads + 2 {
-        let failing = [call].to_vec(alloc)?;
-        let mut source = MemorySource::new(FLAG.as_bytes().to_vec(alloc)?, 16, failing);
-        let mut sink = PlainSink::new(alloc, 100)?;
-        let status = command(alloc, &words, &mut source, &mut sink);
-        if call < reads {
-            assert_eq!(rt; status, Status::ReadFault, "{call}");
-            assert!(rt; sink.bytes().is_empty(), "{call}");
-        } else {
-            assert_eq!(rt; status, Status::Done, "{call}");
-            assert_eq!(rt; sink.bytes(), REPORT, "{call}");
+    let text = FLAG.as_bytes().to_vec(alloc)?;
+    let mut source = MemorySource::new(text, 16, [call].to_vec(alloc)?);
+    let mut sink = PlainSink::new(alloc, 100)?;
+    let status = command(alloc, &words, &mut source, &mut sink);
+    Ok((status, sink.bytes().to_vec(alloc)?))
+}
+
+/// The same where the write with this number fails.
+fn where_write_fails(alloc: Global, call: u64) -> Result<(Status, Vec<u8>), Fail> {
+    let words = words(alloc, &["check"])?;
+    let mut source = PlainSource::new(FLAG.as_bytes().to_vec(alloc)?);
+    let mut sink = MemorySink::new(alloc, 100, [call].to_vec(alloc)?)?;
+    let status = command(alloc, &words, &mut source, &mut sink);
+    Ok((status, sink.bytes().to_vec(alloc)?))
+}
+
+/// The same where the sink has this room.
+fn where_room_is(alloc: Global, room: usize) -> Result<(Status, Vec<u8>), Fail> {
+    let words = words(alloc, &["check"])?;
+    let mut source = PlainSource::new(FLAG.as_bytes().to_vec(alloc)?);
+    let mut sink = PlainSink::new(alloc, room)?;
+    let status = command(alloc, &words, &mut source, &mut sink);
+    Ok((status, sink.bytes().to_vec(alloc)?))
+}
+
+/// Whether it is this status, and the first so many bytes of the report.
+fn is_cut(found: &(Status, Vec<u8>), status: Status, count: usize) -> bool {
+    found.0 == status && found.1.as_slice() == &REPORT[..count.min(REPORT.len())]
+}
+
+/// How many reads fail so that nothing is written, up to the first that comes too late to fail.
+fn failing_reads(alloc: Global) -> Result<u64, Fail> {
+    for call in 0..1000u64 {
+        let found = where_read_fails(alloc, call)?;
+        if !is_cut(&found, Status::ReadFault, 0) {
+            let is_late = is_cut(&found, Status::Done, REPORT.len());
+            return Ok(if is_late { call } else { 1000 });
         }
     }
+    Ok(1000)
+}
+
+/// Each read fails in turn, the last of which finds nothing more.
+#[test]
+fn each_read_fails(rt: HostRuntime) -> Result<(), Fail> {
+    assert_eq!(rt; failing_reads(rt.alloc())?, FLAG.len() as u64 / 16 + 2);
     Ok(())
 }
 
-/// Each write in turn fails, and each room is too small: a first part of the report is written.
+/// The report is one write.
 #[test]
-fn each_write_fails(rt: HostRuntime) -> Result<(), Fail> {
-    let alloc = rt.alloc();
-    let words = words(alloc, &["check"])?;
-    for call in 0..3 {
-        let mut source = PlainSource::new(FLAG.as_bytes().to_vec(alloc)?);
-        let mut sink = MemorySink::new(alloc, 100, [call].to_vec(alloc)?)?;
-        let status = command(alloc, &words, &mut source, &mut sink);
-        let want = if call == 0 {
-            Status::WriteFault
-        } else {
-            Status::Done
-        };
-        assert_eq!(rt; status, want, "{call}");
-        let written: &[u8] = if call == 0 { b"" } else { REPORT };
-        assert_eq!(rt; sink.bytes(), written, "{call}");
-    }
-    for room in 0..=REPORT.len() {
-        let mut source = PlainSource::new(FLAG.as_bytes().to_vec(alloc)?);
-        let mut sink = PlainSink::new(alloc, room)?;
-        let status = command(alloc, &words, &mut source, &mut sink);
-        let want = if room < REPORT.len() {
-            Status::WriteFault
-        } else {
-            Status::Done
-        };
-        assert_eq!(rt; status, want, "{room}");
-        assert_eq!(rt; sink.bytes(), &REPORT[..room], "{room}");
-    }
+fn a_write_fails(rt: HostRuntime) -> Result<(), Fail> {
+    let first = where_write_fails(rt.alloc(), 0)?;
+    assert!(rt; is_cut(&first, Status::WriteFault, 0));
+    let second = where_write_fails(rt.alloc(), 1)?;
+    assert!(rt; is_cut(&second, Status::Done, REPORT.len()));
     Ok(())
 }
 
-/// Where the words are no command, nothing is read.
+/// How many rooms are too small, so that a first part of the report is written.
+fn small_rooms(alloc: Global) -> Result<usize, Fail> {
+    for room in 0..REPORT.len() {
+        let found = where_room_is(alloc, room)?;
+        if !is_cut(&found, Status::WriteFault, room) {
+            return Ok(room);
+        }
+    }
+    Ok(REPORT.len())
+}
+
 #[test]
-fn usage_reads_nothing(rt: HostRuntime) -> Result<(), Fail> {
-    let alloc = rt.alloc();
-    let mut source = MemorySource::new(FLAG.as_bytes().to_vec(alloc)?, 16, [0u64].to_vec(alloc)?);
-    let mut sink = PlainSink::new(alloc, 100)?;
-    let status = command(
-        alloc,
-        &words(alloc, &["run", "middle"])?,
-        &mut source,
-        &mut sink,
-    );
-    assert_eq!(rt; status, Status::Usage);
+fn rooms_are_too_small(rt: HostRuntime) -> Result<(), Fail> {
+    assert_eq!(rt; small_rooms(rt.alloc())?, REPORT.len());
+    let found = where_room_is(rt.alloc(), REPORT.len())?;
+    assert!(rt; is_cut(&found, Status::Done, REPORT.len()));
     Ok(())
 }

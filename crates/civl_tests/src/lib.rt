@@ -1,18 +1,14 @@
-//! Tests that cross crates: rows of words, an input, a report and a status, and devices that fail; and worked examples of the calls below.
+//! Tests that cross crates: an input, a report and a status, devices that fail, and schedules; and calls of what stands below.
 #![tactic(auto)]
 
 #[cfg(test)]
-mod codes;
+mod checks;
 #[cfg(test)]
 mod devices;
-#[cfg(test)]
-mod entries;
 #[cfg(test)]
 mod folding;
 #[cfg(test)]
 mod instances;
-#[cfg(test)]
-mod layering;
 #[cfg(test)]
 mod lexing;
 #[cfg(test)]
@@ -24,15 +20,9 @@ mod parsing;
 #[cfg(test)]
 mod replays;
 #[cfg(test)]
-mod rows;
-#[cfg(test)]
-mod running;
+mod rules;
 #[cfg(test)]
 mod schedules;
-#[cfg(test)]
-mod scripts;
-#[cfg(test)]
-mod slips;
 #[cfg(test)]
 mod terms;
 #[cfg(test)]

@@ -1,13 +1,13 @@
-// Terms against their clauses, under all values of two words of 2 bits, an index of 1 bit and a row of 2 cells: with these values fixed, the clauses can be true exactly where the term is true.
-ghost use Rattle.std.specs.Prelude.{◌≡◌, ◌<◌, ◌∷◌, [], length, Some, IfOk};
+// Terms over two words of 2 bits, an index of 1 bit and a row of 2 cells: their values at all values of these, and whether their
+// clauses can be true.
+ghost use Rattle.std.specs.Prelude.{◌≡◌, ◌<◌, length, Some};
 ghost use Rattle.civl_tree.specs.declared.expr.Sort.TheVariants as sort;
 ghost use Rattle.civl_terms.specs.Graphs.{sort_at};
 
 use crate::measuring::{has_sort, measure, pair, variable};
-use civl_bits::{Row, Value, Word};
-use civl_blast::{Place, blast};
+use civl_bits::{Value, Word};
+use civl_blast::{Blasted, blast};
 use civl_cdcl::{Outcome, solve};
-use civl_cnf::{Clause, Cnf, Lit};
 use civl_terms::{Id, Memory, Terms, value};
 use civl_tree::{List, One, Sort, Two};
 use std::alloc::Global;
@@ -133,108 +133,81 @@ fn values(alloc: Global, number: u32) -> Result<Option<List<Value>>, Memory> {
     Ok(Some(List::from_vec(values)))
 }
 
-/// The number of a row's cell.
-fn cell_of(row: &Row, cell: u32) -> u32 {
-    if cell < row.size() {
-        row.cell(cell).value()
-    } else {
-        0
-    }
-}
-
-/// The number of a value's cell.
-fn cell(value: &Value, cell: u32) -> u32 {
-    match value {
-        Value::Bool(value) => u32::from(*value),
-        Value::Word(word) => word.value(),
-        Value::Row(row) => cell_of(row, cell),
-    }
-}
-
-fn width(value: &Value) -> u32 {
-    match value {
-        Value::Bool(_) => 1,
-        Value::Word(word) => word.width(),
-        Value::Row(row) => row.width(),
-    }
-}
-
-fn unit(alloc: Global, lit: Lit) -> Result<Clause, civl_cnf::Memory>
-    ensures { IfOk result (λ clause. clause ≡ lit ∷ []) }
-{
-    let lits = [lit];
-    let clause = Clause::from_slice(alloc, lits.as_slice())?;
-    Ok(clause)
-}
-
-/// Adds clauses that fix the bits at a place; false where they aren't the set's.
-fn fix(
-    alloc: Global,
-    cnf: &mut Cnf,
-    place: Place,
-    value: &Value,
-) -> Result<bool, civl_cnf::Memory> {
-    let number = cell(value, place.cell);
-    for bit in 0..width(value).min(32) {
-        let Some(variable) = place.first.checked_add(bit) else {
-            return Ok(false);
-        };
-        if variable >= cnf.variables() {
-            return Ok(false);
-        }
-        let clause = unit(alloc, Lit::new(variable, number >> bit & 1 == 1))?;
-        cnf.push(clause)?;
-    }
-    Ok(true)
-}
-
-/// Whether the term is true at the values with these bits, and whether its clauses can be.
-fn found(alloc: Global, shape: Shape, number: u32) -> Result<Option<(bool, bool)>, Fail> {
-    let mut terms = Terms::new(alloc);
-    let (Some(id), Some(values)) = (term(&mut terms, shape)?, values(alloc, number)?) else {
-        return Ok(None);
+/// Whether the term is true at the values with these bits.
+fn is_true_at(alloc: Global, terms: &Terms, id: Id, number: u32) -> Result<bool, Memory> {
+    let Some(values) = values(alloc, number)? else {
+        return Ok(false);
     };
-    if !has_sort(&terms, id, Sort::Bool) {
+    if id >= terms.len() {
+        return Ok(false);
+    }
+    let found = value(alloc, terms, id, &values)?;
+    Ok(found == Value::Bool(true))
+}
+
+/// At how many of the values with nine bits the term is true.
+fn trues(alloc: Global, terms: &Terms, id: Id) -> Result<u32, Memory> {
+    let mut count: u32 = 0;
+    for number in 0..512 {
+        if is_true_at(alloc, terms, id, number)? {
+            count = count.saturating_add(1);
+        }
+    }
+    Ok(count)
+}
+
+/// At how many values the term of this shape is true.
+fn trues_of(alloc: Global, shape: Shape) -> Result<Option<u32>, Memory> {
+    let mut terms = Terms::new(alloc);
+    match term(&mut terms, shape)? {
+        None => Ok(None),
+        Some(id) => Ok(Some(trues(alloc, &terms, id)?)),
+    }
+}
+
+#[test]
+fn terms_have_their_values(rt: HostRuntime) -> Result<(), Fail> {
+    for (shape, trues) in SHAPES.as_slice() {
+        let found = trues_of(rt.alloc(), *shape)?;
+        assert_eq!(rt; found, Some(*trues), "{shape:?}");
+    }
+    Ok(())
+}
+
+/// The clauses of a boolean term, where it weighs few.
+fn blasted(alloc: Global, terms: &mut Terms, id: Id) -> Result<Option<Blasted>, Fail> {
+    if !has_sort(terms, id, Sort::Bool) {
         return Ok(None);
     }
-    let is_true = value(alloc, &terms, id, &values)? == Value::Bool(true);
-    match measure(&terms) {
+    match measure(terms) {
         Some(weight) if weight <= 1_600_000 => {}
         _ => return Ok(None),
     }
-    let blasted = blast(alloc, &mut terms, id)?;
-    let mut cnf = blasted.cnf;
-    for place in blasted.places.as_slice() {
-        let variable = place.variable as usize;
-        if variable >= values.len() || !fix(alloc, &mut cnf, *place, values.get(variable))? {
-            return Ok(None);
-        }
-    }
-    match solve(alloc, &cnf, 1000)? {
-        Outcome::Sat(_) => Ok(Some((is_true, true))),
-        Outcome::Unsat(_) => Ok(Some((is_true, false))),
+    let blasted = blast(alloc, terms, id)?;
+    Ok(Some(blasted))
+}
+
+/// Whether the clauses of the term of this shape can be true.
+fn can_be_true(alloc: Global, shape: Shape) -> Result<Option<bool>, Fail> {
+    let mut terms = Terms::new(alloc);
+    let Some(id) = term(&mut terms, shape)? else {
+        return Ok(None);
+    };
+    let Some(blasted) = blasted(alloc, &mut terms, id)? else {
+        return Ok(None);
+    };
+    match solve(alloc, &blasted.cnf, 1000)? {
+        Outcome::Sat(_) => Ok(Some(true)),
+        Outcome::Unsat(_) => Ok(Some(false)),
         Outcome::Spent(_) => Ok(None),
     }
 }
 
-/// The first number with whose bits the term and its clauses disagree, and at how many numbers below it the term is true.
-fn first_difference(alloc: Global, shape: Shape) -> Result<(u32, u32), Fail> {
-    let mut count = 0;
-    for number in 0..512 {
-        match found(alloc, shape, number)? {
-            Some((true, true)) => count += 1,
-            Some((false, false)) => {}
-            _ => return Ok((number, count)),
-        }
-    }
-    Ok((512, count))
-}
-
 #[test]
-fn clauses_are_the_term(rt: HostRuntime) -> Result<(), Fail> {
-    for (shape, trues) in SHAPES.as_slice() {
-        let found = first_difference(rt.alloc(), *shape)?;
-        assert_eq!(rt; found, (512, *trues), "{shape:?}");
+fn clauses_can_be_true(rt: HostRuntime) -> Result<(), Fail> {
+    for (shape, _trues) in SHAPES.as_slice() {
+        let found = can_be_true(rt.alloc(), *shape)?;
+        assert_eq!(rt; found, Some(true), "{shape:?}");
     }
     Ok(())
 }

@@ -1,9 +1,12 @@
-// Programs and words for tests.
+// Programs, words and tables of rows for tests of `command`.
 
 use civl_command::{Status, command};
 use civl_outside::{PlainSink, PlainSource};
 use std::alloc::{AllocError, Global};
 use std::test::Fail;
+
+/// The header of one layer.
+pub(crate) const HEADER: &str = "civl 1; layers 1; permissions 1; ";
 
 /// The flag program.
 pub(crate) const FLAG: &str = "civl 1; layers 1; permissions 1;
@@ -18,14 +21,14 @@ proc DoSet() -> () refines AtomSet with () layer 1
 thread DoSet();
 ";
 
-/// A text that stands in a program, and what stands there instead.
-pub(crate) type Edit = (&'static str, &'static str);
-
-/// The flag program with each edit made in turn, at the first place where its text stands.
-pub(crate) fn edited(alloc: Global, edits: &[Edit]) -> Result<String, AllocError> {
-    let mut text = String::from_str(alloc, FLAG)?;
-    for (old, new) in edits {
-        text = text.replacen(alloc, *old, new, 1)?;
+/// The text with each edit made in turn, at the first place where its old text stands. An edit is `OLD @ NEW`, and `@and`
+/// stands between two.
+pub(crate) fn edited(alloc: Global, text: &str, edits: &str) -> Result<String, AllocError> {
+    let mut text = String::from_str(alloc, text)?;
+    for edit in edits.split("@and") {
+        if let Some((old, new)) = edit.split_once("@") {
+            text = text.replacen(alloc, old.trim(), new.trim(), 1)?;
+        }
     }
     Ok(text)
 }
@@ -48,15 +51,52 @@ pub(crate) fn run(alloc: Global, all: &[&str], input: Vec<u8>) -> Result<(Status
     Ok((status, sink.bytes().to_vec(alloc)?))
 }
 
-/// The status that a report of `check` belongs to.
-pub(crate) fn status_of(report: &str) -> Status {
-    if report.starts_with("accepted") {
-        Status::Done
+/// The status that a report belongs to.
+fn status_of(report: &str) -> Status {
+    if report.starts_with("refused") {
+        Status::Refused
     } else if report.starts_with("rejected") {
         Status::Rejected
-    } else if report.starts_with("refused") {
-        Status::Refused
-    } else {
+    } else if report.starts_with("usage") {
         Status::Usage
+    } else {
+        Status::Done
     }
+}
+
+/// Whether these words give this report on this text, but for blanks around it, with the status that belongs to it.
+pub(crate) fn gives(alloc: Global, words: &[&str], text: &[u8], want: &str) -> Result<bool, Fail> {
+    let (status, report) = run(alloc, words, text.to_vec(alloc)?)?;
+    Ok(report.as_slice().trim_ascii() == want.trim().as_bytes() && status == status_of(want.trim()))
+}
+
+/// Whether the row holds: `EDITS @@ TEXT @@ REPORT`. The edits are made in the program, and the text stands behind it.
+fn holds(alloc: Global, words: &[&str], program: &str, row: &str) -> Result<bool, Fail> {
+    let Some((edits, rest)) = row.split_once("@@") else {
+        return Ok(false);
+    };
+    let Some((behind, want)) = rest.split_once("@@") else {
+        return Ok(false);
+    };
+    let mut text = edited(alloc, program, edits)?;
+    text.push_str(behind.trim())?;
+    let is_told = gives(alloc, words, text.as_bytes(), want)?;
+    Ok(is_told)
+}
+
+/// How many rows of a table hold, up to the first that doesn't. A blank line stands between two.
+pub(crate) fn holding(
+    alloc: Global,
+    words: &[&str],
+    program: &str,
+    rows: &str,
+) -> Result<usize, Fail> {
+    let mut count: usize = 0;
+    for row in rows.split("\n\n") {
+        if !holds(alloc, words, program, row)? {
+            return Ok(count);
+        }
+        count = count.saturating_add(1);
+    }
+    Ok(count)
 }

@@ -1,10 +1,8 @@
 -- What is found by numbers: the sums of actions and of cuts.
-use Rattle.std.proofs.Common.{◌≡◌, ℕ, zero, suc, ◌+◌, List, [], ◌∷◌, ◌++◌, ◌<◌, length, take, get_or, refl, sym, ap, ◌∙◌, subst, arith, Option, None, Some, Bor}
+use Rattle.std.proofs.Common.{◌≡◌, ℕ, zero, suc, ◌+◌, List, [], ◌∷◌, ◌++◌, refl, sym, ap, ◌∙◌, subst, arith, Option, None, Some}
 use Rattle.std.specs.Prelude.{slice_get}
-use Rattle.std.specs.Option.{option_map_or, option_copied}
-use Rattle.std.specs.Slice.{IsItemAt}
+use Rattle.std.specs.Option.{option_map_or}
 use Rattle.std.specs.List.{AllZip}
-use Rattle.std.proofs.lemmas.List.{take_more, length-take}
 use Rattle.civl_tree.specs.declared.action.Action.{Action}
 use Rattle.civl_tree.specs.declared.program.Proc.{Proc}
 use Rattle.civl_tree.specs.declared.program.Program.{Program}
@@ -17,20 +15,16 @@ use Rattle.civl_conditions.specs.declared.condition.Variable.{Variable}
 use Rattle.civl_conditions.specs.Steps.{of_action, of_cut}
 use Rattle.civl_conditions.specs.Variables.{variables, path_variables, other_variables}
 use Rattle.civl_conditions.specs.Weights.{bits_of_variables, weight, path_weight, block_weight}
-use Rattle.civl_weights.specs.declared.weight.Weight.{Weight}
-use Rattle.civl_weights.specs.declared.actions.ActionSums.{ActionSums}
-use Rattle.civl_weights.specs.declared.cuts.CutSums.{CutSums}
-use Rattle.civl_weights.specs.declared.tables.ProcSums.{ProcSums}
-use Rattle.civl_weights.specs.Weighing.{Weighs}
-use Rattle.civl_weights.specs.Sums.{OfAction, OfCut, OfCuts}
-use Rattle.civl_weights.specs.Tables.{OfProc}
+use Rattle.civl_weighing.specs.declared.weight.Weight.{Weight}
+use Rattle.civl_sums.specs.declared.actions.ActionSums.{ActionSums}
+use Rattle.civl_sums.specs.declared.cuts.CutSums.{CutSums}
+use Rattle.civl_sums.specs.declared.tables.ProcSums.{ProcSums}
+use Rattle.civl_weighing.specs.Weighing.{Weighs}
+use Rattle.civl_sums.specs.Sums.{OfAction, OfCut, OfCuts}
+use Rattle.civl_sums.specs.Tables.{OfProc}
 use Rattle.civl_weights.specs.Kinds.{OfCutAt, OfCutIn, OfCutFound}
-use Rattle.civl_weights.proofs.Capping.{weighs_same}
-use Rattle.civl_weights.proofs.Acting.{got, zip_found, zip_none}
-
--- what is got from a list that is lent
-pub got_of : {A : Type 0} (shown xs : List A) (i : ℕ) (r : Option (Bor A)) → shown ≡ xs → IsItemAt shown i r → slice_get xs i ≡ option_copied r
-got_of shown xs i r e h = ap (λ l. slice_get l i) (sym e) ∙ sym (got shown i r h)
+use Rattle.civl_weighing.proofs.Capping.{weighs_same}
+use Rattle.civl_sums.proofs.Acting.{zip_found, zip_none}
 
 -- ---- actions
 
@@ -44,15 +38,6 @@ module _ (program : Program) (sums : List ActionSums) (x : ℕ) (f : Action → 
   action_none e h = weighs_same (sym (ap (λ (o : Option Action). option_map_or f o 0) (zip_none (OfAction program) program.actions sums x all e))) h
 
 -- ---- procedures
-
-module _ (program : Program) (table : List ProcSums) (r : ℕ) (f : Proc → ℕ) {w : Weight} (all : AllZip (OfProc program) program.procs table) where
-  pub proc_there : (s : ProcSums) → slice_get table r ≡ Some s → ((p : Proc) → OfProc program p s → Weighs w (f p)) → Weighs w (option_map_or f (slice_get program.procs r) 0)
-  proc_there s e h =
-      let here = zip_found (OfProc program) program.procs table r s all e in
-      weighs_same (sym (ap (λ (o : Option Proc). option_map_or f o 0) here.1)) (h here.0 here.2)
-
-  pub proc_none : slice_get table r ≡ None → Weighs w 0 → Weighs w (option_map_or f (slice_get program.procs r) 0)
-  proc_none e h = weighs_same (sym (ap (λ (o : Option Proc). option_map_or f o 0) (zip_none (OfProc program) program.procs table r all e))) h
 
 -- the sums at a place are those of the procedure there
 pub proc_sums_at : (program : Program) (table : List ProcSums) (q : ℕ) (s : ProcSums) (proc : Proc) → AllZip (OfProc program) program.procs table → slice_get table q ≡ Some s → slice_get program.procs q ≡ Some proc → OfProc program proc s
@@ -80,20 +65,6 @@ module _ (program : Program) (step : ℕ) where
       let e0 : 0 + c ≡ c = omega arith in
       let here : OfCutAt program step proc c (slice_get (proc_cuts proc) c) (slice_get cuts c) = subst (λ (n : ℕ). OfCutAt program step proc n (slice_get (proc_cuts proc) c) (slice_get cuts c)) e0 (of_cuts_at proc 0 c (proc_cuts proc) cuts h) in
       subst (λ (o : Option Proc). OfCutIn program step o c r) (sym e) (subst (λ (o : Option CutSums). OfCutAt program step proc c (slice_get (proc_cuts proc) c) o) (sym k) here)
-
-  cuts_push : (proc : Proc) (at : ℕ) (cuts : List Cut) (ss : List CutSums) (cut : Cut) (s : CutSums) → OfCuts program step proc at cuts ss → OfCut program step proc (at + length cuts) cut s → OfCuts program step proc at (cuts ++ cut ∷ []) (ss ++ s ∷ [])
-  cuts_push proc at [] [] cut s h k = let e : at + 0 ≡ at = omega arith in (subst (λ (n : ℕ). OfCut program step proc n cut s) e k, tt)
-  cuts_push proc at [] (x ∷ ss) cut s h k = absurd h
-  cuts_push proc at (c ∷ cuts) [] cut s h k = absurd h
-  cuts_push proc at (c ∷ cuts) (x ∷ ss) cut s h k =
-      let e : at + length (c ∷ cuts) ≡ (at + 1) + length cuts = omega arith in
-      (h.0, cuts_push proc (at + 1) cuts ss cut s h.1 (subst (λ (n : ℕ). OfCut program step proc n cut s) e k))
-
-  pub cuts_more : (proc : Proc) (cuts : List Cut) (i : ℕ) (d : Cut) (ss new : List CutSums) (s : CutSums) → i < length cuts → new ≡ ss ++ s ∷ [] → OfCuts program step proc 0 (take i cuts) ss → OfCut program step proc i (get_or cuts i d) s → OfCuts program step proc 0 (take (i + 1) cuts) new
-  cuts_more proc cuts i d ss new s l n h k =
-      let e : i ≡ 0 + length (take i cuts) = omega (arith, length-take i cuts) in
-      subst (λ (cs : List Cut). OfCuts program step proc 0 cs new) (sym (take_more cuts i d l)) (subst (λ (xs : List CutSums). OfCuts program step proc 0 (take i cuts ++ get_or cuts i d ∷ []) xs) (sym n)
-      (cuts_push proc 0 (take i cuts) ss (get_or cuts i d) s h (subst (λ (m : ℕ). OfCut program step proc m (get_or cuts i d) s) e k)))
 
   pub no_proc : (q c : ℕ) → slice_get program.procs q ≡ None → OfCutFound program step q c None
   no_proc q c e = subst (λ (o : Option Proc). OfCutIn program step o c None) (sym e) tt

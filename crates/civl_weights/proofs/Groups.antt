@@ -1,33 +1,19 @@
 -- The bits of the variables of each kind of condition, group by group.
-use Rattle.std.proofs.Common.{◌≡◌, ℕ, ◌+◌, ◌-◌, List, [], ◌∷◌, ◌++◌, refl, sym, ap, ◌∙◌, Option, None, Some}
+use Rattle.std.proofs.Common.{◌≡◌, ℕ, ◌+◌, ◌-◌, List, [], refl, sym, ap, ◌∙◌, Option, None, Some}
 use Rattle.std.specs.Prelude.{slice_get, codes}
 use Rattle.std.specs.Option.{option_map_or}
 use Rattle.civl_tree.specs.declared.action.Action.{Action}
-use Rattle.civl_tree.specs.declared.action.Choice.{Choice}
-use Rattle.civl_tree.specs.declared.action.Param.{Param}
-use Rattle.civl_tree.specs.declared.program.Local.{Local}
-use Rattle.civl_tree.specs.declared.program.Proc.{Proc}
 use Rattle.civl_tree.specs.declared.program.Program.{Program}
 use Rattle.civl_conditions.specs.declared.condition.Condition.TheVariants.{Start, Keep, Pair, Fire, Act}
 use Rattle.civl_conditions.specs.declared.condition.Target.{Target}
 use Rattle.civl_conditions.specs.declared.condition.Variable.{Variable}
 use Rattle.civl_conditions.specs.Steps.{of_action}
 use Rattle.civl_conditions.specs.Invariants.{invariant_at}
-use Rattle.civl_conditions.specs.Variables.{variable, flag, of_globals, of_params, of_choices, of_locals, of_instance, lower_globals, near_globals, other_variables, variables}
+use Rattle.civl_conditions.specs.Variables.{of_globals, of_params, of_choices, of_instance, lower_globals, near_globals, other_variables, variables}
 use Rattle.civl_conditions.specs.Weights.{bits_of_variables, outs_bits, globals_bits, global_weight, initial_own, own_weight, weight}
-use Rattle.civl_weights.specs.Bits.{choices_bits, locals_bits}
-use Rattle.civl_weights.specs.Sums.{frame_bits}
 use Rattle.civl_weights.specs.Kinds.{instance_bits}
-use Rattle.civl_weights.proofs.Summing.{bits_append, bits_mapped}
-
-pub params_bits_are : (front : List ℕ) (ps : List Param) → bits_of_variables (of_params front ps) ≡ outs_bits ps
-params_bits_are front ps = bits_mapped (λ p. variable front p.name p.sort) ps
-
-pub choices_bits_are : (front : List ℕ) (cs : List Choice) → bits_of_variables (of_choices front cs) ≡ choices_bits cs
-choices_bits_are front cs = bits_mapped (λ x. variable front x.name x.sort) cs
-
-pub locals_bits_are : (front : List ℕ) (ls : List Local) → bits_of_variables (of_locals front ls) ≡ locals_bits ls
-locals_bits_are front ls = bits_mapped (λ x. variable front x.name x.sort) ls
+use Rattle.civl_weighing.proofs.Summing.{bits_append}
+use Rattle.civl_sums.proofs.Groups.{params_bits_are, choices_bits_are, two_groups}
 
 pub instance_are : (front : List ℕ) (a : Action) → bits_of_variables (of_instance front a) ≡ instance_bits a
 instance_are front a = bits_append (of_params front a.params) (of_choices front a.choices) ∙ ap (λ (n : ℕ). n + bits_of_variables (of_choices front a.choices)) (params_bits_are front a.params) ∙ ap (λ (n : ℕ). outs_bits a.params + n) (choices_bits_are front a.choices)
@@ -43,9 +29,6 @@ module _ (program : Program) where
 
   inputs : (front : List ℕ) (x : ℕ) → bits_of_variables (of_action program x [] (λ a. of_params front a.params)) ≡ of_action program x 0 (λ a. outs_bits a.params)
   inputs front x = maybe_bits (λ a. of_params front a.params) (λ a. outs_bits a.params) (λ a. params_bits_are front a.params) (slice_get program.actions x)
-
-  two_groups : (us vs : List Variable) {m n : ℕ} → bits_of_variables us ≡ m → bits_of_variables vs ≡ n → m + n ≡ bits_of_variables (us ++ vs)
-  two_groups us vs {m} {n} h k = sym (bits_append us vs ∙ ap (λ (i : ℕ). i + bits_of_variables vs) h ∙ ap (λ (i : ℕ). m + i) k)
 
   pub keep_is : (step x : ℕ) → globals_bits program (step - 1) + of_action program x 0 instance_bits + own_weight program (Keep step x) ≡ weight program (Keep step x)
   unfolding weight variables
@@ -70,10 +53,3 @@ module _ (program : Program) where
   pub start_is : (step i : ℕ) → bits_of_variables (of_globals [] program.globals) + (initial_own program + option_map_or (global_weight program) (invariant_at program step i) 0) ≡ weight program (Start step i)
   unfolding weight variables
   start_is step i = refl
-
-pub frames_are : (program : Program) (number cut : ℕ) → (found : Option Proc) → option_map_or frame_bits found 0 ≡ bits_of_variables (option_map_or (λ proc. of_params (codes "other.") proc.params ++ (of_params (codes "other.") proc.outs ++ (of_locals (codes "other.") proc.locals ++ flag (codes "other.done") ∷ []))) found [])
-frames_are program number cut None = refl
-frames_are program number cut (Some proc) =
-    two_groups program (of_params (codes "other.") proc.params) _ (params_bits_are (codes "other.") proc.params)
-    (sym (two_groups program (of_params (codes "other.") proc.outs) _ (params_bits_are (codes "other.") proc.outs)
-    (sym (two_groups program (of_locals (codes "other.") proc.locals) (flag (codes "other.done") ∷ []) (locals_bits_are (codes "other.") proc.locals) refl))))

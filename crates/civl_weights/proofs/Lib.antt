@@ -1,11 +1,3 @@
-pub mod Capping
-pub mod Summing
-pub mod Operations
-pub mod Acting
-pub mod Listing
-pub mod Naming
-pub mod Groups
-pub mod Meeting
-pub mod Pathing
-pub mod Finding
-pub mod Few
+mod Groups
+mod Finding
+mod First

@@ -13,14 +13,14 @@ use Rattle.civl_conditions.specs.declared.condition.Target.{Target}
 use Rattle.civl_conditions.specs.Steps.{of_action, step_invariants}
 use Rattle.civl_conditions.specs.Variables.{path_variables, other_variables}
 use Rattle.civl_conditions.specs.Weights.{bits_of_variables, outs_bits, keep_weight, pair_weight, path_weight, block_weight, global_weight, weights_of, target_weight, target_items, lin, linear_globals, linear_inputs}
-use Rattle.civl_weights.specs.declared.weight.Weight.{Weight}
-use Rattle.civl_weights.specs.declared.actions.ActionSums.{ActionSums}
-use Rattle.civl_weights.specs.declared.cuts.CutSums.{CutSums}
-use Rattle.civl_weights.specs.declared.targets.TargetSums.{TargetSums}
-use Rattle.civl_weights.specs.Weighing.{Weighs}
-use Rattle.civl_weights.specs.Bits.{choices_bits}
-use Rattle.civl_weights.specs.Sums.{OfAction, OfCut, parts_weight}
-use Rattle.civl_weights.specs.Tables.{OfTarget}
+use Rattle.civl_weighing.specs.declared.weight.Weight.{Weight}
+use Rattle.civl_sums.specs.declared.actions.ActionSums.{ActionSums}
+use Rattle.civl_sums.specs.declared.cuts.CutSums.{CutSums}
+use Rattle.civl_sums.specs.declared.targets.TargetSums.{TargetSums}
+use Rattle.civl_weighing.specs.Weighing.{Weighs}
+use Rattle.civl_weighing.specs.Bits.{choices_bits}
+use Rattle.civl_sums.specs.Sums.{OfAction, OfCut, parts_weight}
+use Rattle.civl_sums.specs.Tables.{OfTarget}
 
 abbrev pub step_of : Condition → ℕ
 step_of (Start step i) = step

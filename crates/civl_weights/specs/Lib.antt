@@ -1,9 +1,2 @@
-pub mod Weighing
-pub mod Weighed
-pub mod Bits
-pub mod Sums
-pub mod Met
-pub mod Paths
-pub mod Tables
 pub mod Kinds
 pub mod Heavy

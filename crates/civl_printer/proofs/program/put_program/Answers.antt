@@ -1,7 +1,7 @@
 use Rattle.std.proofs.Common.{◌++◌, ap, ◌∙◌}
-use Rattle.civl_printer.specs.Written.{written}
+use Rattle.civl_printing.specs.Written.{written}
 use Rattle.civl_printer.proofs.Joining.{program_tokens}
-use Rattle.civl_printer.proofs.Writing.{then_phrase}
+use Rattle.civl_printing.proofs.Writing.{then_phrase}
 use Rattle.civl_printer.proofs.program.put_program.Goals as goal
 
 pub returns : goal.returns

@@ -1,8 +1,8 @@
 use Rattle.std.proofs.Common.{arith, ap, sym, ◌∙◌}
 use Rattle.std.specs.Prelude.{nat_lt}
 use Rattle.civl_conditions.specs.Weights.{weight_limit, weight}
-use Rattle.civl_weights.proofs.Capping.{capped_over}
-use Rattle.civl_weights.proofs.Acting.{found_here, found_later}
+use Rattle.civl_weighing.proofs.Capping.{capped_over}
+use Rattle.civl_weights.proofs.First.{found_here, found_later}
 use Rattle.civl_weights.proofs.answer.first_heavy.Goals as goal
 
 pub returns-then-is_heavy : goal.returns-then-is_heavy

@@ -1,7 +1,7 @@
 use Rattle.std.proofs.Common.{ap, ◌∙◌}
 use Rattle.std.specs.Prelude.{nat_lt}
 use Rattle.civl_conditions.specs.Weights.{weight_limit, initial_weight}
-use Rattle.civl_weights.proofs.Capping.{sum_weighs, capped_over}
+use Rattle.civl_weighing.proofs.Capping.{sum_weighs, capped_over}
 use Rattle.civl_weights.proofs.answer.is_initial_heavy.Goals as goal
 
 pub returns : goal.returns

@@ -1,4 +1,4 @@
-use Rattle.civl_weights.proofs.Capping.{sum_weighs, product_weighs, linear_weighs}
+use Rattle.civl_weighing.proofs.Capping.{sum_weighs, product_weighs, linear_weighs}
 use Rattle.civl_weights.proofs.kinds.act_of.Goals as goal
 
 pub returns : goal.returns

@@ -1,8 +1,8 @@
 use Rattle.std.proofs.Common.{ℕ, ◌+◌, ap, sym}
 use Rattle.civl_conditions.specs.Variables.{path_variables, other_variables}
 use Rattle.civl_conditions.specs.Weights.{block_weight}
-use Rattle.civl_weights.proofs.Capping.{sum_weighs, product_weighs, weighs_same}
-use Rattle.civl_weights.proofs.Summing.{bits_append}
+use Rattle.civl_weighing.proofs.Capping.{sum_weighs, product_weighs, weighs_same}
+use Rattle.civl_weighing.proofs.Summing.{bits_append}
 use Rattle.civl_weights.proofs.kinds.block_of.Goals as goal
 
 pub returns : goal.returns

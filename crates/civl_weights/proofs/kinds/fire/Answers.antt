@@ -1,4 +1,4 @@
-use Rattle.civl_weights.proofs.Capping.{sum_weighs, weighs_same}
+use Rattle.civl_weighing.proofs.Capping.{sum_weighs, weighs_same}
 use Rattle.civl_weights.proofs.Groups.{fire_is}
 use Rattle.civl_weights.proofs.kinds.fire.Goals as goal
 

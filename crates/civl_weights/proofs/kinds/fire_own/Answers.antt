@@ -1,8 +1,9 @@
 use Rattle.std.proofs.Common.{Some, None, refl}
 use Rattle.std.proofs.Common.{◌+◌}
 use Rattle.civl_values.specs.ActionWeights.{gate_weight, guard_weight, offers_weight}
-use Rattle.civl_weights.proofs.Capping.{sum_weighs}
-use Rattle.civl_weights.proofs.Finding.{got_of, action_there, action_none}
+use Rattle.civl_weighing.proofs.Capping.{sum_weighs}
+use Rattle.civl_weighing.proofs.Listing.{got_of}
+use Rattle.civl_weights.proofs.Finding.{action_there, action_none}
 use Rattle.civl_weights.proofs.kinds.fire_own.Goals as goal
 
 pub returns-in-Some : goal.returns-in-Some

@@ -1,6 +1,7 @@
 use Rattle.std.proofs.Common.{Some, None, refl}
 use Rattle.civl_conditions.specs.Weights.{outs_bits}
-use Rattle.civl_weights.proofs.Finding.{got_of, action_there, action_none}
+use Rattle.civl_weighing.proofs.Listing.{got_of}
+use Rattle.civl_weights.proofs.Finding.{action_there, action_none}
 use Rattle.civl_weights.proofs.kinds.inputs_bits.Goals as goal
 
 pub returns-in-Some : goal.returns-in-Some

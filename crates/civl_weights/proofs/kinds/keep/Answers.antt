@@ -1,4 +1,4 @@
-use Rattle.civl_weights.proofs.Capping.{sum_weighs, weighs_same}
+use Rattle.civl_weighing.proofs.Capping.{sum_weighs, weighs_same}
 use Rattle.civl_weights.proofs.Groups.{keep_is}
 use Rattle.civl_weights.proofs.kinds.keep.Goals as goal
 

@@ -1,6 +1,7 @@
 use Rattle.std.proofs.Common.{Some, None}
 use Rattle.civl_conditions.specs.Weights.{keep_weight}
-use Rattle.civl_weights.proofs.Finding.{got_of, action_there, action_none}
+use Rattle.civl_weighing.proofs.Listing.{got_of}
+use Rattle.civl_weights.proofs.Finding.{action_there, action_none}
 use Rattle.civl_weights.proofs.kinds.keep_own.Goals as goal
 
 pub returns-in-Some : goal.returns-in-Some

@@ -1,7 +1,8 @@
 use Rattle.std.proofs.Common.{Some, None}
 use Rattle.civl_conditions.specs.Steps.{of_action}
 use Rattle.civl_conditions.specs.Weights.{pair_weight}
-use Rattle.civl_weights.proofs.Finding.{got_of, action_there, action_none}
+use Rattle.civl_weighing.proofs.Listing.{got_of}
+use Rattle.civl_weights.proofs.Finding.{action_there, action_none}
 use Rattle.civl_weights.proofs.kinds.pair_own.Goals as goal
 
 pub returns-in-Some-get : goal.returns-in-Some-get

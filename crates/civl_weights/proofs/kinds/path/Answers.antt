@@ -1,9 +1,9 @@
 use Rattle.std.proofs.Common.{◌+◌, subst, Option}
 use Rattle.civl_conditions.specs.Variables.{path_variables}
 use Rattle.civl_conditions.specs.Weights.{bits_of_variables, path_weight}
-use Rattle.civl_weights.specs.declared.cuts.CutSums.{CutSums}
+use Rattle.civl_sums.specs.declared.cuts.CutSums.{CutSums}
 use Rattle.civl_weights.specs.Kinds.{OfCutFound}
-use Rattle.civl_weights.proofs.Capping.{weighs_same}
+use Rattle.civl_weighing.proofs.Capping.{weighs_same}
 use Rattle.civl_weights.proofs.Finding.{found_cut, lost_cut, path_is}
 use Rattle.civl_weights.proofs.kinds.path.Goals as goal
 

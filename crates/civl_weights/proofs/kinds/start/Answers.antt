@@ -1,7 +1,7 @@
 use Rattle.civl_conditions.specs.Weights.{global_weight}
 use Rattle.civl_conditions.specs.Steps.{step_invariants}
-use Rattle.civl_weights.proofs.Capping.{sum_weighs, weighs_same}
-use Rattle.civl_weights.proofs.Listing.{listed_at}
+use Rattle.civl_weighing.proofs.Capping.{sum_weighs, weighs_same}
+use Rattle.civl_weighing.proofs.Listing.{listed_at}
 use Rattle.civl_weights.proofs.Groups.{start_is}
 use Rattle.civl_weights.proofs.kinds.start.Goals as goal
 

@@ -1,0 +1,13 @@
+use Rattle.std.proofs.Common.{◌∷◌, arith, rules}
+use Rattle.std.proofs.lemmas.Grind.{common_steps}
+use Rattle.civl_tree.specs.Spelling.{comma}
+use Rattle.civl_printing.proofs.Writing.{written_rest, joins}
+use Rattle.civl_printing.proofs.phrases.put_others.Goals as goal
+
+pub loop-phrase-preserved : goal.loop-phrase-preserved
+loop-phrase-preserved g c =
+    let e = written_rest (λ x. comma ∷ g.P.Phrase.spell x) c.args.phrases.now c.loop-phrase.phrase-index c.phrase-item.result (search rules) (search rules) in
+    grind (arith, joins)
+
+pub returns : goal.returns
+returns g c = grind (arith, joins, common_steps)

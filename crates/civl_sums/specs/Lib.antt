@@ -1,0 +1,4 @@
+pub mod Sums
+pub mod Met
+pub mod Paths
+pub mod Tables

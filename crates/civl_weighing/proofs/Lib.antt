@@ -1,0 +1,4 @@
+pub mod Capping
+pub mod Summing
+pub mod Operations
+pub mod Listing

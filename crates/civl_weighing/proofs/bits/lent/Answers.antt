@@ -1,0 +1,12 @@
+use Rattle.std.proofs.Common.{arith}
+use Rattle.std.specs.Prelude.{if◌then◌else◌}
+use Rattle.civl_linear.specs.Modes.{is_lent}
+use Rattle.civl_weighing.proofs.Capping.{weighs_same}
+use Rattle.civl_weighing.proofs.Summing.{one_more, counted, whole}
+use Rattle.civl_weighing.proofs.bits.lent.Goals as goal
+
+pub loop-param-preserved : goal.loop-param-preserved
+loop-param-preserved c = one_more (λ x. if is_lent x.mode then 1 else 0) c.args.params.now c.loop-param.param-index c.param-item.result (omega arith) c.param-item.is c.plus-total.ensures (rw (← c.is_lent.ensures) c.one_where.ensures) c.loop-param.invariant
+
+pub returns : goal.returns
+returns c = weighs_same (counted (λ x. is_lent x.mode) c.args.params.now) (whole (λ x. if is_lent x.mode then 1 else 0) c.args.params.now c.loop-param.param-index (omega arith) c.loop-param.invariant)

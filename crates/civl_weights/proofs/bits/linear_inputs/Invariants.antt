@@ -1,9 +1,0 @@
-use Rattle.std.proofs.Common.{map, take}
-use Rattle.civl_conditions.specs.Weights.{summed}
-use Rattle.civl_weights.specs.Weighing.{Weighs}
-use Rattle.std.specs.Prelude.{if◌then◌else◌}
-use Rattle.civl_tree.specs.rules.Width.{is_linear}
-use Rattle.civl_weights.proofs.bits.linear_inputs.Given as goal
-
-abbrev pub invariant-loop-param : goal.invariant-loop-param
-invariant-loop-param l = Weighs l.total (summed (map (λ x. if is_linear x.mode then 1 else 0) (take l.param-index l.params)))

@@ -1,5 +1,0 @@
-use Rattle.civl_weights.proofs.Capping.{weighing}
-use Rattle.civl_weights.proofs.exprs.one_own.Goals as goal
-
-pub returns-in-Minus : goal.returns-in-Minus
-returns-in-Minus c = record { is = λ n h. rw c.in-Minus.is (search weighing depth 8) }

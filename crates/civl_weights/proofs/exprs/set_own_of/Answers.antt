@@ -1,5 +1,0 @@
-use Rattle.civl_weights.proofs.Capping.{weighing}
-use Rattle.civl_weights.proofs.exprs.set_own_of.Goals as goal
-
-pub returns-in-Row : goal.returns-in-Row
-returns-in-Row c = rw c.in-Row.is (search weighing depth 8)

@@ -1,5 +1,0 @@
-use Rattle.civl_weights.proofs.Capping.{weighing}
-use Rattle.civl_weights.proofs.weight.linear.Goals as goal
-
-pub returns : goal.returns
-returns c = record { is = λ n h. search weighing depth 12 }
