@@ -15,7 +15,7 @@ use Rattle.civl_conditions.specs.Values.{same_values, same_stores}
 use Rattle.civl_formulas.specs.Said.{Env, IsTest}
 use Rattle.civl_formulas.specs.Lists.{AreSaid}
 use Rattle.civl_formulas.proofs.Saying.{IsBool, test_where}
-use Rattle.civl_movers.specs.Runs.{out_sorts}
+use Rattle.civl_states.specs.Runs.{out_sorts}
 use Rattle.civl_movers.specs.Ends.{end_alike}
 
 -- lists of five and six bools

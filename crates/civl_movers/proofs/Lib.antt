@@ -1,5 +1,7 @@
 pub mod Runs
 pub mod Telling
-pub mod Choosing
-pub mod Picking
+pub mod Losing
 pub mod Alike
+pub mod Arranging
+pub mod Pairing
+pub mod Listed

@@ -1,6 +1,5 @@
 -- What conditions on actions come to, as tests that are all true.
-use Rattle.std.specs.Prelude.{if◌then◌else◌}
-use Rattle.std.proofs.Common.{◌≡◌, ◌∙◌, ℕ, ◌-◌, Bool, true, false, ◌&&◌, not, List, refl, sym, ap, Some, None}
+use Rattle.std.proofs.Common.{◌≡◌, ◌∙◌, ℕ, ◌-◌, Bool, true, false, ◌&&◌, not, List, refl, sym, ap}
 use Rattle.civl_bits.specs.declared.value.Value.{Value}
 use Rattle.civl_tree.specs.declared.action.Action.{Action}
 use Rattle.civl_tree.specs.declared.program.Program.{Program}
@@ -9,17 +8,9 @@ use Rattle.civl_firing.specs.Fired.{gate_holds, guard_holds, store_after, outs_a
 use Rattle.civl_conditions.specs.Movers.{on_some, spoils, reveals, clashes}
 use Rattle.civl_conditions.specs.Values.{same_values, same_stores}
 use Rattle.civl_footprints.specs.Agreement.{exists_at}
+use Rattle.civl_states.proofs.Firing.{fires_is}
 use Rattle.civl_movers.specs.Runs.{invoke}
 use Rattle.civl_movers.specs.Ends.{end_alike}
-
-fires_where : (guard : Bool) (s : Store × List Value) (test : Store × List Value → Bool) → on_some (if guard then Some s else None) test ≡ (guard && test s)
-fires_where true s test = refl
-fires_where false s test = refl
-
-pub fires_is : (program : Program) (g : Store) (a : Action) (i c : List Value) (test : Store × List Value → Bool)
-    → on_some (fires program.globals g a i c) test ≡ (guard_holds program.globals g a i c && test (store_after program.globals g a i c, outs_after program.globals g a i c))
-unfolding fires
-fires_is program g a i c test = fires_where (guard_holds program.globals g a i c) (store_after program.globals g a i c, outs_after program.globals g a i c) test
 
 true_last : (a : Bool) → (a && true) ≡ a
 true_last true = refl

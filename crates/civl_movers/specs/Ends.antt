@@ -1,7 +1,6 @@
 -- What two sequences of actions come to: whether they end alike.
-use Rattle.std.specs.Prelude.{ℕ, ◌+◌, Bool, ◌&&◌, List, length, map, filter}
+use Rattle.std.specs.Prelude.{ℕ, Bool, ◌&&◌, List}
 use Rattle.civl_bits.specs.declared.value.Value.{Value}
-use Rattle.civl_tree.specs.declared.expr.Sort.{Sort}
 use Rattle.civl_tree.specs.declared.action.Action.{Action}
 use Rattle.civl_tree.specs.declared.program.Program.{Program}
 use Rattle.civl_firing.specs.declared.store.Store.{Store}
@@ -10,22 +9,8 @@ use Rattle.civl_terms.specs.declared.node.Node.{Node}
 use Rattle.civl_footprints.specs.Agreement.{exists_at}
 use Rattle.civl_conditions.specs.Values.{same_values, same_stores}
 use Rattle.civl_formulas.specs.Said.{Env, IsTest}
-use Rattle.civl_formulas.specs.Given.{bits_of_sorts}
-use Rattle.civl_movers.specs.Runs.{AreStore, IsRun}
+use Rattle.civl_states.specs.Runs.{IsRun}
 use Rattle.civl_movers.specs.declared.sequence.Sequence.{Sequence}
-
--- the sorts of the globals of a layer
-abbrev pub layer_sorts : Program → ℕ → List Sort
-layer_sorts program layer = map (λ g. g.sort) (filter (exists_at layer) program.globals)
-
--- what it weighs to compare values of these sorts: their bits, and 1 for each
-abbrev pub same_weight : List Sort → ℕ
-same_weight sorts = bits_of_sorts sorts + length sorts
-
--- the term says whether two stores agree on the globals of a layer
-abbrev pub TellsSame : List Node → List Node → Program → ℕ → List ℕ → List ℕ → ℕ → Type 0
-TellsSame old new program layer there back id =
-    (g h : Env → Store) → AreStore old program there g → AreStore old program back h → IsTest new id (λ env. same_stores (exists_at layer) program (g env) (h env))
 
 -- b fires first and then a, and this comes to the same end and the same outputs as a first and then b
 abbrev pub end_alike : Program → ℕ → Store → Action → List Value → List Value → Action → List Value → List Value → Bool

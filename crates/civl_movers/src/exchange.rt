@@ -9,13 +9,15 @@ ghost use Rattle.civl_terms.specs.Graphs.{sort_at};
 ghost use Rattle.civl_terms.specs.Building.{Grows};
 ghost use Rattle.civl_terms.specs.Weights.{graph_weight};
 ghost use Rattle.civl_conditions.specs.Movers as says;
-ghost use Rattle.civl_movers.specs.Runs.{AreGlobals, IsReady, TellsTwo, out_sorts};
-ghost use Rattle.civl_movers.specs.Ends.{layer_sorts, same_weight};
+ghost use Rattle.civl_states.specs.Runs.{IsReady, out_sorts};
+ghost use Rattle.civl_states.specs.Stores.{AreGlobals};
+ghost use Rattle.civl_movers.specs.Runs.{TellsTwo};
+ghost use Rattle.civl_states.specs.Same.{layer_sorts, same_weight};
 
 use crate::ends::end_alike;
-use crate::invoked::Invoked;
 use crate::sequence::run_in_turn;
 use civl_formulas::{all_of, negated};
+use civl_states::Invoked;
 use civl_terms::{Id, Memory, Terms};
 use civl_tree::{List, Program};
 use std::alloc::Global as Alloc;

@@ -8,11 +8,13 @@ ghost use Rattle.civl_values.specs.ActionWeights.{gate_weight, guard_weight, off
 ghost use Rattle.civl_terms.specs.Graphs.{sort_at};
 ghost use Rattle.civl_terms.specs.Building.{Grows};
 ghost use Rattle.civl_terms.specs.Weights.{graph_weight};
-ghost use Rattle.civl_movers.specs.Runs.{AreGlobals, HasInputs, TellsInputs, guard_offered, waits_at};
+ghost use Rattle.civl_states.specs.Runs.{HasInputs, TellsInputs};
+ghost use Rattle.civl_states.specs.Stores.{AreGlobals};
+ghost use Rattle.civl_movers.specs.Runs.{guard_offered, waits_at};
 
-use crate::running::gate_at;
 use civl_actions::{guard, offers};
 use civl_formulas::{both, negated};
+use civl_states::gate_at;
 use civl_terms::{Id, Memory, Terms};
 use civl_tree::{List, Program};
 use std::alloc::Global as Alloc;

@@ -1,4 +1,4 @@
-// What the linear globals carry, and the linear parameters and outputs of actions.
+// What goes into an action and what comes out of it, and whether permissions are lost.
 ghost use Rattle.std.specs.Prelude.{◌≡◌, ◌+◌, ◌*◌, ◌≤◌, ◌^◌, ◌&&◌, not, ℕ, List, ◌++◌, All, map, length, slice_get, Some, IfOk, OnOk};
 ghost use Rattle.civl_bits.specs.declared.value.Value.{Value};
 ghost use Rattle.civl_tree.specs.declared.expr.Sort.TheVariants.{Bool as Truth, Word};
@@ -20,220 +20,19 @@ ghost use Rattle.civl_conditions.specs.Weights.{lin, linear_globals, linear_inpu
 ghost use Rattle.civl_formulas.specs.Said.{Env, IsTest};
 ghost use Rattle.civl_formulas.specs.Lists.{AreSaid};
 ghost use Rattle.civl_formulas.specs.Masks.{AreCarried, CanCarry};
-ghost use Rattle.civl_movers.specs.Runs.{AreGlobals, AreStore, IsReady, IsInvoked, AreTested, TellsOne, TellsTwo, out_sorts};
-ghost use Rattle.civl_movers.specs.Items.{picked, is_which, of_which, number_of, HaveWidths, HasItems, items_weight, comes_in, handed_back, goes_out, number_coming, number_back, number_going, IsBalance};
+ghost use Rattle.civl_states.specs.Runs.{IsReady, IsInvoked, out_sorts};
+ghost use Rattle.civl_states.specs.Stores.{AreGlobals, AreStore};
+ghost use Rattle.civl_movers.specs.Runs.{AreTested, TellsOne, TellsTwo};
+ghost use Rattle.civl_states.specs.Items.{picked, is_which, of_which, number_of, HaveWidths, HasItems, items_weight, comes_in, number_coming};
+ghost use Rattle.civl_movers.specs.Items.{handed_back, goes_out, number_back, number_going, IsBalance};
 
-use crate::invoked::Invoked;
-use crate::running::run;
 use civl_actions::Instance;
-use civl_formulas::{
-    Carried, all_of, are_included, both, negated, no_items, with_global, with_word,
-};
+use civl_bits::Value as Constant;
+use civl_formulas::{Carried, all_of, are_included, both, negated, no_items};
+use civl_states::{Invoked, Which, global_items, incoming, input_items, param_items, run};
 use civl_terms::{Id, Memory, Terms};
-use civl_tree::{List, Mode, Param, Program};
+use civl_tree::{List, Program};
 use std::alloc::Global as Alloc;
-
-/// Which parameters of an action: the linear ones, or those that are lent.
-#[derive(Clone, Copy)]
-pub(crate) enum Which {
-    Linear,
-    Lent,
-}
-
-/// Whether a parameter of this mode is one of these.
-fn is_which(which: Which, mode: Mode) -> bool
-    ensures { result ≡ is_which which mode }
-{
-    match which {
-        Which::Linear => !matches!(mode, Mode::Val),
-        Which::Lent => matches!(mode, Mode::Lend),
-    }
-}
-
-/// Of terms for the globals those of the linear ones.
-fn linear_ids(alloc: Alloc, program: &Program, ids: &List<Id>) -> Result<Vec<Id>, Memory>
-    ensures { IfOk result (λ kept. kept.items ≡ picked (λ g. g.linear) program.now.globals ids.now) }
-{
-    let globals = program.globals.as_slice();
-    let ids = ids.as_slice();
-    let mut kept = Vec::new(alloc);
-    for (at, id) in ids.iter().enumerate() {
-        match globals.get(at) {
-            Some(global) if global.linear => kept.push(*id)?,
-            Some(_) => {}
-            None => return Ok(kept),
-        }
-    }
-    Ok(kept)
-}
-
-/// Of terms for parameters those of these ones.
-fn chosen_ids(
-    alloc: Alloc,
-    which: Which,
-    params: &List<Param>,
-    ids: &List<Id>,
-) -> Result<Vec<Id>, Memory>
-    ensures { IfOk result (λ kept. kept.items ≡ picked (λ p. is_which which p.mode) params.now ids.now) }
-{
-    let params = params.as_slice();
-    let ids = ids.as_slice();
-    let mut kept = Vec::new(alloc);
-    for (at, id) in ids.iter().enumerate() {
-        match params.get(at) {
-            Some(param) if is_which(which, param.mode) => kept.push(*id)?,
-            Some(_) => {}
-            None => return Ok(kept),
-        }
-    }
-    Ok(kept)
-}
-
-/// What items carry and these linear globals more.
-fn with_globals(
-    terms: &mut Terms,
-    permissions: u32,
-    carried: Carried,
-    ids: &[Id],
-) -> Result<Carried, Memory>
-    requires ids { All (λ i. sort_at terms.old i ≡ Some (Word (2 ^ permissions))) ids.now }
-    requires carried { CanCarry terms.old (2 ^ permissions) carried }
-    ensures carried { IfOk result (λ c. (f : Env → List (List ℕ)) → AreCarried terms.old (2 ^ permissions) carried f → AreCarried terms.new (2 ^ permissions) c (λ env. f env ++ map permissions_of_global (values_at env terms.old ids.now))) }
-    ensures sorted { IfOk result (λ c. CanCarry terms.new (2 ^ permissions) c) }
-    ensures number { IfOk result (λ c. (n : ℕ) → HasItems carried.mask n → HasItems c.mask (n + length ids.now)) }
-    ensures weighs { OnOk result ((n : ℕ) → HasItems carried.mask n → graph_weight terms.new + items_weight (2 ^ permissions) n ≤ graph_weight terms.old + items_weight (2 ^ permissions) (n + length ids.now)) }
-    ensures grows { Grows terms.old terms.new }
-{
-    let mut more = carried;
-    for item in ids {
-        more = with_global(terms, permissions, more, *item)?;
-    }
-    Ok(more)
-}
-
-/// What items carry and these linear words more.
-fn with_words(
-    terms: &mut Terms,
-    permissions: u32,
-    carried: Carried,
-    ids: &[Id],
-) -> Result<Carried, Memory>
-    requires permissions { permissions ≤ permission_limit }
-    requires ids { All (λ i. sort_at terms.old i ≡ Some (Word permissions)) ids.now }
-    requires carried { CanCarry terms.old (2 ^ permissions) carried }
-    ensures carried { IfOk result (λ c. (f : Env → List (List ℕ)) → AreCarried terms.old (2 ^ permissions) carried f → AreCarried terms.new (2 ^ permissions) c (λ env. f env ++ map permissions_of_word (values_at env terms.old ids.now))) }
-    ensures sorted { IfOk result (λ c. CanCarry terms.new (2 ^ permissions) c) }
-    ensures number { IfOk result (λ c. (n : ℕ) → HasItems carried.mask n → HasItems c.mask (n + length ids.now)) }
-    ensures weighs { OnOk result ((n : ℕ) → HasItems carried.mask n → graph_weight terms.new + items_weight (2 ^ permissions) n ≤ graph_weight terms.old + items_weight (2 ^ permissions) (n + length ids.now)) }
-    ensures grows { Grows terms.old terms.new }
-{
-    let mut more = carried;
-    for item in ids {
-        more = with_word(terms, permissions, more, *item)?;
-    }
-    Ok(more)
-}
-
-/// What items carry and the linear globals more.
-pub(crate) fn global_items(
-    alloc: Alloc,
-    terms: &mut Terms,
-    program: &Program,
-    carried: Carried,
-    globals: &List<Id>,
-) -> Result<Carried, Memory>
-    requires rules { Keeps typing_rules program.now }
-    requires globals { AreGlobals terms.old program.now globals.now }
-    requires carried { CanCarry terms.old (2 ^ program.now.permissions) carried }
-    ensures carried { IfOk result (λ c. (f : Env → List (List ℕ)) (g : Env → Store) → AreCarried terms.old (2 ^ program.now.permissions) carried f → AreStore terms.old program.now globals.now g → AreCarried terms.new (2 ^ program.now.permissions) c (λ env. f env ++ in_store program.now (g env))) }
-    ensures sorted { IfOk result (λ c. CanCarry terms.new (2 ^ program.now.permissions) c) }
-    ensures number { IfOk result (λ c. (n : ℕ) → HasItems carried.mask n → HasItems c.mask (n + linear_globals program.now)) }
-    ensures weighs { OnOk result ((n : ℕ) → HasItems carried.mask n → graph_weight terms.new + items_weight (2 ^ program.now.permissions) n ≤ graph_weight terms.old + items_weight (2 ^ program.now.permissions) (n + linear_globals program.now)) }
-    ensures grows { Grows terms.old terms.new }
-{
-    let linear = linear_ids(alloc, program, globals)?;
-    let more = with_globals(terms, program.permissions, carried, linear.as_slice())?;
-    Ok(more)
-}
-
-/// What items carry and these parameters more.
-pub(crate) fn param_items(
-    alloc: Alloc,
-    terms: &mut Terms,
-    program: &Program,
-    which: Which,
-    carried: Carried,
-    params: &List<Param>,
-    ids: &List<Id>,
-) -> Result<Carried, Memory>
-    requires rules { Keeps typing_rules program.now }
-    requires widths { HaveWidths program.now params.now }
-    requires ids { AreOf terms.old ids.now (map (λ p. p.sort) params.now) }
-    requires carried { CanCarry terms.old (2 ^ program.now.permissions) carried }
-    ensures carried { IfOk result (λ c. (f : Env → List (List ℕ)) (v : Env → List Value) → AreCarried terms.old (2 ^ program.now.permissions) carried f → AreSaid terms.old ids.now (map (λ p. p.sort) params.now) v → AreCarried terms.new (2 ^ program.now.permissions) c (λ env. f env ++ of_which which params.now (v env))) }
-    ensures sorted { IfOk result (λ c. CanCarry terms.new (2 ^ program.now.permissions) c) }
-    ensures number { IfOk result (λ c. (n : ℕ) → HasItems carried.mask n → HasItems c.mask (n + number_of which params.now)) }
-    ensures weighs { OnOk result ((n : ℕ) → HasItems carried.mask n → graph_weight terms.new + items_weight (2 ^ program.now.permissions) n ≤ graph_weight terms.old + items_weight (2 ^ program.now.permissions) (n + number_of which params.now)) }
-    ensures grows { Grows terms.old terms.new }
-{
-    let chosen = chosen_ids(alloc, which, params, ids)?;
-    let more = with_words(terms, program.permissions, carried, chosen.as_slice())?;
-    Ok(more)
-}
-
-/// What items carry and the linear inputs of an action more.
-fn input_items(
-    alloc: Alloc,
-    terms: &mut Terms,
-    program: &Program,
-    carried: Carried,
-    x: &Invoked,
-) -> Result<Carried, Memory>
-    requires rules { Keeps typing_rules program.now }
-    requires x { IsReady terms.old program.now x.now }
-    requires carried { CanCarry terms.old (2 ^ program.now.permissions) carried }
-    ensures carried { IfOk result (λ c. (a : Action) (f : Env → List (List ℕ)) (i e : Env → List Value) → AreCarried terms.old (2 ^ program.now.permissions) carried f → IsInvoked terms.old program.now x.now a i e → AreCarried terms.new (2 ^ program.now.permissions) c (λ env. f env ++ of_params a.params (i env))) }
-    ensures sorted { IfOk result (λ c. CanCarry terms.new (2 ^ program.now.permissions) c) }
-    ensures number { IfOk result (λ c. (a : Action) (n : ℕ) → slice_get program.now.actions x.now.action ≡ Some a → HasItems carried.mask n → HasItems c.mask (n + linear_inputs a.params)) }
-    ensures weighs { OnOk result ((a : Action) (n : ℕ) → slice_get program.now.actions x.now.action ≡ Some a → HasItems carried.mask n → graph_weight terms.new + items_weight (2 ^ program.now.permissions) n ≤ graph_weight terms.old + items_weight (2 ^ program.now.permissions) (n + linear_inputs a.params)) }
-    ensures grows { Grows terms.old terms.new }
-{
-    let action = program.actions.get(x.action as usize);
-    let params = &action.params;
-    let more = param_items(
-        alloc,
-        terms,
-        program,
-        Which::Linear,
-        carried,
-        params,
-        &x.inputs,
-    )?;
-    Ok(more)
-}
-
-/// What goes into an action: the linear globals and its linear inputs.
-fn incoming(
-    alloc: Alloc,
-    terms: &mut Terms,
-    program: &Program,
-    globals: &List<Id>,
-    x: &Invoked,
-) -> Result<Carried, Memory>
-    requires rules { Keeps typing_rules program.now }
-    requires globals { AreGlobals terms.old program.now globals.now }
-    requires x { IsReady terms.old program.now x.now }
-    ensures carried { IfOk result (λ c. (a : Action) (g : Env → Store) (i e : Env → List Value) → AreStore terms.old program.now globals.now g → IsInvoked terms.old program.now x.now a i e → AreCarried terms.new (2 ^ program.now.permissions) c (λ env. comes_in program.now a (g env) (i env))) }
-    ensures sorted { IfOk result (λ c. CanCarry terms.new (2 ^ program.now.permissions) c) }
-    ensures number { IfOk result (λ c. (a : Action) → slice_get program.now.actions x.now.action ≡ Some a → HasItems c.mask (number_coming program.now a)) }
-    ensures weighs { OnOk result ((a : Action) → slice_get program.now.actions x.now.action ≡ Some a → graph_weight terms.new ≤ graph_weight terms.old + items_weight (2 ^ program.now.permissions) (number_coming program.now a)) }
-    ensures grows { Grows terms.old terms.new }
-{
-    let none = no_items(terms)?;
-    let stored = global_items(alloc, terms, program, none, globals)?;
-    let all = input_items(alloc, terms, program, stored, x)?;
-    Ok(all)
-}
 
 /// Whether the linear inputs of two actions and the linear globals are pairwise disjoint.
 ///
@@ -279,6 +78,7 @@ fn back_items(
     requires carried { CanCarry terms.old (2 ^ program.now.permissions) carried }
     ensures carried { IfOk result (λ c. (a : Action) (f : Env → List (List ℕ)) (i e o : Env → List Value) → AreCarried terms.old (2 ^ program.now.permissions) carried f → IsInvoked terms.old program.now x.now a i e → AreSaid terms.old outs.now (out_sorts a) o → AreCarried terms.new (2 ^ program.now.permissions) c (λ env. f env ++ handed_back a (i env) (o env))) }
     ensures sorted { IfOk result (λ c. CanCarry terms.new (2 ^ program.now.permissions) c) }
+    ensures number { IfOk result (λ c. (a : Action) (n : ℕ) → slice_get program.now.actions x.now.action ≡ Some a → HasItems carried.mask n → HasItems c.mask (n + number_back a)) }
     ensures weighs { OnOk result ((a : Action) (n : ℕ) → slice_get program.now.actions x.now.action ≡ Some a → HasItems carried.mask n → graph_weight terms.new + items_weight (2 ^ program.now.permissions) n ≤ graph_weight terms.old + items_weight (2 ^ program.now.permissions) (n + number_back a)) }
     ensures grows { Grows terms.old terms.new }
 {
@@ -312,6 +112,7 @@ fn outgoing(
     requires outs { (a : Action) → slice_get program.now.actions x.now.action ≡ Some a → AreOf terms.old made.now.outs (out_sorts a) }
     ensures carried { IfOk result (λ c. (a : Action) (g : Env → Store) (i e o : Env → List Value) → AreStore terms.old program.now made.now.globals g → IsInvoked terms.old program.now x.now a i e → AreSaid terms.old made.now.outs (out_sorts a) o → AreCarried terms.new (2 ^ program.now.permissions) c (λ env. goes_out program.now a (g env) (i env) (o env))) }
     ensures sorted { IfOk result (λ c. CanCarry terms.new (2 ^ program.now.permissions) c) }
+    ensures number { IfOk result (λ c. (a : Action) → slice_get program.now.actions x.now.action ≡ Some a → HasItems c.mask (number_going program.now a)) }
     ensures weighs { OnOk result ((a : Action) → slice_get program.now.actions x.now.action ≡ Some a → graph_weight terms.new ≤ graph_weight terms.old + items_weight (2 ^ program.now.permissions) (number_going program.now a)) }
     ensures grows { Grows terms.old terms.new }
 {
@@ -344,6 +145,7 @@ fn run_with_items(
     ensures tested { IfOk result (λ b. AreTested terms.new b.made) }
     ensures coming { IfOk result (λ b. CanCarry terms.new (2 ^ program.now.permissions) b.coming) }
     ensures going { IfOk result (λ b. CanCarry terms.new (2 ^ program.now.permissions) b.going) }
+    ensures number { IfOk result (λ b. (a : Action) → slice_get program.now.actions x.now.action ≡ Some a → HasItems b.going.mask (number_going program.now a)) }
     ensures weighs { OnOk result ((a : Action) → slice_get program.now.actions x.now.action ≡ Some a → graph_weight terms.new ≤ graph_weight terms.old + items_weight (2 ^ program.now.permissions) (number_coming program.now a) + action_weight program.now a + items_weight (2 ^ program.now.permissions) (number_going program.now a)) }
     ensures grows { Grows terms.old terms.new }
 {
@@ -357,8 +159,8 @@ fn run_with_items(
     })
 }
 
-/// Whether what goes out isn't pairwise disjoint, or isn't all among what came in.
-fn are_lost(
+/// Whether what goes out isn't pairwise disjoint, or isn't all among what came in, by comparing both.
+fn some_lost(
     terms: &mut Terms,
     permissions: u32,
     coming: Carried,
@@ -375,6 +177,32 @@ fn are_lost(
     let kept = both(terms, going.apart, among)?;
     let id = negated(terms, kept)?;
     Ok(id)
+}
+
+/// Whether what goes out isn't pairwise disjoint, or isn't all among what came in. Where nothing goes out, nothing is lost.
+fn are_lost(
+    terms: &mut Terms,
+    permissions: u32,
+    coming: Carried,
+    going: Carried,
+) -> Result<Id, Memory>
+    requires coming { CanCarry terms.old (2 ^ permissions) coming }
+    requires going { CanCarry terms.old (2 ^ permissions) going }
+    ensures test { IfOk result (λ id. (f g : Env → List (List ℕ)) → AreCarried terms.old (2 ^ permissions) going f → AreCarried terms.old (2 ^ permissions) coming g → IsTest terms.new id (λ env. not (pairwise_disjoint (f env) && included (f env) (g env)))) }
+    ensures sorted { IfOk result (λ id. sort_at terms.new id ≡ Some Truth) }
+    ensures weighs { OnOk result ((n : ℕ) → HasItems going.mask n → graph_weight terms.new ≤ graph_weight terms.old + 2 * (n * 2 ^ permissions) + 2) }
+    ensures grows { Grows terms.old terms.new }
+{
+    match going.mask {
+        None => {
+            let id = terms.constant(Constant::Bool(false))?;
+            Ok(id)
+        }
+        Some(_) => {
+            let id = some_lost(terms, permissions, coming, going)?;
+            Ok(id)
+        }
+    }
 }
 
 /// Whether what goes into an action is pairwise disjoint, its gate is true and it fires, and then what goes out isn't pairwise
@@ -398,7 +226,7 @@ pub fn loses(
     requires x { IsReady terms.old program.now x.now }
     ensures tells { IfOk result (λ id. TellsOne terms.old terms.new program.now globals.now x.now (says.loses program.now) id) }
     ensures sorted { IfOk result (λ id. sort_at terms.new id ≡ Some Truth) }
-    ensures weighs { OnOk result ((a : Action) → slice_get program.now.actions x.now.action ≡ Some a → graph_weight terms.new ≤ graph_weight terms.old + action_weight program.now a + 4 * lin program.now (number_coming program.now a) + 4 * lin program.now (number_going program.now a) + 2 * 2 ^ program.now.permissions + 6) }
+    ensures weighs { OnOk result ((a : Action) → slice_get program.now.actions x.now.action ≡ Some a → graph_weight terms.new ≤ graph_weight terms.old + action_weight program.now a + 4 * lin program.now (number_coming program.now a) + 4 * lin program.now (number_going program.now a) + 2 * (number_going program.now a * 2 ^ program.now.permissions) + 6) }
     ensures grows { Grows terms.old terms.new }
 {
     let items = run_with_items(alloc, terms, program, globals, x)?;

@@ -8,11 +8,12 @@ ghost use Rattle.civl_values.specs.ActionWeights.{gate_weight, action_weight};
 ghost use Rattle.civl_terms.specs.Graphs.{sort_at};
 ghost use Rattle.civl_terms.specs.Building.{Grows};
 ghost use Rattle.civl_terms.specs.Weights.{graph_weight};
-ghost use Rattle.civl_movers.specs.Runs.{AreGlobals, IsReady, HaveMet};
+ghost use Rattle.civl_states.specs.Runs.{IsReady};
+ghost use Rattle.civl_states.specs.Stores.{AreGlobals};
+ghost use Rattle.civl_movers.specs.Runs.{HaveMet};
 
-use crate::invoked::Invoked;
-use crate::running::{gate_at, run};
 use civl_actions::Instance;
+use civl_states::{Invoked, gate_at, run};
 use civl_terms::{Id, Memory, Terms};
 use civl_tree::{List, Program};
 use std::alloc::Global as Alloc;

@@ -9,11 +9,13 @@ ghost use Rattle.civl_terms.specs.Graphs.{sort_at};
 ghost use Rattle.civl_terms.specs.Building.{Grows};
 ghost use Rattle.civl_terms.specs.Weights.{graph_weight};
 ghost use Rattle.civl_conditions.specs.Movers as says;
-ghost use Rattle.civl_movers.specs.Runs.{AreGlobals, IsReady, TellsTwo};
+ghost use Rattle.civl_states.specs.Runs.{IsReady};
+ghost use Rattle.civl_states.specs.Stores.{AreGlobals};
+ghost use Rattle.civl_movers.specs.Runs.{TellsTwo};
 
-use crate::invoked::Invoked;
 use crate::meeting::meet;
 use civl_formulas::{all_of, negated};
+use civl_states::Invoked;
 use civl_terms::{Id, Memory, Terms};
 use civl_tree::{List, Program};
 use std::alloc::Global as Alloc;

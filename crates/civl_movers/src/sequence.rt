@@ -7,11 +7,12 @@ ghost use Rattle.civl_values.specs.ActionWeights.{action_weight};
 ghost use Rattle.civl_terms.specs.Building.{Grows};
 ghost use Rattle.civl_terms.specs.Weights.{graph_weight};
 ghost use Rattle.civl_actions.specs.Scopes.{AreOf};
-ghost use Rattle.civl_movers.specs.Runs.{AreGlobals, IsReady, HaveRun, AreTested, out_sorts};
+ghost use Rattle.civl_states.specs.Runs.{IsReady, out_sorts};
+ghost use Rattle.civl_states.specs.Stores.{AreGlobals};
+ghost use Rattle.civl_movers.specs.Runs.{HaveRun, AreTested};
 
-use crate::invoked::Invoked;
-use crate::running::run;
 use civl_actions::Instance;
+use civl_states::{Invoked, run};
 use civl_terms::{Id, Memory, Terms};
 use civl_tree::{List, Program};
 use std::alloc::Global as Alloc;

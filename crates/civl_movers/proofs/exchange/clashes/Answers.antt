@@ -6,10 +6,11 @@ use Rattle.civl_terms.proofs.Growing.{grows_trans}
 use Rattle.civl_formulas.specs.Said.{Env, IsTest, AreTests, all_true}
 use Rattle.civl_formulas.proofs.Saying.{IsBool, sort_stays, test_stays, test_as}
 use Rattle.civl_formulas.proofs.Listing.{sorts_stay, said_stay}
-use Rattle.civl_movers.specs.Runs.{out_sorts}
-use Rattle.civl_movers.specs.Ends.{end_alike, layer_sorts, same_weight}
-use Rattle.civl_movers.proofs.Runs.{ready_stays, invoked_stays, run_stays}
-use Rattle.civl_movers.proofs.Choosing.{same_weighs}
+use Rattle.civl_states.specs.Runs.{out_sorts}
+use Rattle.civl_states.specs.Same.{layer_sorts, same_weight}
+use Rattle.civl_movers.specs.Ends.{end_alike}
+use Rattle.civl_states.proofs.Runs.{ready_stays, invoked_stays, run_stays}
+use Rattle.civl_states.proofs.Choosing.{same_weighs}
 use Rattle.civl_movers.proofs.Alike.{six_bools}
 use Rattle.civl_movers.proofs.Telling.{clashes_is}
 use Rattle.civl_movers.proofs.exchange.clashes.Goals as goal

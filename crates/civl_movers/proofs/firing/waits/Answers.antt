@@ -6,7 +6,7 @@ use Rattle.civl_formulas.specs.Said.{Env}
 use Rattle.civl_formulas.proofs.Saying.{sort_stays, test_stays}
 use Rattle.civl_formulas.proofs.Listing.{sorts_stay, said_stay}
 use Rattle.civl_movers.specs.Runs.{guard_offered}
-use Rattle.civl_movers.proofs.Runs.{inputs_stay}
+use Rattle.civl_states.proofs.Runs.{inputs_stay}
 use Rattle.civl_movers.proofs.firing.waits.Goals as goal
 
 pub offered_guard-requires-clause-globals : goal.offered_guard-requires-clause-globals

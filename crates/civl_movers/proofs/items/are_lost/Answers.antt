@@ -1,25 +1,15 @@
-use Rattle.std.proofs.Common.{◌&&◌}
-use Rattle.civl_tree.specs.declared.expr.Sort.TheVariants.{Bool as Truth}
-use Rattle.civl_terms.proofs.Growing.{grows_trans}
+use Rattle.std.proofs.Common.{◌^◌, ◌∙◌, ◌&&◌, not, ℕ, List, Option, sym, ap, subst}
+use Rattle.civl_bits.specs.declared.value.Value.TheVariants as value
 use Rattle.civl_meaning.specs.Permissions.{pairwise_disjoint}
 use Rattle.civl_conditions.specs.Permissions.{included}
-use Rattle.civl_formulas.proofs.Saying.{sort_stays, test_stays}
+use Rattle.civl_formulas.specs.Masks.{MasksAll}
 use Rattle.civl_movers.proofs.items.are_lost.Goals as goal
 
-pub both-requires-clause-a : goal.both-requires-clause-a
-both-requires-clause-a c = sort_stays _ _ _ Truth c.in_ok-among.ensures.grows c.requires.going.apart
-
-pub returns-clause-test : goal.returns-clause-test
-returns-clause-test c = λ f g h k.
-    c.in_ok-id.ensures.test (λ env. pairwise_disjoint (f env) && included (f env) (g env))
-    (c.in_ok-kept.ensures.test (λ env. pairwise_disjoint (f env)) (λ env. included (f env) (g env))
-    (test_stays _ _ _ (λ env. pairwise_disjoint (f env)) c.in_ok-among.ensures.grows h.apart) (c.in_ok-among.ensures.test f g h k))
-
-pub returns-clause-grows : goal.returns-clause-grows
-returns-clause-grows c = grows_trans _ _ _ c.in_ok-among.ensures.grows (grows_trans _ _ _ c.in_ok-kept.ensures.grows c.in_ok-id.ensures.grows)
-
-pub returns-in_err-kept-clause-grows : goal.returns-in_err-kept-clause-grows
-returns-in_err-kept-clause-grows c = grows_trans _ _ _ c.in_ok-among.ensures.grows c.in_err-kept.ensures.grows
-
-pub returns-in_err-id-clause-grows : goal.returns-in_err-id-clause-grows
-returns-in_err-id-clause-grows c = grows_trans _ _ _ c.in_ok-among.ensures.grows (grows_trans _ _ _ c.in_ok-kept.ensures.grows c.in_err-id.ensures.grows)
+pub returns-in_ok-id-in-None-clause-test : goal.returns-in_ok-id-in-None-clause-test
+returns-in_ok-id-in-None-clause-test c = λ f g h k.
+    let none = subst (λ (m : Option ℕ). MasksAll c.args.terms.now (2 ^ c.args.permissions) m f) c.in-None.is h.mask in
+    let w = c.in_ok-id-in-None.ensures.grows in
+    record {
+      sorted = c.in_ok-id-in-None.ensures.built.sorted;
+      is = λ env fits. c.in_ok-id-in-None.ensures.built.is env fits ∙ ap (λ (ps : List (List ℕ)). value.Bool (not (pairwise_disjoint ps && included ps (g env)))) (sym (none env (w.fits env fits)));
+    }

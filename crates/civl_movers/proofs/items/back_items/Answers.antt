@@ -9,8 +9,8 @@ use Rattle.civl_formulas.specs.Masks.{AreCarried}
 use Rattle.civl_formulas.proofs.Listing.{sorts_stay, said_stay}
 use Rattle.civl_formulas.proofs.Carrying.{carried_as}
 use Rattle.civl_movers.specs.Items.{handed_back}
-use Rattle.civl_movers.specs.Runs.{param_sorts, out_sorts}
-use Rattle.civl_movers.proofs.Picking.{same_some, action_wide}
+use Rattle.civl_states.specs.Runs.{param_sorts, out_sorts}
+use Rattle.civl_states.proofs.Picking.{same_some, action_wide}
 use Rattle.civl_movers.proofs.items.back_items.Goals as goal
 
 pub param_items-requires-clause-widths : goal.param_items-requires-clause-widths

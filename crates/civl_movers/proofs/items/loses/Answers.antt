@@ -7,8 +7,10 @@ use Rattle.civl_meaning.specs.Permissions.{pairwise_disjoint}
 use Rattle.civl_conditions.specs.Permissions.{included}
 use Rattle.civl_formulas.specs.Said.{Env, AreTests, all_true}
 use Rattle.civl_formulas.proofs.Saying.{sort_stays, test_stays, test_as, IsBool, four_bools, four_tests}
-use Rattle.civl_movers.specs.Items.{comes_in, goes_out, number_coming, number_going}
-use Rattle.civl_movers.proofs.Picking.{loses_is, items_small, permissions_some}
+use Rattle.civl_states.specs.Items.{comes_in, number_coming}
+use Rattle.civl_movers.specs.Items.{goes_out, number_going}
+use Rattle.civl_states.proofs.Picking.{items_small, permissions_some}
+use Rattle.civl_movers.proofs.Losing.{loses_is}
 use Rattle.civl_movers.proofs.items.loses.Goals as goal
 
 pub all_of-requires : goal.all_of-requires
@@ -48,7 +50,7 @@ returns-clause-weighs c = λ a q.
     omega (
       arith,
       c.in_ok-items.ensures.weighs a q,
-      c.in_ok-lost.ensures.weighs,
+      c.in_ok-lost.ensures.weighs (number_going p a) (c.in_ok-items.ensures.number a q),
       c.in_ok-id.ensures.weighs,
       ap (λ (xs : List ℕ). length xs) c.as_slice.ensures,
       items_small p (number_coming p a) (permissions_some p c.requires.rules),

@@ -4,8 +4,8 @@ use Rattle.civl_terms.proofs.Growing.{grows_trans}
 use Rattle.civl_conditions.specs.Permissions.{in_store}
 use Rattle.civl_conditions.specs.Weights.{linear_globals}
 use Rattle.civl_formulas.proofs.Listing.{sorts_stay, said_stay}
-use Rattle.civl_movers.proofs.Runs.{ready_stays, invoked_stays}
-use Rattle.civl_movers.proofs.Picking.{none_counted, first_counted, first_weighs}
+use Rattle.civl_states.proofs.Runs.{ready_stays, invoked_stays}
+use Rattle.civl_states.proofs.Picking.{none_counted, first_counted, first_weighs}
 use Rattle.civl_movers.proofs.items.outgoing.Goals as goal
 
 pub global_items-requires-clause-globals : goal.global_items-requires-clause-globals
@@ -28,6 +28,13 @@ returns-clause-carried c = λ a g i e o s x t.
     c.in_ok-all.ensures.carried a (λ env. in_store p (g env)) i e o
     (c.in_ok-stored.ensures.carried (λ env. []) g (c.in_ok-none.ensures.carried (2 ^ p.permissions)) (said_stay _ _ _ _ _ w s))
     (invoked_stays _ _ _ _ a i e v x) (said_stay _ _ _ _ _ v t)
+
+pub returns-clause-number : goal.returns-clause-number
+returns-clause-number c = λ a e.
+    let p = c.args.program.now in
+    let counted = none_counted c.in_ok-none.none.mask c.in_ok-none.ensures.none in
+    let stored = first_counted c.in_ok-stored.stored.mask (linear_globals p) (c.in_ok-stored.ensures.number 0 counted) in
+    c.in_ok-all.ensures.number a (linear_globals p) e stored
 
 pub returns-clause-weighs : goal.returns-clause-weighs
 returns-clause-weighs c = λ a e.

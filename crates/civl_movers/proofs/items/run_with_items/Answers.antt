@@ -3,8 +3,9 @@ use Rattle.civl_firing.specs.Fired.{store_after, outs_after}
 use Rattle.civl_terms.proofs.Growing.{grows_trans}
 use Rattle.civl_formulas.proofs.Listing.{sorts_stay, said_stay}
 use Rattle.civl_formulas.proofs.Carrying.{carried_stays, can_carry_stays}
-use Rattle.civl_movers.specs.Items.{comes_in}
-use Rattle.civl_movers.proofs.Runs.{ready_stays, invoked_stays, run_stays, tested_stays}
+use Rattle.civl_states.specs.Items.{comes_in}
+use Rattle.civl_states.proofs.Runs.{ready_stays, invoked_stays, run_stays}
+use Rattle.civl_movers.proofs.Runs.{tested_stays}
 use Rattle.civl_movers.proofs.items.run_with_items.Goals as goal
 
 pub run-requires-clause-globals : goal.run-requires-clause-globals

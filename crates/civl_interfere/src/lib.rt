@@ -1,0 +1,13 @@
+//! The terms of initial stores ([`initial`]), and of the conditions on them and on actions that run beside other threads. The term
+//! of a condition's violation is true exactly at the values of its variables that violate it ([`violation`]).
+#![tactic(auto)]
+
+mod acting;
+mod acts;
+mod initials;
+mod starts;
+mod threads;
+mod violations;
+
+pub use initials::initial;
+pub use violations::violation;

@@ -1,0 +1,10 @@
+pub mod Stores
+pub mod Existing
+pub mod Groups
+pub mod Notes
+pub mod Runs
+pub mod Items
+pub mod Same
+pub mod Beginnings
+pub mod Laying
+pub mod Formulas
