@@ -1,0 +1,11 @@
+pub mod Typed
+pub mod Passing
+pub mod Forms
+pub mod Joining
+pub mod Looping
+pub mod Heads
+pub mod Beginning
+pub mod Called
+pub mod Calling
+pub mod Resting
+pub mod RestPassing

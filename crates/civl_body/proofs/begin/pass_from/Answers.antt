@@ -1,0 +1,39 @@
+use Rattle.std.proofs.Common.{◌≡◌, ◌∙◌, ◌++◌, List, ap, sym, subst}
+use Rattle.civl_tree.specs.declared.stmt.Stmt.{Stmt}
+use Rattle.civl_tree.specs.Numbering.{numbered}
+use Rattle.civl_meaning.specs.Rest.{Rest, rest_at}
+use Rattle.civl_paths.specs.Flows.{flow_all, flow_rest}
+use Rattle.civl_sweeps.specs.Sweeps.{sweep_all, sweep_rest}
+use Rattle.civl_body.specs.declared.rests.Numbered.{Numbered}
+use Rattle.civl_body.specs.Rests.{rest_of}
+use Rattle.civl_body.specs.Passing.{ReadyRest, ReadyHead, Passes}
+use Rattle.civl_body.proofs.Beginning.{entry_ready, within_ready, entry_passes, within_passes}
+use Rattle.civl_body.proofs.begin.pass_from.Goals as goal
+
+pub pass_rest-requires-clause-ready : goal.pass_rest-requires-clause-ready
+pass_rest-requires-clause-ready c =
+    let body = c.args.proc.now.body in
+    let i = c.is_entry.ensures.entry c.if-is_entry.true in
+    let items : rest_of c.deref.result.now ≡ numbered 0 body = ap rest_of c.deref.ensures.value ∙ c.in_ok-push_numbered.ensures ∙ ap (λ (l : List Numbered). rest_of l ++ numbered 0 c.as_slice.result.now) c.new-rest.ensures.items ∙ ap (λ (b : List Stmt). numbered 0 b) c.as_slice.ensures in
+    subst (ReadyRest c.args.terms.now c.args.program.now c.args.layer c.args.proc.now c.args.chosen.now c.args.sweep.now) (sym items) (entry_ready c.args.program.now c.args.layer c.args.proc.now c.args.chosen.now c.args.terms.now c.args.sweep.now c.args.cut i c.requires.ready)
+
+pub returns-then-is_entry-clause-passes : goal.returns-then-is_entry-clause-passes
+returns-then-is_entry-clause-passes c =
+    let body = c.args.proc.now.body in
+    let i = c.is_entry.ensures.entry c.if-is_entry.true in
+    let items : rest_of c.deref.result.now ≡ numbered 0 body = ap rest_of c.deref.ensures.value ∙ c.in_ok-push_numbered.ensures ∙ ap (λ (l : List Numbered). rest_of l ++ numbered 0 c.as_slice.result.now) c.new-rest.ensures.items ∙ ap (λ (b : List Stmt). numbered 0 b) c.as_slice.ensures in
+    let p = subst (λ (y : Rest). Passes c.args.terms.now c.pass_rest.new.terms c.args.program.now c.args.layer c.args.proc.now c.args.chosen.now c.args.sweep.now c.pass_rest.new.sweep (flow_all y).passed (λ p. sweep_all p y)) items c.in_ok-pass_rest.ensures.passes in
+    entry_passes c.args.program.now c.args.layer c.args.proc.now c.args.chosen.now c.args.terms.now c.args.sweep.now c.args.cut c.pass_rest.new.terms c.pass_rest.new.sweep i p
+
+pub pass_head-requires-clause-ready : goal.pass_head-requires-clause-ready
+pass_head-requires-clause-ready c =
+    let i = c.is_entry.ensures.within c.if-is_entry.false in
+    let items : rest_of c.deref-2.result.now ≡ rest_at c.args.proc.now.body c.args.cut.statement = ap rest_of c.deref-2.ensures.value ∙ c.in_ok-push_among.ensures ∙ ap (λ (l : List Numbered). rest_of l ++ rest_at c.args.proc.now.body c.args.cut.statement) c.new-rest.ensures.items in
+    subst (ReadyHead c.args.terms.now c.args.program.now c.args.layer c.args.proc.now c.args.chosen.now c.args.sweep.now) (sym items) (within_ready c.args.program.now c.args.layer c.args.proc.now c.args.chosen.now c.args.terms.now c.args.sweep.now c.args.cut i c.requires.ready)
+
+pub returns-clause-passes : goal.returns-clause-passes
+returns-clause-passes c =
+    let i = c.is_entry.ensures.within c.if-is_entry.false in
+    let items : rest_of c.deref-2.result.now ≡ rest_at c.args.proc.now.body c.args.cut.statement = ap rest_of c.deref-2.ensures.value ∙ c.in_ok-push_among.ensures ∙ ap (λ (l : List Numbered). rest_of l ++ rest_at c.args.proc.now.body c.args.cut.statement) c.new-rest.ensures.items in
+    let p = subst (λ (y : Rest). Passes c.args.terms.now c.pass_head.new.terms c.args.program.now c.args.layer c.args.proc.now c.args.chosen.now c.args.sweep.now c.pass_head.new.sweep (flow_rest y).passed (λ p. sweep_rest p y)) items c.in_ok-pass_head.ensures.passes in
+    within_passes c.args.program.now c.args.layer c.args.proc.now c.args.chosen.now c.args.terms.now c.args.sweep.now c.args.cut c.pass_head.new.terms c.pass_head.new.sweep i p

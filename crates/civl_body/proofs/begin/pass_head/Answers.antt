@@ -1,0 +1,54 @@
+use Rattle.std.specs.Prelude.{take, drop}
+use Rattle.std.proofs.Common.{◌≡◌, ◌∙◌, ◌-◌, length, ap, sym, subst, arith}
+use Rattle.civl_meaning.specs.Rest.{Rest}
+use Rattle.civl_paths.specs.Flows.{flow_rest}
+use Rattle.civl_sweeps.specs.Sweeps.{sweep_rest}
+use Rattle.civl_body.specs.Rests.{rest_of}
+use Rattle.civl_body.specs.Passing.{ReadyHead, ReadyLoop, Passes, by_loop, loop_passed}
+use Rattle.civl_body.proofs.Heads.{items_are, loop_small, plain_passes, round, loop_ready, loop_passes}
+use Rattle.civl_body.proofs.begin.pass_head.Goals as goal
+
+pub again-requires : goal.again-requires
+again-requires c =
+    let items = c.args.items.now in
+    let x = c.index-items-0.result in
+    let whole = items_are items x (omega arith) c.index-items-0.is in
+    let ready = subst (ReadyHead c.args.terms.now c.args.program.now c.args.layer c.args.proc.now c.args.chosen.now c.args.sweep.now) whole c.requires.ready in
+    let r = c.in-Some.round in
+    let loop = c.loop_in.ensures.is r c.in-Some.is in
+    omega (arith, loop_small c.args.proc.now x.number x.stmt.now r.condition.now r.body.now loop ready.stands.0, c.requires.small)
+
+pub pass_loop-requires-clause-ready : goal.pass_loop-requires-clause-ready
+pass_loop-requires-clause-ready c =
+    let items = c.args.items.now in
+    let x = c.index-items-0.result in
+    let whole = items_are items x (omega arith) c.index-items-0.is in
+    let ready = subst (ReadyHead c.args.terms.now c.args.program.now c.args.layer c.args.proc.now c.args.chosen.now c.args.sweep.now) whole c.requires.ready in
+    let r = c.in-Some.round in
+    let loop = c.loop_in.ensures.is r c.in-Some.is in
+    let k = rest_of (take (length items - 1) (drop 1 items)) in
+    let inside : rest_of c.deref.result.now ≡ round x.number x.stmt.now r.body.now = ap rest_of c.deref.ensures.value ∙ c.in_ok-inside-in-Some.ensures in
+    subst (λ (y : Rest). ReadyLoop c.args.terms.now c.args.program.now c.args.layer c.args.proc.now c.args.chosen.now c.args.sweep.now r.condition.now y k) (sym inside)
+    (loop_ready c.args.program.now c.args.layer c.args.proc.now c.args.chosen.now c.args.terms.now c.args.sweep.now x.number x.stmt.now r.condition.now r.body.now k loop ready)
+
+pub returns-in_ok-pass_rest-in-None-clause-passes : goal.returns-in_ok-pass_rest-in-None-clause-passes
+returns-in_ok-pass_rest-in-None-clause-passes c =
+    let items = c.args.items.now in
+    let x = c.index-items-0.result in
+    let whole = items_are items x (omega arith) c.index-items-0.is in
+    let k = rest_of (take (length items - 1) (drop 1 items)) in
+    subst (λ (y : Rest). Passes c.args.terms.now c.pass_rest.new.terms c.args.program.now c.args.layer c.args.proc.now c.args.chosen.now c.args.sweep.now c.pass_rest.new.sweep (flow_rest y).passed (λ p. sweep_rest p y)) (sym whole)
+    (plain_passes c.args.program.now c.args.layer c.args.proc.now c.args.chosen.now c.args.terms.now c.pass_rest.new.terms c.args.sweep.now c.pass_rest.new.sweep x.number x.stmt.now k (c.loop_in.ensures.not c.in-None.is) c.in_ok-pass_rest-in-None.ensures.passes)
+
+pub returns-in_ok-pass_loop-in-Some-clause-passes : goal.returns-in_ok-pass_loop-in-Some-clause-passes
+returns-in_ok-pass_loop-in-Some-clause-passes c =
+    let items = c.args.items.now in
+    let x = c.index-items-0.result in
+    let whole = items_are items x (omega arith) c.index-items-0.is in
+    let r = c.in-Some.round in
+    let loop = c.loop_in.ensures.is r c.in-Some.is in
+    let k = rest_of (take (length items - 1) (drop 1 items)) in
+    let inside : rest_of c.deref.result.now ≡ round x.number x.stmt.now r.body.now = ap rest_of c.deref.ensures.value ∙ c.in_ok-inside-in-Some.ensures in
+    let p = subst (λ (y : Rest). Passes c.args.terms.now c.pass_loop.new.terms c.args.program.now c.args.layer c.args.proc.now c.args.chosen.now c.args.sweep.now c.pass_loop.new.sweep (loop_passed y k) (λ p. by_loop p r.condition.now y k)) inside c.in_ok-pass_loop-in-Some.ensures.passes in
+    subst (λ (y : Rest). Passes c.args.terms.now c.pass_loop.new.terms c.args.program.now c.args.layer c.args.proc.now c.args.chosen.now c.args.sweep.now c.pass_loop.new.sweep (flow_rest y).passed (λ p. sweep_rest p y)) (sym whole)
+    (loop_passes c.args.program.now c.args.layer c.args.proc.now c.args.chosen.now c.args.terms.now c.pass_loop.new.terms c.args.sweep.now c.pass_loop.new.sweep x.number x.stmt.now r.condition.now r.body.now k loop p)

@@ -1,0 +1,12 @@
+//! The paths of a procedure's body between two cuts, as terms.
+#![tactic(auto)]
+
+mod begin;
+mod calls;
+mod rests;
+mod sizes;
+mod statements;
+mod way;
+
+pub use begin::pass_from;
+pub use way::{Walk, Way};

@@ -1,0 +1,7 @@
+pub mod Bindings
+pub mod Scoping
+pub mod States
+pub mod Moving
+pub mod Calling
+pub mod Stopping
+pub mod Picking

@@ -1,0 +1,4 @@
+pub mod Expressions
+pub mod States
+pub mod Calls
+pub mod Branches

@@ -1,0 +1,9 @@
+pub mod Typing
+pub mod Assuming
+pub mod Judging
+pub mod Withs
+pub mod Doing
+pub mod Asking
+pub mod Taking
+pub mod Breaking
+pub mod Begun

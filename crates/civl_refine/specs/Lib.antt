@@ -1,0 +1,4 @@
+pub mod Assuming
+pub mod Judging
+pub mod Ways
+pub mod Failing
