@@ -1,7 +1,9 @@
-//! Verdicts on a layered program, and what each of them says.
+//! Verdicts on a layered program, and what is found of all its conditions; and what each of these says.
 #![tactic(auto)]
 
 pub mod laws;
+mod survey;
 mod verdict;
 
+pub use survey::{Found, Survey};
 pub use verdict::{Counter, Verdict};

@@ -1,0 +1,3 @@
+pub mod Powers
+pub mod Numbers
+pub mod Concluding

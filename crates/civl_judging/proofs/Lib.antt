@@ -1,0 +1,4 @@
+pub mod Verdicts
+pub mod Making
+pub mod Lightness
+pub mod Surveys

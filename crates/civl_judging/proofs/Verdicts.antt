@@ -1,0 +1,105 @@
+-- From decided formulas to verdicts.
+use Rattle.std.specs.Prelude.{slice_get, get_or, IsTrue, ◌&&◌}
+use Rattle.std.specs.List.{Contains}
+use Rattle.std.proofs.Common.{◌≡◌, ◌∙◌, ℕ, zero, suc, ◌+◌, ◌<◌, ◌≤◌, Bool, true, false, List, [], ◌∷◌, length, refl, sym, ap, subst, arith, inl, inr, Option, Some, None}
+use Rattle.std.proofs.lemmas.Bool.{false≢true, cases_lt}
+use Rattle.std.proofs.lemmas.Option.{slice_get_within, slice_get-get_or}
+use Rattle.civl_bits.specs.declared.value.Value.{Value}
+use Rattle.civl_tree.specs.declared.program.Program.{Program}
+use Rattle.civl_values.specs.Values.{HaveSorts}
+use Rattle.civl_values.proofs.Sorting.{both}
+use Rattle.civl_firing.specs.declared.store.Store.{Store}
+use Rattle.civl_meaning.specs.Initial.{IsInitial}
+use Rattle.civl_conditions.specs.declared.condition.Condition.{Condition}
+use Rattle.civl_conditions.specs.Listed.{conditions}
+use Rattle.civl_conditions.specs.Violated.{Violates, Holds}
+use Rattle.civl_verdicts.specs.Formulas.{initial_formula, violation_formula}
+use Rattle.civl_verdicts.specs.Verdicts.{HasInitial, IsReached}
+use Rattle.civl_portfolio.specs.Prover.{Meanings}
+use Rattle.civl_portfolio.specs.Count.{count_up}
+use Rattle.civl_portfolio.specs.First.{KeepsFirst, counted}
+use Rattle.civl_decide.specs.Decided.{IsDecided, WasAsked}
+use Rattle.civl_decide.specs.declared.decision.Decision.TheVariants.{Never, At, Spent}
+use Rattle.civl_portfolio.proofs.Firsts.{first_stays}
+
+-- ---- the initial store
+
+pub found_initial : (program : Program) (budget : ℕ) (values : List Value) → IsDecided budget (initial_formula program) (At values) → HasInitial program
+found_initial program budget values h =
+    let b = both _ _ h.1 in
+    (record { values = values }, record { store_fits = h.0; init_holds = b.0; disjoint = b.1 })
+
+pub no_initial : (program : Program) (budget : ℕ) → IsDecided budget (initial_formula program) Never → (store : Store) → IsInitial program store → ⊥
+no_initial program budget h store i = false≢true (sym (h store.values i.store_fits) ∙ both_true _ _ i.init_holds i.disjoint)
+  where
+    both_true : (a b : Bool) → a ≡ true → b ≡ true → (a && b) ≡ true
+    both_true true b p q = q
+    both_true false b p q = absurd (false≢true p)
+
+-- ---- the conditions before a place hold
+
+abbrev pub HoldBefore : Program → ℕ → Type 0
+HoldBefore program place = (i : ℕ) (c : Condition) → i < place → slice_get (conditions program) i ≡ Some c → Holds program c
+
+pub none_before : (program : Program) → HoldBefore program 0
+none_before program i c l e = absurd (omega arith)
+
+same_condition : (c d : Condition) → Some c ≡ Some d → c ≡ d
+same_condition c d e = cc
+
+pub one_more : (program : Program) (place : ℕ) (c : Condition) → HoldBefore program place → slice_get (conditions program) place ≡ Some c → Holds program c → HoldBefore program (place + 1)
+one_more program place c before here holds i d l e = elim (cases_lt i place) [
+  | inl low ↦ before i d low e
+  | inr high ↦
+      let same : i ≡ place = omega arith in
+      subst (Holds program) (same_condition c d (sym here ∙ ap (slice_get (conditions program)) (sym same) ∙ e)) holds
+]
+
+pub all_hold : (program : Program) (place : ℕ) → HoldBefore program place → length (conditions program) ≤ place → (i : ℕ) (c : Condition) → slice_get (conditions program) i ≡ Some c → Holds program c
+all_hold program place before past i c e = let l : i < length (conditions program) = slice_get_within (conditions program) i c e in before i c (omega (arith, l, past)) e
+
+-- ---- how often the first prover was asked
+
+module _ {B : Type 0} (m : Meanings B) where
+  pub not_asked : (olds : List B) → KeepsFirst olds olds 0 m
+  not_asked [] = tt
+  not_asked (before ∷ olds) = λ honest. (before, olds, refl, refl, refl)
+
+  pub asked_more : (olds mids news : List B) (n budget : ℕ) → KeepsFirst olds mids n m → WasAsked mids news budget m → KeepsFirst olds news (n + 1) m
+  asked_more [] mids news n budget k w = tt
+  asked_more (before ∷ olds) mids news n budget k w = λ honest.
+      let a = k honest in
+      let first : KeepsFirst mids news 1 m = first_stays B mids news w.retired w.set budget w.outcome m w.round in
+      let b = subst (λ (xs : List B). KeepsFirst xs news 1 m) a.2 first (a.3 ∙ honest) in
+      let one : suc n ≡ n + 1 = omega arith in
+      (b.0, b.1, b.2, b.3 ∙ a.3, b.4 ∙ ap count_up a.4 ∙ ap (counted (m.asked before)) one)
+
+  -- behind one round more rounds
+  pub asked_then : (olds mids news : List B) (n budget : ℕ) → WasAsked olds mids budget m → KeepsFirst mids news n m → KeepsFirst olds news (n + 1) m
+  asked_then [] mids news n budget w k = tt
+  asked_then (before ∷ olds) mids news n budget w k = λ honest.
+      let first : KeepsFirst (before ∷ olds) mids 1 m = first_stays B (before ∷ olds) mids w.retired w.set budget w.outcome m w.round in
+      let a = first honest in
+      let b = subst (λ (xs : List B). KeepsFirst xs news n m) a.2 k (a.3 ∙ honest) in
+      (b.0, b.1, b.2, b.3 ∙ a.3, b.4 ∙ ap (λ (c : ℕ). counted c n) a.4 ∙ counted_on (m.asked before) n)
+    where
+      counted_suc : (c k : ℕ) → counted (count_up c) k ≡ counted c (suc k)
+      counted_suc c zero = refl
+      counted_suc c (suc k) = ap count_up (counted_suc c k)
+
+      counted_on : (c k : ℕ) → counted (counted c 1) k ≡ counted c (k + 1)
+      counted_on c k = let one : suc k ≡ k + 1 = omega arith in counted_suc c k ∙ ap (counted c) one
+
+-- ---- the condition at a place of the list
+
+pub here_in : (program : Program) (list : List Condition) (i : ℕ) (d : Condition) → list ≡ conditions program → i < length list → slice_get (conditions program) i ≡ Some (get_or list i d)
+here_in program list i d e l = ap (λ (cs : List Condition). slice_get cs i) (sym e) ∙ slice_get-get_or list i d l
+
+pub reached : (program : Program) (list : List Condition) (i : ℕ) (d : Condition) → HasInitial program → list ≡ conditions program → i < length list → HoldBefore program i → IsReached program (get_or list i d) i
+reached program list i d initial e l before = record { initial = initial; there = here_in program list i d e l; before = before }
+
+pub violates : (program : Program) (budget : ℕ) (c : Condition) (values : List Value) → IsDecided budget (violation_formula program c) (At values) → Violates program c values
+violates program budget c values h = record { fit = h.0; fail = h.1 }
+
+pub asked_as : {B : Type 0} (m : Meanings B) (olds news : List B) (n k : ℕ) → n ≡ k → KeepsFirst olds news n m → KeepsFirst olds news k m
+asked_as m olds news n k e h = subst (λ (j : ℕ). KeepsFirst olds news j m) e h

@@ -1,0 +1,3 @@
+pub mod CellsRead
+pub mod Placing
+pub mod ReadingAll
