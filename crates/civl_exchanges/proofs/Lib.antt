@@ -1,0 +1,4 @@
+pub mod Changes
+pub mod Agreeing
+pub mod Exchanging
+pub mod Reducing

@@ -1,0 +1,3 @@
+pub mod Doing
+pub mod Interleavings
+pub mod Exchange

@@ -1,0 +1,5 @@
+pub mod Meeting
+pub mod Moving
+pub mod Instance
+pub mod Configurations
+pub mod Exchanging

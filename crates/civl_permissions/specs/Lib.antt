@@ -1,0 +1,4 @@
+pub mod Owned
+pub mod Stay
+pub mod Apart
+pub mod examples
