@@ -10,6 +10,7 @@ import sys
 import time
 
 import program
+from texts import LIMIT, at_all_limits
 
 CRATES = [
     "civl_bits", "civl_tree", "civl_lex", "civl_phrases", "civl_expressions", "civl_statements", "civl_declarations", "civl_parser",
@@ -101,37 +102,6 @@ returns c =
 
 FILES = {"src/main.rt": PROGRAM, "proofs/program/Answers.antt": PROGRAM_ANSWERS}
 
-LIMIT = 1_048_576
-
-
-def named(letter, count):
-    return ["%s%d" % (letter, number) for number in range(count)]
-
-
-def at_all_limits(calls):
-    """A program at all limits at once: 64 globals, 128 actions, 64 procedures of 32 names, 256 cut points and 64 invariants; with
-    calls, as many as a megabyte holds."""
-    ins, outs = named("p", 15), named("o", 15)
-    params = ", ".join("val %s : bool" % name for name in ins)
-    gives = ", ".join("val %s : bool" % name for name in outs)
-    updates = " ".join("%s := %s;" % (out, into) for out, into in zip(outs, ins))
-    parts = ["civl 2; layers 8; permissions 5;\n"]
-    parts += ["global g%d : bool layers 0 to 8;\n" % number for number in range(64)]
-    parts.append("init true;\n")
-    parts += ["invariant %d (g%d == g%d);\n" % (number % 8 + 1, number, number) for number in range(64)]
-    for number in range(128):
-        parts.append("action A%d(%s) -> (%s) choose () layers 0 to 8 both gate true guard true { g%d := p0; %s }\n"
-                     % (number, params, gives, number % 64, updates))
-    call = "call A%%d(%s) -> (%s);\n" % (", ".join(ins), ", ".join(outs))
-    front = ("proc P%%d(%s) -> (%s) refines A%%d with () layer 8 { var t : bool; var u : bool; yield true; yield true; yield true;\n"
-             % (params, gives))
-    room = (LIMIT - sum(map(len, parts))) // 64 - len(front) - 40
-    for number in range(64):
-        body = [call % ((number + at) % 128) for at in range(room // (len(call) + 2))] if calls else []
-        parts.append(front % (number, number) + "".join(body) + "commit; }\n")
-    return "".join(parts)
-
-
 def one_procedure(body):
     """One global, one action, and a procedure of this body, which refines another action."""
     return ("civl 2; layers 1; permissions 1;\nglobal x : word(8) layers 0 to 1;\ninit true;\n"
@@ -153,8 +123,8 @@ def yields_behind_ifs():
 
 
 TEXTS = {
-    "a program at all limits": at_all_limits(False),
-    "the same with a megabyte of calls": at_all_limits(True),
+    "a program at all limits": at_all_limits("bool", False),
+    "the same with a megabyte of calls": at_all_limits("bool", True),
     "58 nested ifs": nested_ifs(),
     "254 yields behind ifs": yields_behind_ifs(),
 }

@@ -10,7 +10,8 @@ import subprocess
 import sys
 import time
 
-LIMIT = 1_048_576
+from texts import LIMIT, at_all_limits
+
 HEADER = "civl 1; layers 1; permissions 1;\n"
 FLAG = """global f : bool layers 0 to 1;
 init true;
@@ -50,34 +51,6 @@ TEXTS = {
 }
 
 
-def named(letter, count):
-    return ["%s%d" % (letter, number) for number in range(count)]
-
-
-def at_all_limits():
-    """A script whose program is at all limits at once: 64 globals, 128 actions, 64 procedures of 32 names, 256 cut points, and
-    a megabyte of calls."""
-    ins, outs = named("p", 15), named("o", 15)
-    params = ", ".join("val %s : word(32)" % name for name in ins)
-    gives = ", ".join("val %s : word(32)" % name for name in outs)
-    updates = " ".join("%s := %s;" % (out, into) for out, into in zip(outs, ins))
-    parts = ["civl 2; layers 8; permissions 5;\n"]
-    parts += ["global g%d : word(32) layers 0 to 8;\n" % number for number in range(64)]
-    parts.append("init true;\n")
-    parts += ["invariant %d (g%d == g%d);\n" % (number % 8 + 1, number, number) for number in range(64)]
-    for number in range(128):
-        parts.append("action A%d(%s) -> (%s) choose () layers 0 to 8 both gate true guard true { g%d := p0; %s }\n"
-                     % (number, params, gives, number % 64, updates))
-    call = "call A%%d(%s) -> (%s);\n" % (", ".join(ins), ", ".join(outs))
-    front = "proc P%%d(%s) -> (%s) refines A%%d with () layer 8 { var t : word(32); var u : word(32); yield true; yield true; yield true;\n" % (params, gives)
-    moves = "schedule\n" + "".join("g%d = 0:32;\n" % number for number in range(64))
-    room = (LIMIT - sum(map(len, parts)) - len(moves)) // 64 - len(front) - 40
-    for number in range(64):
-        body = [call % ((number + at) % 128) for at in range(room // (len(call) + 2))]
-        parts.append(front % (number, number) + "".join(body) + "commit; }\n")
-    return "".join(parts) + moves
-
-
 def bracketed(names):
     """One conjunction of the names, in balanced brackets."""
     if len(names) == 1:
@@ -99,8 +72,10 @@ def many_calls():
     return HEADER + "init true;\n" + procs + "proc Main() -> () root {\n" + calls + "}\nschedule\n"
 
 
+SCHEDULE = "schedule\n" + "".join("g%d = 0:32;\n" % number for number in range(64))
+
 SCRIPTS = {
-    "a program at all limits": at_all_limits(),
+    "a program at all limits": at_all_limits("word(32)", True, SCHEDULE),
     "many names, looked up late": many_names(),
     "many procedures, called late": many_calls(),
     "moves": filled(HEADER + FLAG + "thread DoSet();\nschedule f = false; ", "move 0 ();\n", ""),
