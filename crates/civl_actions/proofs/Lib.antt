@@ -7,4 +7,5 @@ pub mod Sizes
 pub mod Rules
 pub mod Scoping
 pub mod Listing
+pub mod Leaving
 pub mod Making

@@ -1,10 +1,12 @@
 -- The terms of an action and of its parts, at given terms for the globals, its parameters and its choices.
-use Rattle.std.specs.Prelude.{◌≡◌, ℕ, List, map, Some}
+use Rattle.std.specs.Prelude.{◌≡◌, ℕ, false, List, map, slice_get, Some}
 use Rattle.civl_bits.specs.declared.value.Value.{Value}
 use Rattle.civl_bits.specs.declared.value.Value.TheVariants as value
+use Rattle.civl_tree.specs.declared.name.Name.{Name}
 use Rattle.civl_tree.specs.declared.expr.Sort.TheVariants.{Bool as Truth}
 use Rattle.civl_tree.specs.declared.action.Action.{Action}
 use Rattle.civl_tree.specs.declared.program.Program.{Program}
+use Rattle.civl_tree.specs.rules.Names.{has_name}
 use Rattle.civl_firing.specs.declared.store.Store.{Store}
 use Rattle.civl_firing.specs.Fired.{gate_holds, guard_holds, offers, store_after, outs_after}
 use Rattle.civl_terms.specs.declared.node.Node.{Node}
@@ -44,6 +46,10 @@ pub record IsChange (old new : List Node) (program : Program) (action : Action) 
   pub outs : (env : ℕ → Value) → Fits env new → values_at env new outs_then ≡ outs_after program.globals (store_at env old globals) action (values_at env old inputs) (values_at env old choices)
   pub global_sorts : AreOf new globals_then (map (λ g. g.sort) program.globals)
   pub out_sorts : AreOf new outs_then (map (λ p. p.sort) action.outs)
+
+-- terms for these names, as they were wherever the name isn't one that is written
+abbrev pub LeavesOthers : List Name → List Name → List ℕ → List ℕ → Type 0
+LeavesOthers names written before after = (place : ℕ) (name : Name) → slice_get names place ≡ Some name → has_name written name ≡ false → slice_get after place ≡ slice_get before place
 
 -- ---- all of them
 

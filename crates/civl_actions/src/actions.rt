@@ -1,12 +1,13 @@
 // The terms of actions.
 ghost use Rattle.std.specs.Prelude.{◌≡◌, ◌+◌, ◌<◌, ◌≤◌, ℕ, length, map, slice_get, IfOk, OnOk, IfSome};
+ghost use Rattle.civl_tree.specs.rules.Names.{global_names, targets_of};
 ghost use Rattle.civl_tree.specs.rules.Rules.{Keeps};
 ghost use Rattle.civl_tree.specs.rules.Typing.{typing_rules};
 ghost use Rattle.civl_values.specs.ActionWeights.{gate_weight, guard_weight, offers_weight, updates_weight, action_weight};
 ghost use Rattle.civl_terms.specs.Building.{Grows};
 ghost use Rattle.civl_terms.specs.Weights.{graph_weight};
 ghost use Rattle.civl_actions.specs.Scopes.{AreOf};
-ghost use Rattle.civl_actions.specs.Actions.{IsGate, IsGuard, AreOffers, IsChange, IsInstance};
+ghost use Rattle.civl_actions.specs.Actions.{IsGate, IsGuard, AreOffers, IsChange, IsInstance, LeavesOthers};
 ghost use Rattle.civl_actions.specs.Steps.{IsActionOf};
 
 use crate::made::{Changed, Instance};
@@ -132,7 +133,7 @@ pub fn offers(
 /// at these terms for the globals, for its parameters and for its choices.
 ///
 /// The program keeps the rules E10 to E24, and the terms have the sorts of the globals, the parameters and the choices. The
-/// graph's weight rises by at most that of the updates.
+/// graph's weight rises by at most that of the updates. Globals that aren't updated keep their terms.
 ///
 /// # Errors
 ///
@@ -152,6 +153,7 @@ pub fn updates(
     requires inputs { IfSome (slice_get program.now.actions action) (λ a. AreOf terms.old inputs.now (map (λ p. p.sort) a.params)) }
     requires choices { IfSome (slice_get program.now.actions action) (λ a. AreOf terms.old choices.now (map (λ c. c.sort) a.choices)) }
     ensures change { IfOk result (λ c. IfSome (slice_get program.now.actions action) (λ a. IsChange terms.old terms.new program.now a globals.now inputs.now choices.now c.globals c.outs)) }
+    ensures others { IfOk result (λ c. IfSome (slice_get program.now.actions action) (λ a. LeavesOthers (global_names program.now.globals) (targets_of a) globals.now c.globals)) }
     ensures weighs { OnOk result (IfSome (slice_get program.now.actions action) (λ a. graph_weight terms.new ≤ graph_weight terms.old + updates_weight program.now a)) }
     ensures grows { Grows terms.old terms.new }
 {
@@ -185,6 +187,7 @@ fn instance_of(
     requires inputs { AreOf terms.old inputs.now (map (λ p. p.sort) action.now.params) }
     requires choices { AreOf terms.old choices.now (map (λ c. c.sort) action.now.choices) }
     ensures made { IfOk result (λ i. IsInstance terms.old terms.new program.now action.now globals.now inputs.now choices.now i) }
+    ensures others { IfOk result (λ i. LeavesOthers (global_names program.now.globals) (targets_of action.now) globals.now i.globals) }
     ensures weighs { OnOk result (graph_weight terms.new ≤ graph_weight terms.old + action_weight program.now action.now) }
     ensures grows { Grows terms.old terms.new }
 {
@@ -202,7 +205,7 @@ fn instance_of(
 /// The terms of the action with this number, at these terms for the globals, for its parameters and for its choices.
 ///
 /// The program keeps the rules E10 to E24, and the terms have the sorts of the globals, the parameters and the choices. The
-/// graph's weight rises by at most that of the gate, the guard and the updates.
+/// graph's weight rises by at most that of the gate, the guard and the updates. Globals that aren't updated keep their terms.
 ///
 /// # Errors
 ///
@@ -222,6 +225,7 @@ pub fn instance(
     requires inputs { IfSome (slice_get program.now.actions action) (λ a. AreOf terms.old inputs.now (map (λ p. p.sort) a.params)) }
     requires choices { IfSome (slice_get program.now.actions action) (λ a. AreOf terms.old choices.now (map (λ c. c.sort) a.choices)) }
     ensures made { IfOk result (λ i. IfSome (slice_get program.now.actions action) (λ a. IsInstance terms.old terms.new program.now a globals.now inputs.now choices.now i)) }
+    ensures others { IfOk result (λ i. IfSome (slice_get program.now.actions action) (λ a. LeavesOthers (global_names program.now.globals) (targets_of a) globals.now i.globals)) }
     ensures weighs { OnOk result (IfSome (slice_get program.now.actions action) (λ a. graph_weight terms.new ≤ graph_weight terms.old + action_weight program.now a)) }
     ensures grows { Grows terms.old terms.new }
 {

@@ -2,14 +2,14 @@
 ghost use Rattle.std.specs.Prelude.{◌≡◌, ◌+◌, ◌≤◌, ℕ, length, map, slice_set, IfOk, OnOk};
 ghost use Rattle.civl_tree.specs.rules.Rules.{Keeps};
 ghost use Rattle.civl_tree.specs.rules.Typing.{typing_rules};
-ghost use Rattle.civl_tree.specs.rules.Names.{global_names, param_names};
+ghost use Rattle.civl_tree.specs.rules.Names.{global_names, param_names, targets_of};
 ghost use Rattle.civl_tree.specs.rules.Scopes.{gate_scope, guard_scope};
 ghost use Rattle.civl_values.specs.ActionWeights.{gate_weight, guard_weight, offers_weight, updates_weight};
 ghost use Rattle.civl_firing.specs.Names.{names_of};
 ghost use Rattle.civl_terms.specs.Building.{Grows};
 ghost use Rattle.civl_terms.specs.Weights.{graph_weight};
 ghost use Rattle.civl_actions.specs.Scopes.{AreOf, ScopeFits};
-ghost use Rattle.civl_actions.specs.Actions.{IsGate, IsGuard, AreOffers, IsChange};
+ghost use Rattle.civl_actions.specs.Actions.{IsGate, IsGuard, AreOffers, IsChange, LeavesOthers};
 ghost use Rattle.civl_actions.specs.Steps.{IsActionOf, AreOffered, AreUpdated};
 
 use crate::expressions::term;
@@ -75,6 +75,7 @@ fn update(
     requires globals { AreOf terms.old globals.old.items (map (λ g. g.sort) program.now.globals) }
     requires outs { AreOf terms.old outs.old.items (map (λ p. p.sort) action.now.outs) }
     ensures updated { OnOk result (AreUpdated terms.old terms.new scope.now program.now action.now (length action.now.updates) globals.old.items outs.old.items globals.new.items outs.new.items) }
+    ensures others { OnOk result (LeavesOthers (global_names program.now.globals) (targets_of action.now) globals.old.items globals.new.items) }
     ensures grows { Grows terms.old terms.new }
 {
     for one in action.updates.as_slice() {
@@ -208,6 +209,7 @@ pub fn updates_of(
     requires inputs { AreOf terms.old inputs.now (map (λ p. p.sort) action.now.params) }
     requires choices { AreOf terms.old choices.now (map (λ c. c.sort) action.now.choices) }
     ensures change { IfOk result (λ c. IsChange terms.old terms.new program.now action.now globals.now inputs.now choices.now c.globals c.outs) }
+    ensures others { IfOk result (λ c. LeavesOthers (global_names program.now.globals) (targets_of action.now) globals.now c.globals) }
     ensures weighs { OnOk result (graph_weight terms.new ≤ graph_weight terms.old + updates_weight program.now action.now) }
     ensures grows { Grows terms.old terms.new }
 {

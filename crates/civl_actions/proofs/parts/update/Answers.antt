@@ -1,13 +1,15 @@
 use Rattle.std.proofs.Common.{◌≡◌, ◌∙◌, ap, sym, subst, arith, List, ℕ, ◌+◌}
 use Rattle.std.specs.Prelude.{slice_get, slice_set, Some}
 use Rattle.civl_tree.specs.rules.Scopes.{guard_scope}
-use Rattle.civl_tree.specs.rules.Names.{global_names, param_names}
+use Rattle.civl_tree.specs.rules.Names.{global_names, param_names, targets_of}
 use Rattle.civl_firing.specs.Truth.{place_of}
 use Rattle.civl_terms.proofs.Growing.{grows_trans}
+use Rattle.civl_actions.specs.Actions.{LeavesOthers}
 use Rattle.civl_actions.specs.Steps.{AreUpdated}
 use Rattle.civl_actions.proofs.Staying.{fits_stay}
 use Rattle.civl_actions.proofs.Rules.{kept, update_typed}
 use Rattle.civl_actions.proofs.Listing.{item_at, updated_more}
+use Rattle.civl_actions.proofs.Leaving.{leaves_set, target_there}
 use Rattle.civl_actions.proofs.parts.update.Goals as goal
 
 pub term-requires : goal.term-requires
@@ -37,4 +39,5 @@ loop-one-preserved c =
       subst (λ (xs : List ℕ). AreUpdated c.args.terms.now c.term.new.terms c.args.scope.now p a (i + 1) c.args.globals.now.items c.args.outs.now.items xs c.write-in-loop-one.new.ids.items) (sym gs)
           (subst (λ (ys : List ℕ). AreUpdated c.args.terms.now c.term.new.terms c.args.scope.now p a (i + 1) c.args.globals.now.items c.args.outs.now.items (slice_set c.loop-one.globals.items (place_of (global_names p.globals) u.target) id) ys) (sym os) next),
       grows_trans _ _ _ c.loop-one.invariant.1 c.in_ok-id.ensures.grows,
+      subst (LeavesOthers (global_names p.globals) (targets_of a) c.args.globals.now.items) (sym gs) (leaves_set (global_names p.globals) (targets_of a) c.args.globals.now.items c.loop-one.globals.items u.target id (target_there a.updates i u at) c.loop-one.invariant.2),
     )

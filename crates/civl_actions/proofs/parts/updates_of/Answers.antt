@@ -2,9 +2,11 @@ use Rattle.std.proofs.Common.{◌≡◌, ◌∙◌, List, ℕ, length, ap, sym, 
 use Rattle.std.proofs.lemmas.List.{take_all}
 use Rattle.std.specs.Prelude.{map, take}
 use Rattle.civl_tree.specs.declared.action.Choice.{Choice}
+use Rattle.civl_tree.specs.rules.Names.{global_names, targets_of}
 use Rattle.civl_tree.specs.rules.Scopes.{guard_scope}
 use Rattle.civl_values.specs.ActionWeights.{update_weights}
 use Rattle.civl_actions.specs.Scopes.{AreOf}
+use Rattle.civl_actions.specs.Actions.{LeavesOthers}
 use Rattle.civl_actions.specs.Steps.{AreUpdated}
 use Rattle.civl_actions.proofs.Rules.{kept, outs_limits}
 use Rattle.civl_actions.proofs.Scoping.{all_names}
@@ -56,6 +58,13 @@ returns-clause-change c =
     let u2 = subst (λ (xs : List ℕ). AreUpdated old new scope p a count c.args.globals.now zeros xs c.update.new.outs.items) (sym c.from_vec.ensures) u1 in
     let u3 = subst (λ (xs : List ℕ). AreUpdated old new scope p a count c.args.globals.now zeros c.from_vec.result xs) (sym c.from_vec-2.ensures) u2 in
     change_is c.args.terms.now old new scope p a c.args.globals.now c.args.inputs.now c.in_ok-update.ensures.grows c.args.choices.now c.from_vec.result c.from_vec-2.result c.in_ok-named.named s c.requires.globals c.in_ok-named.ensures.grows n u3
+
+pub returns-clause-others : goal.returns-clause-others
+returns-clause-others c =
+    let names = global_names c.args.program.now.globals in
+    let targets = targets_of c.args.action.now in
+    subst (LeavesOthers names targets c.args.globals.now) (sym c.from_vec.ensures)
+    (subst (λ (xs : List ℕ). LeavesOthers names targets xs c.update.new.globals.items) c.in_ok-after.ensures.items c.in_ok-update.ensures.others)
 
 pub returns-clause-weighs : goal.returns-clause-weighs
 returns-clause-weighs c =
