@@ -5,3 +5,5 @@ pub mod Branching
 pub mod Sweeping
 pub mod Stopping
 pub mod Arriving
+pub mod Once
+pub mod AtCuts

@@ -1,9 +1,11 @@
 -- Where a sweep stops, and whether it goes on: at the cuts at which some path ends, in the same order, and where some path goes on.
-use Rattle.std.specs.Prelude.{ℕ, ◌≡◌, Some, List, map}
+use Rattle.std.specs.Prelude.{ℕ, ◌≡◌, ◌+◌, ◌<◌, ◌≤◌, Bool, not, ◌&&◌, nat_eq, if◌then◌else◌, Some, List, [], ◌∷◌, map, slice_get}
 use Rattle.civl_layers.specs.declared.cut.Cut.{Cut}
+use Rattle.civl_layers.specs.Cuts.{proc_cuts}
 use Rattle.std.specs.List.{Contains}
+use Rattle.civl_tree.specs.declared.program.Proc.{Proc}
 use Rattle.civl_tree.specs.declared.program.Refines.{Refines}
-use Rattle.civl_paths.specs.Ends.{arrived, ends_from}
+use Rattle.civl_paths.specs.Ends.{is_entry, arrived, cut_number, exit_of, ends_from}
 use Rattle.civl_paths.specs.Paths.{Course, Progress, path_from}
 use Rattle.civl_paths.specs.Flows.{flow_from}
 use Rattle.civl_sweeps.specs.Sweeps.{Stop, sweep_from, sweep_begins}
@@ -20,3 +22,22 @@ SweepsStopAtEnds =
 abbrev pub PathsArriveAtEnds : Type 0
 PathsArriveAtEnds =
     (c : Course) (cut : Cut) (p : Progress) (refines : Refines) (end : ℕ) → c.proc.refines ≡ Some refines → arrived c.proc (path_from c cut p) ≡ Some end → Contains (ends_from c.proc cut) end
+
+-- how often a number stands among these
+abbrev pub times : ℕ → List ℕ → ℕ
+times n [] = 0
+times n (x ∷ xs) = (if nat_eq n x then 1 else 0) + times n xs
+
+-- no two ends of the paths from a cut have one number
+abbrev pub EndsComeOnce : Type 0
+EndsComeOnce = (proc : Proc) (cut : Cut) (n : ℕ) → times n (flow_from proc cut).ends ≤ 1
+
+-- the cut is the statement with this number
+abbrev pub is_statement : ℕ → Cut → Bool
+is_statement number cut = not (is_entry cut.kind) && nat_eq number cut.statement
+
+-- each end is a cut of the procedure, and a cut is this statement where it has its number among the cuts
+abbrev pub EndsAreCuts : Type 0
+EndsAreCuts =
+    (proc : Proc) (refines : Refines) (cut : Cut) (n : ℕ) → proc.refines ≡ Some refines → Contains (flow_from proc cut).ends n
+    → (cut_number proc n < exit_of proc) × ((i : ℕ) (k : Cut) → slice_get (proc_cuts proc) i ≡ Some k → is_statement n k ≡ nat_eq i (cut_number proc n))

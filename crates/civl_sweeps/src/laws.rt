@@ -1,6 +1,6 @@
 // Laws on sweeps, each the contract of a function that does nothing.
 ghost use Rattle.civl_sweeps.specs.Draws.{SweepsDrawPaths, SweepsDrawRests};
-ghost use Rattle.civl_sweeps.specs.Flowing.{SweepsStopAtEnds, PathsArriveAtEnds};
+ghost use Rattle.civl_sweeps.specs.Flowing.{SweepsStopAtEnds, PathsArriveAtEnds, EndsComeOnce, EndsAreCuts};
 
 /// What a sweep over statements collects draws what going over them comes to.
 pub fn sweeps_draw_rests()
@@ -20,4 +20,14 @@ pub fn sweeps_stop_at_ends()
 /// Where a path arrives is one of the ends that some path from its cut reaches.
 pub fn paths_arrive_at_ends()
     ensures { PathsArriveAtEnds }
+{}
+
+/// No two ends of the paths from a cut have one number.
+pub fn ends_come_once()
+    ensures { EndsComeOnce }
+{}
+
+/// Each end of the paths from a cut of a procedure that refines an action is one of its cuts.
+pub fn ends_are_cuts()
+    ensures { EndsAreCuts }
 {}
