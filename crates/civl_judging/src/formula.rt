@@ -2,6 +2,8 @@
 ghost use Rattle.std.specs.Prelude.{◌≡◌, IsTrue, IfOk};
 ghost use Rattle.std.specs.List.{Contains};
 ghost use Rattle.civl_tree.specs.SpellingDomain.{allows_program};
+ghost use Rattle.civl_tree.specs.rules.Rules.{Keeps};
+ghost use Rattle.civl_linear.specs.LinearRules.{linear_rules};
 ghost use Rattle.civl_linear.specs.Cuts.{all_held};
 ghost use Rattle.civl_conditions.specs.Listed.{conditions};
 ghost use Rattle.civl_verdicts.specs.Formulas.{initial_formula, violation_formula};
@@ -37,6 +39,7 @@ pub trait Makes {
         condition: &Condition,
     ) -> Result<Made, Memory>
         requires written { IsTrue (allows_program src.now) }
+        requires linear { Keeps linear_rules src.now }
         requires held { held.now.cuts ≡ all_held src.now }
         requires listed { Contains (conditions src.now) condition.now }
         ensures { IfOk result (IsMade (violation_formula src.now condition.now)) };

@@ -2,6 +2,8 @@
 ghost use Rattle.std.specs.Prelude.{◌≡◌, ◌≤◌, ◌+◌, None, IsTrue, IfOk, IfErr, length};
 ghost use Rattle.std.specs.List.{Contains};
 ghost use Rattle.civl_tree.specs.SpellingDomain.{allows_program};
+ghost use Rattle.civl_tree.specs.rules.Rules.{Keeps};
+ghost use Rattle.civl_linear.specs.LinearRules.{linear_rules};
 ghost use Rattle.civl_linear.specs.Cuts.{all_held};
 ghost use Rattle.civl_portfolio.specs.First.{KeepsFirst};
 ghost use Rattle.civl_conditions.specs.Listed.{conditions};
@@ -34,6 +36,7 @@ fn find<M: Makes>(
     budget: u32,
 ) -> Result<Found, Memory>
     requires written { IsTrue (allows_program src.now) }
+    requires linear { Keeps linear_rules src.now }
     requires held { held.now.cuts ≡ all_held src.now }
     requires listed { Contains (conditions src.now) condition.now }
     requires light { weight src.now condition.now ≤ weight_limit }
@@ -61,6 +64,7 @@ fn find_all<M: Makes>(
     budget: u32,
 ) -> Result<List<Found>, Memory>
     requires written { IsTrue (allows_program src.now) }
+    requires linear { Keeps linear_rules src.now }
     requires held { held.now.cuts ≡ all_held src.now }
     requires listed { list.now ≡ conditions src.now }
     requires light { heavy src.now ≡ None }
@@ -86,6 +90,7 @@ fn look<M: Makes>(
     budget: u32,
 ) -> Result<Survey, Memory>
     requires written { IsTrue (allows_program src.now) }
+    requires linear { Keeps linear_rules src.now }
     requires held { held.now.cuts ≡ all_held src.now }
     requires listed { list.now ≡ conditions src.now }
     requires light { heavy src.now ≡ None }
@@ -121,6 +126,7 @@ pub fn survey<M: Makes>(
     budget: u32,
 ) -> Result<Survey, TooMuch>
     requires written { IsTrue (allows_program src.now) }
+    requires linear { Keeps linear_rules src.now }
     requires held { held.now.cuts ≡ all_held src.now }
     ensures survey { IfOk result (IsSurvey src.now budget) }
     ensures light { IfOk result (λ survey. heavy src.now ≡ None) }

@@ -2,6 +2,8 @@
 ghost use Rattle.std.specs.Prelude.{◌≡◌, ◌≤◌, None, IsTrue, IfOk, IfErr};
 ghost use Rattle.std.specs.List.{Contains};
 ghost use Rattle.civl_tree.specs.SpellingDomain.{allows_program};
+ghost use Rattle.civl_tree.specs.rules.Rules.{Keeps};
+ghost use Rattle.civl_linear.specs.LinearRules.{linear_rules};
 ghost use Rattle.civl_linear.specs.Cuts.{all_held};
 ghost use Rattle.civl_conditions.specs.Listed.{conditions};
 ghost use Rattle.civl_conditions.specs.Weights.{weight, initial_weight, weight_limit, heavy};
@@ -54,6 +56,7 @@ pub(crate) fn decide_violation<M: Makes>(
     budget: u32,
 ) -> Result<Decision, Memory>
     requires written { IsTrue (allows_program src.now) }
+    requires linear { Keeps linear_rules src.now }
     requires held { held.now.cuts ≡ all_held src.now }
     requires listed { Contains (conditions src.now) condition.now }
     requires light { weight src.now condition.now ≤ weight_limit }
@@ -81,6 +84,7 @@ fn judge_conditions<M: Makes>(
     budget: u32,
 ) -> Result<Verdict, Memory>
     requires written { IsTrue (allows_program src.now) }
+    requires linear { Keeps linear_rules src.now }
     requires held { held.now.cuts ≡ all_held src.now }
     requires listed { list.now ≡ conditions src.now }
     requires light { heavy src.now ≡ None }
@@ -112,6 +116,7 @@ fn judge<M: Makes>(
     budget: u32,
 ) -> Result<Verdict, Memory>
     requires written { IsTrue (allows_program src.now) }
+    requires linear { Keeps linear_rules src.now }
     requires held { held.now.cuts ≡ all_held src.now }
     requires listed { list.now ≡ conditions src.now }
     requires light { heavy src.now ≡ None }
@@ -145,6 +150,7 @@ pub fn verify<M: Makes>(
     budget: u32,
 ) -> Result<Verdict, TooMuch>
     requires written { IsTrue (allows_program src.now) }
+    requires linear { Keeps linear_rules src.now }
     requires held { held.now.cuts ≡ all_held src.now }
     ensures verdict { IfOk result (IsVerdict src.now budget) }
     ensures light { IfOk result (λ verdict. heavy src.now ≡ None) }
