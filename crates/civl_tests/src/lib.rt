@@ -6,6 +6,8 @@ mod checks;
 #[cfg(test)]
 mod devices;
 #[cfg(test)]
+mod exchanges;
+#[cfg(test)]
 mod folding;
 #[cfg(test)]
 mod instances;

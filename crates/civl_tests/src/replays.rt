@@ -114,7 +114,7 @@ fn scripts_that_do_not_fit(rt: HostRuntime) -> Result<(), Fail> {
 
 /// One thread adds one to a number, and another does so twice and then asserts that the number is at least two. Below, an
 /// addition loads the number and stores it later.
-const ADDITIONS: &str = "civl 1; layers 1; permissions 1;
+pub const ADDITIONS: &str = "civl 1; layers 1; permissions 1;
 global x : word(8) layers 0 to 1;
 init (x == 0:8);
 action Load() -> (val v : word(8)) choose () layers 0 to 0 atomic
