@@ -1,0 +1,4 @@
+pub mod Blocks
+pub mod Ahead
+pub mod Stands
+pub mod examples
