@@ -3,8 +3,10 @@ use Rattle.std.proofs.Common.{◌≡◌, ℕ, ◌+◌, ◌≤◌, Bool, true, fa
 use Rattle.std.specs.Prelude.{if◌then◌else◌, is_none, is_some}
 use Rattle.std.specs.List.{list_any}
 use Rattle.std.proofs.lemmas.Bool.{false≢true, or_parts}
+use Rattle.std.proofs.lemmas.Option.{none-some}
 use Rattle.civl_bits.specs.declared.value.Value.{Value}
 use Rattle.civl_tree.specs.declared.name.Name.{Name}
+use Rattle.civl_tree.specs.declared.action.Action.{Action}
 use Rattle.civl_tree.specs.declared.expr.Expr.{Expr}
 use Rattle.civl_tree.specs.declared.stmt.Stmt.{Stmt, out-Stmt}
 use Rattle.civl_tree.specs.declared.stmt.Stmt.TheOpen.{Stmt-F, Assign, Assert, If, While, YieldLoop, RankLoop, Call, Yield, Commit, Intro, Spawn}
@@ -28,28 +30,47 @@ use Rattle.civl_soundness.proofs.Declared.{IsDeclared, called_declared}
 use Rattle.civl_layers.specs.Layered.{IsLayered}
 use Rattle.civl_paths.proofs.Belonging.{Belongs, own_place, start_place, all_belong, first_covered, second_covered, while_covered, yield_loop_covered, rank_loop_covered}
 use Rattle.civl_yields.specs.Movers.{turns, may_follow}
-use Rattle.civl_yields.specs.Places.{is_layered, form_misplaced, stmt_misplaced}
+use Rattle.civl_yields.specs.Places.{form_misplaced, stmt_misplaced}
 use Rattle.civl_yields.specs.YieldRules.{commit_rule, yield_rules}
 use Rattle.civl_exchanges.specs.Doing.{Doing, call_doing, layer_doing}
 use Rattle.civl_exchanges.specs.Doing as does
 use Rattle.civl_standing.specs.Blocks.{layer_at_yield, at_yield}
 use Rattle.civl_standing.specs.Ahead.{ahead_in}
-use Rattle.civl_standing.proofs.Turning.{IsClean, EntersClean, enters_clean, StaysLate, stays_late, nothing_ahead}
+use Rattle.civl_standing.proofs.Turning.{IsClean, enters_clean, StaysLate, stays_late, nothing_ahead}
 use Rattle.civl_standing.proofs.Below.{calls_no_body}
 use Rattle.civl_standing.proofs.Calling.{follows, turned}
+
+-- a spawn stands in a root
+pub roots_alone : (program : Program) → Keeps yield_rules program → (number : ℕ) (proc : Proc) → slice_get program.procs number ≡ Some proc → (place : ℕ) (s : Stmt) → statement_at proc.body place ≡ Some s → (f : Name) (es : List Expr) → out-Stmt s ≡ Spawn f es → proc.refines ≡ None
+roots_alone program yields number proc at place s here f es form = of_root proc.refines of_spawn
+  where
+    kept : form_misplaced (is_some proc.refines) (out-Stmt s) ≡ false
+    kept = statement_kept yield_rules program yields commit_rule (2, omega arith, refl) (stmt_misplaced proc) number proc at refl place s here
+
+    of_spawn : is_some proc.refines ≡ false
+    of_spawn = subst (λ (d : Stmt-F Stmt). form_misplaced (is_some proc.refines) d ≡ false) form kept
+
+    of_root : (o : Option Refines) → is_some o ≡ false → o ≡ None
+    of_root None e = refl
+    of_root (Some r) e = absurd (false≢true (sym e))
+
+-- nothing is ahead behind what is done next, where nothing was; a call is of a left mover, and no thread waits, is spawned or
+-- enters a body
+abbrev pub AfterLate : Program → Proc → Doing → Type 0
+AfterLate program proc (does.Goes locals place) = ahead_in program (rest_at proc.body place) ≡ false
+AfterLate program proc (does.Calls names locals results next action args) = (may_follow action.mover ≡ true) × (ahead_in program (rest_at proc.body next) ≡ false)
+AfterLate program proc does.Fails = Unit {0}
+AfterLate program proc does.Waits = ⊥
+AfterLate program proc does.Ends = ⊥
+AfterLate program proc (does.Enters frame place) = ⊥
+AfterLate program proc (does.Leaves frame) = ⊥
+AfterLate program proc (does.Spawns thread place) = ⊥
 
 module _ (program : Program) (layer : ℕ) (src : IsLayered program) (ok : IsPlain (program_at program layer)) (yields : Keeps yield_rules program) (number : ℕ) (proc : Proc) (refines : Refines) (at_number : slice_get program.procs number ≡ Some proc) (is : proc.refines ≡ Some refines) (low : refines.layer ≤ layer + 1) where
   abbrev plain : Plain
   plain = program_at program layer
 
   -- ---- its statements
-
-  -- a spawn stands in no such procedure
-  no_spawn : (place : ℕ) (s : Stmt) → statement_at proc.body place ≡ Some s → (f : Name) (es : List Expr) → out-Stmt s ≡ Spawn f es → ⊥
-  no_spawn place s here f es form =
-      let kept : form_misplaced (is_some proc.refines) (out-Stmt s) ≡ false = statement_kept yield_rules program yields commit_rule (2, omega arith, refl) (stmt_misplaced proc) number proc at_number refl place s here in
-      let of_spawn : is_some proc.refines ≡ false = subst (λ (d : Stmt-F Stmt). form_misplaced (is_some proc.refines) d ≡ false) form kept in
-      false≢true (sym of_spawn ∙ ap (λ (o : Option Refines). is_some o) is)
 
   -- each call means something
   call_declared : (place : ℕ) (s : Stmt) → statement_at proc.body place ≡ Some s → (f : Name) (es : List Expr) (rs : List Name) → out-Stmt s ≡ Call f es rs → IsDeclared (called plain f)
@@ -63,18 +84,6 @@ module _ (program : Program) (layer : ℕ) (src : IsLayered program) (ok : IsPla
 
   -- ---- late in a block
 
-  -- nothing is ahead behind what is done next, where nothing was; a call is of a left mover, and no thread waits, is spawned
-  -- or enters a body
-  abbrev pub AfterLate : Doing → Type 0
-  AfterLate (does.Goes locals place) = ahead_in program (rest_at proc.body place) ≡ false
-  AfterLate (does.Calls names locals results next action args) = (may_follow action.mover ≡ true) × (ahead_in program (rest_at proc.body next) ≡ false)
-  AfterLate does.Fails = Unit {0}
-  AfterLate does.Waits = ⊥
-  AfterLate does.Ends = ⊥
-  AfterLate (does.Enters frame place) = ⊥
-  AfterLate (does.Leaves frame) = Unit {0}
-  AfterLate (does.Spawns thread place) = ⊥
-
   at_next : (k : Rest) → Belongs proc.body k → ahead_in program k ≡ false → ahead_in program (rest_at proc.body (place_in (sizes_of proc.body) k)) ≡ false
   at_next k o e = ap (ahead_in program) (own_place proc.body k o) ∙ e
 
@@ -85,21 +94,21 @@ module _ (program : Program) (layer : ℕ) (src : IsLayered program) (ok : IsPla
   either true x y e f = e
   either false x y e f = f
 
-  late_assert : (b : Bool) (locals : List Value) (next : ℕ) → ahead_in program (rest_at proc.body next) ≡ false → AfterLate (if b then does.Goes locals next else does.Fails)
+  late_assert : (b : Bool) (locals : List Value) (next : ℕ) → ahead_in program (rest_at proc.body next) ≡ false → AfterLate program proc (if b then does.Goes locals next else does.Fails)
   late_assert true locals next e = e
   late_assert false locals next e = tt
 
-  late_call : (f : Name) (names : List Name) (locals : List Value) (results : List Name) (place next : ℕ) (args : List Value) → IsDeclared (called plain f) → ((n : ℕ) (p : Proc) → called plain f ≡ Runs n p → ⊥) → ((a : _) → called plain f ≡ Does a → may_follow a.mover ≡ true)
-      → ahead_in program (rest_at proc.body next) ≡ false → AfterLate (call_doing names locals results place next (called plain f) args)
+  late_call : (f : Name) (names : List Name) (locals : List Value) (results : List Name) (place next : ℕ) (args : List Value) → IsDeclared (called plain f) → ((n : ℕ) (p : Proc) → called plain f ≡ Runs n p → ⊥) → ((a : Action) → called plain f ≡ Does a → may_follow a.mover ≡ true)
+      → ahead_in program (rest_at proc.body next) ≡ false → AfterLate program proc (call_doing names locals results place next (called plain f) args)
   late_call f names locals results place next args declared none left e = go (called plain f) declared none left
     where
-      go : (m : Meaning) → IsDeclared m → ((n : ℕ) (p : Proc) → m ≡ Runs n p → ⊥) → ((a : _) → m ≡ Does a → may_follow a.mover ≡ true) → AfterLate (call_doing names locals results place next m args)
+      go : (m : Meaning) → IsDeclared m → ((n : ℕ) (p : Proc) → m ≡ Runs n p → ⊥) → ((a : Action) → m ≡ Does a → may_follow a.mover ≡ true) → AfterLate program proc (call_doing names locals results place next m args)
       go (Does a) d r l = (l a refl, e)
       go (Runs n p) d r l = r n p refl
       go Missing d r l = d
 
   late_layer : (d : Stmt-F Stmt) (s : Stmt) (place : ℕ) (k : Rest) (locals : List Value) → out-Stmt s ≡ d → skip_layer d ≡ false → layer_at_yield d (at_yield k) ≡ false → statement_at proc.body place ≡ Some s → Belongs proc.body ((place, s) ∷ k) → StaysLate program d place s k
-      → AfterLate (layer_doing plain proc locals place (place_in (sizes_of proc.body) k) d)
+      → AfterLate program proc (layer_doing plain proc locals place (place_in (sizes_of proc.body) k) d)
   late_layer (Assign x e) s place k locals o sk y here b l = at_next k b.1 l
   late_layer (Assert e) s place k locals o sk y here b l = late_assert _ locals (place_in (sizes_of proc.body) k) (at_next k b.1 l)
   late_layer (If e xs ys) s place k locals o sk y here b l =
@@ -122,33 +131,16 @@ module _ (program : Program) (layer : ℕ) (src : IsLayered program) (ok : IsPla
   late_layer (Call f es rs) s place k locals o sk y here b l =
       late_call f _ locals rs place (place_in (sizes_of proc.body) k) _ (call_declared place s here f es rs o) (calls_no_body program layer src number proc refines at_number is low place s here f es rs o)
           (λ a e. follows plain f a e l.0) (at_next k b.1 l.1)
-  late_layer (Spawn f es) s place k locals o sk y here b l = no_spawn place s here f es o
+  late_layer (Spawn f es) s place k locals o sk y here b l = none-some refines (sym (roots_alone program yields number proc at_number place s here f es o) ∙ is)
 
   -- before a statement, at no yield, with nothing ahead
   pub late_goes_on : (s : Stmt) (place : ℕ) (k : Rest) (locals : List Value) → skip_layer (out-Stmt s) ≡ false → at_yield ((place, s) ∷ k) ≡ false → statement_at proc.body place ≡ Some s → Belongs proc.body ((place, s) ∷ k) → ahead_in program ((place, s) ∷ k) ≡ false
-      → AfterLate (layer_doing plain proc locals place (place_in (sizes_of proc.body) k) (out-Stmt s))
+      → AfterLate program proc (layer_doing plain proc locals place (place_in (sizes_of proc.body) k) (out-Stmt s))
   late_goes_on s place k locals sk y here b e = late_layer (out-Stmt s) s place k locals refl sk y here b (stays_late program s place k e (out-Stmt s) refl)
 
   -- ---- at any place of a body whose calls come in order
 
-  -- behind a call that isn't of a right mover nothing is ahead
-  abbrev pub AfterTurn : Doing → Type 0
-  AfterTurn (does.Calls names locals results next action args) = turns action.mover ≡ true → ahead_in program (rest_at proc.body next) ≡ false
-  AfterTurn _ = Unit {0}
-
-  turns_call : (m : Meaning) (names : List Name) (locals : List Value) (results : List Name) (place next : ℕ) (args : List Value) → ((a : _) → m ≡ Does a → turns a.mover ≡ true → ahead_in program (rest_at proc.body next) ≡ false) → AfterTurn (call_doing names locals results place next m args)
-  turns_call (Does a) names locals results place next args h = h a refl
-  turns_call (Runs n p) names locals results place next args h = tt
-  turns_call Missing names locals results place next args h = tt
-
-  turns_assert : (b : Bool) (locals : List Value) (next : ℕ) → AfterTurn (if b then does.Goes locals next else does.Fails)
-  turns_assert true locals next = tt
-  turns_assert false locals next = tt
-
-  turns_layer : (d : Stmt-F Stmt) (s : Stmt) (place : ℕ) (k : Rest) (locals : List Value) → Belongs proc.body k → EntersClean program d place s k → AfterTurn (layer_doing plain proc locals place (place_in (sizes_of proc.body) k) d)
-  turns_layer (Call f es rs) s place k locals b c = turns_call (called plain f) _ locals rs place (place_in (sizes_of proc.body) k) _ (λ a e t. at_next k b (nothing_ahead program k (c (turned plain f a e t))))
-  turns_layer (Assert e) s place k locals b c = turns_assert _ locals (place_in (sizes_of proc.body) k)
-  turns_layer _ s place k locals b c = tt
-
-  pub turn_goes_on : (s : Stmt) (place : ℕ) (k : Rest) (locals : List Value) → Belongs proc.body k → IsClean program ((place, s) ∷ k) → AfterTurn (layer_doing plain proc locals place (place_in (sizes_of proc.body) k) (out-Stmt s))
-  turn_goes_on s place k locals b c = turns_layer (out-Stmt s) s place k locals b (enters_clean program s place k c.0 c.1 (out-Stmt s) refl)
+  -- behind a call of an action that isn't a right mover nothing is ahead
+  pub behind_turn : (s : Stmt) (place : ℕ) (k : Rest) (f : Name) (es : List Expr) (rs : List Name) → out-Stmt s ≡ Call f es rs → Belongs proc.body k → IsClean program ((place, s) ∷ k) → (a : Action) → called plain f ≡ Does a → turns a.mover ≡ true
+      → ahead_in program (rest_at proc.body (place_in (sizes_of proc.body) k)) ≡ false
+  behind_turn s place k f es rs form b c a does t = at_next k b (nothing_ahead program k (enters_clean program s place k c.0 c.1 (Call f es rs) form (turned plain f a does t)))

@@ -6,3 +6,5 @@ pub mod Leading
 pub mod Below
 pub mod Calling
 pub mod Going
+pub mod Spots
+pub mod Threads
