@@ -1,9 +1,9 @@
 -- In the program of a layer a call in a procedure of the layer above runs no body: it means an action. So a frame of such a
 -- procedure is a thread's topmost one.
-use Rattle.std.proofs.Common.{◌≡◌, ℕ, zero, suc, ◌+◌, ◌-◌, ◌<◌, ◌≤◌, Bool, true, false, List, [], ◌∷◌, length, map, refl, sym, ap, ◌∙◌, subst, arith, Option, None, Some, slice_get}
+use Rattle.std.proofs.Common.{◌≡◌, ℕ, ◌+◌, ◌≤◌, Bool, true, false, List, refl, sym, ap, ◌∙◌, subst, arith, Option, None, Some, slice_get}
 use Rattle.std.specs.Prelude.{take, option_map}
 use Rattle.std.proofs.lemmas.Bool.{false≢true, ltb-true, leb-false}
-use Rattle.std.proofs.lemmas.Option.{none-some, same_Some, slice_get-map}
+use Rattle.std.proofs.lemmas.Option.{same_Some, slice_get-map}
 use Rattle.civl_tree.specs.declared.name.Name.{Name}
 use Rattle.civl_tree.specs.declared.expr.Expr.{Expr}
 use Rattle.civl_tree.specs.declared.action.Action.{Action}
@@ -16,7 +16,7 @@ use Rattle.civl_tree.specs.Numbering.{statement_at}
 use Rattle.civl_tree.specs.rules.Names.{action_named, proc_named}
 use Rattle.civl_tree.proofs.Kept.{statement_kept}
 use Rattle.civl_meaning.specs.declared.config.Plain.{Plain}
-use Rattle.civl_meaning.specs.Meaning.{Meaning, Does, Runs, Missing, proc_number, meaning_of_action, refined, meaning_by, meaning_of, meaning_else, called}
+use Rattle.civl_meaning.specs.Meaning.{Runs, proc_number, meaning_of_action, refined, meaning_by, meaning_of, meaning_else, called}
 use Rattle.civl_meaning.specs.Layers.{means_body, program_at}
 use Rattle.civl_meaning.proofs.Begun.{proc_is}
 use Rattle.civl_layers.specs.NotBelow.{calls_option, call_not_below, form_not_below, stmt_not_below, layered_runs}

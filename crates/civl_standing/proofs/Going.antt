@@ -1,5 +1,5 @@
 -- What is done next in a frame of a procedure of the layer above: where the thread then stands.
-use Rattle.std.proofs.Common.{◌≡◌, ℕ, ◌+◌, ◌≤◌, Bool, true, false, ◌||◌, List, [], ◌∷◌, ◌++◌, refl, sym, ap, ◌∙◌, subst, arith, Option, None, Some, slice_get}
+use Rattle.std.proofs.Common.{◌≡◌, ℕ, ◌+◌, ◌≤◌, Bool, true, false, List, ◌∷◌, ◌++◌, refl, sym, ap, ◌∙◌, subst, arith, Option, None, Some, slice_get}
 use Rattle.std.specs.Prelude.{if◌then◌else◌, is_none, is_some}
 use Rattle.std.specs.List.{list_any}
 use Rattle.std.proofs.lemmas.Bool.{false≢true, or_parts}
@@ -28,7 +28,7 @@ use Rattle.civl_meaning.specs.Layers.{program_at}
 use Rattle.civl_meaning.specs.Config.{IsPlain}
 use Rattle.civl_soundness.proofs.Declared.{IsDeclared, called_declared}
 use Rattle.civl_layers.specs.Layered.{IsLayered}
-use Rattle.civl_paths.proofs.Belonging.{Belongs, own_place, start_place, all_belong, first_covered, second_covered, while_covered, yield_loop_covered, rank_loop_covered}
+use Rattle.civl_paths.proofs.Belonging.{Belongs, own_place, start_place, all_belong, first_covered, second_covered, while_covered, rank_loop_covered}
 use Rattle.civl_yields.specs.Movers.{turns, may_follow}
 use Rattle.civl_yields.specs.Places.{form_misplaced, stmt_misplaced}
 use Rattle.civl_yields.specs.YieldRules.{commit_rule, yield_rules}
@@ -114,23 +114,23 @@ module _ (program : Program) (layer : ℕ) (src : IsLayered program) (ok : IsPla
   late_layer (If e xs ys) s place k locals o sk y here b l =
       let r = l (place + 1) (place + 1 + sizes_of xs) in
       either _ (start_of xs (place + 1) (place_in (sizes_of proc.body) k)) (start_of ys (place + 1 + sizes_of xs) (place_in (sizes_of proc.body) k))
-          (at_start xs (place + 1) k (all_belong proc.body xs (place + 1) k (first_covered proc.body s place k e xs ys o b.0) b.1) r.0)
-          (at_start ys (place + 1 + sizes_of xs) k (all_belong proc.body ys (place + 1 + sizes_of xs) k (second_covered proc.body s place k e xs ys o b.0) b.1) r.1)
+      (at_start xs (place + 1) k (all_belong proc.body xs (place + 1) k (first_covered proc.body s place k e xs ys o b.0) b.1) r.0)
+      (at_start ys (place + 1 + sizes_of xs) k (all_belong proc.body ys (place + 1 + sizes_of xs) k (second_covered proc.body s place k e xs ys o b.0) b.1) r.1)
   late_layer (While e xs) s place k locals o sk y here b l =
       let r = l (place + 1) in
       either _ (start_of xs (place + 1) place) (place_in (sizes_of proc.body) k)
-          (at_start xs (place + 1) ((place, s) ∷ k) (all_belong proc.body xs (place + 1) ((place, s) ∷ k) (while_covered proc.body s place k e xs o b.0) b) r.0) (at_next k b.1 r.1)
+      (at_start xs (place + 1) ((place, s) ∷ k) (all_belong proc.body xs (place + 1) ((place, s) ∷ k) (while_covered proc.body s place k e xs o b.0) b) r.0) (at_next k b.1 r.1)
   late_layer (RankLoop e j i xs) s place k locals o sk y here b l =
       let r = l (place + 1) in
       either _ (start_of xs (place + 1) place) (place_in (sizes_of proc.body) k)
-          (at_start xs (place + 1) ((place, s) ∷ k) (all_belong proc.body xs (place + 1) ((place, s) ∷ k) (rank_loop_covered proc.body s place k e j i xs o b.0) b) r.0) (at_next k b.1 r.1)
+      (at_start xs (place + 1) ((place, s) ∷ k) (all_belong proc.body xs (place + 1) ((place, s) ∷ k) (rank_loop_covered proc.body s place k e j i xs o b.0) b) r.0) (at_next k b.1 r.1)
   late_layer (YieldLoop e i xs) s place k locals o sk y here b l = absurd (false≢true (sym y))
   late_layer (Yield i) s place k locals o sk y here b l = absurd (false≢true (sym sk))
   late_layer Commit s place k locals o sk y here b l = absurd (false≢true (sym sk))
   late_layer (Intro x e) s place k locals o sk y here b l = absurd (false≢true (sym sk))
   late_layer (Call f es rs) s place k locals o sk y here b l =
       late_call f _ locals rs place (place_in (sizes_of proc.body) k) _ (call_declared place s here f es rs o) (calls_no_body program layer src number proc refines at_number is low place s here f es rs o)
-          (λ a e. follows plain f a e l.0) (at_next k b.1 l.1)
+      (λ a e. follows plain f a e l.0) (at_next k b.1 l.1)
   late_layer (Spawn f es) s place k locals o sk y here b l = none-some refines (sym (roots_alone program yields number proc at_number place s here f es o) ∙ is)
 
   -- before a statement, at no yield, with nothing ahead

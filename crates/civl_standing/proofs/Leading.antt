@@ -1,15 +1,15 @@
 -- The first statement of a plain program in what is still to run: past what a plain program passes over, the rest from it on.
-use Rattle.std.proofs.Common.{◌≡◌, ℕ, zero, suc, ◌+◌, Bool, true, false, List, [], ◌∷◌, drop, refl, sym, ap, ◌∙◌, subst, Option, None, Some}
+use Rattle.std.proofs.Common.{◌≡◌, ℕ, zero, suc, Bool, true, false, [], ◌∷◌, drop, refl, sym, ◌∙◌, subst, Option, Some}
 use Rattle.std.specs.Prelude.{if◌then◌else◌}
 use Rattle.std.proofs.lemmas.Bool.{false≢true}
 use Rattle.std.proofs.lemmas.Option.{none-some, same_Some}
 use Rattle.civl_tree.specs.declared.stmt.Stmt.{Stmt, out-Stmt}
-use Rattle.civl_tree.specs.declared.stmt.Stmt.TheOpen.{Stmt-F, YieldLoop, Yield, Commit, Intro}
+use Rattle.civl_tree.specs.declared.stmt.Stmt.TheOpen.{Stmt-F, Yield, Commit, Intro}
 use Rattle.civl_tree.specs.declared.program.Program.{Program}
 use Rattle.civl_meaning.specs.Places.{Spot, skip_layer, is_skipped}
 use Rattle.civl_meaning.specs.Rest.{Rest, place_in, head_of}
 use Rattle.civl_standing.specs.Blocks.{layer_at_yield, at_yield}
-use Rattle.civl_standing.specs.Ahead.{ahead_in, ahead}
+use Rattle.civl_standing.specs.Ahead.{ahead_in}
 use Rattle.civl_standing.proofs.Computing.{ahead_form, ahead_is}
 
 -- what holds of a rest holds behind so many of its statements

@@ -1,9 +1,8 @@
 -- In a program that keeps the rule on phases no call of a layered procedure comes too late, from any place on.
-use Rattle.std.proofs.Common.{◌≡◌, ℕ, ◌+◌, Bool, true, false, ◌||◌, List, [], ◌∷◌, ◌++◌, map, refl, sym, ap, ◌∙◌, subst, arith, Option, None, Some, slice_get}
+use Rattle.std.proofs.Common.{◌≡◌, ℕ, ◌+◌, Bool, true, false, ◌||◌, List, [], ◌∷◌, ◌++◌, map, refl, sym, ap, ◌∙◌, subst, arith, Option, Some, slice_get}
 use Rattle.std.specs.Prelude.{nat_lt, nat_eq, if◌then◌else◌}
 use Rattle.std.specs.List.{Contains}
-use Rattle.std.proofs.lemmas.List.Elements.{Contains-append_right}
-use Rattle.civl_tree.specs.declared.stmt.Stmt.{Stmt, out-Stmt, roll-Stmt, out-roll-Stmt, map-Stmt}
+use Rattle.civl_tree.specs.declared.stmt.Stmt.{Stmt, roll-Stmt, out-roll-Stmt, map-Stmt}
 use Rattle.civl_tree.specs.declared.stmt.Stmt.TheOpen.{Stmt-F, If, While, YieldLoop, RankLoop}
 use Rattle.civl_tree.specs.declared.stmt.Stmt.TheFolds.{ind-Stmt}
 use Rattle.civl_tree.specs.declared.program.Refines.{Refines}
@@ -19,9 +18,9 @@ use Rattle.civl_meaning.specs.Rest.{Rest, rest_inside, rest_among, rest_at}
 use Rattle.civl_meaning.proofs.Rests.{rest_layer, rest_is, among_rest, rest_none}
 use Rattle.civl_yields.specs.Phases.{phases_before}
 use Rattle.civl_yields.specs.Places.{stmt_late}
-use Rattle.civl_yields.specs.YieldRules.{late_under, late_numbers, phase_rule, yield_rules}
+use Rattle.civl_yields.specs.YieldRules.{late_under, phase_rule, yield_rules}
 use Rattle.civl_standing.proofs.Flowing.{any_late, flow, flow_list}
-use Rattle.civl_standing.proofs.Turning.{Clean, IsClean, clean_list, EntersClean, enters_clean}
+use Rattle.civl_standing.proofs.Turning.{IsClean, clean_list, EntersClean, enters_clean}
 
 either : (P : Rest → Type 0) (b : Bool) (x y : Rest) → P x → P y → P (if b then x else y)
 either P true x y p q = p

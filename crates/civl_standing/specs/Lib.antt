@@ -1,4 +1,5 @@
 pub mod Blocks
 pub mod Ahead
 pub mod Stands
+pub mod Reduces
 pub mod examples
