@@ -28,6 +28,7 @@ use Rattle.civl_meaning.specs.Layers.{program_at}
 use Rattle.civl_meaning.specs.Change.{caller_of, outs_in, returned_at, returned_in, returned}
 use Rattle.civl_meaning.specs.Config.{IsPlain, IsBodyOf, LayerCalls, SpotCalls, ProcCalls, Waits, AreWaiting, StateIsStacked}
 use Rattle.civl_layers.specs.Layered.{IsLayered}
+use Rattle.civl_conditions.specs.Steps.{refines_at, has_layer}
 use Rattle.civl_yields.specs.Movers.{turns, may_follow}
 use Rattle.civl_yields.specs.YieldRules.{yield_rules}
 use Rattle.civl_interleavings.specs.Reduction.{Place, Between, Early, Late}
@@ -35,7 +36,7 @@ use Rattle.civl_interleavings.specs.Threads as threads
 use Rattle.civl_exchanges.specs.Doing.{Doing, call_doing, layer_doing, leaving, spot_doing, proc_doing, state_doing}
 use Rattle.civl_exchanges.specs.Doing as does
 use Rattle.civl_exchanges.specs.Interleavings.{Call as Called, whole}
-use Rattle.civl_standing.specs.Blocks.{at_yield, is_of_layer, framed_in, framed_state, block_in}
+use Rattle.civl_standing.specs.Blocks.{at_yield, framed_in, framed_state, block_in}
 use Rattle.civl_standing.specs.Ahead.{ahead_in}
 use Rattle.civl_standing.specs.Stands.{place_of_rest, stands}
 use Rattle.civl_standing.proofs.Below.{calls_no_body}
@@ -74,7 +75,7 @@ module _ (program : Program) (layer : ℕ) where
 
   -- the procedure with this number is of no layer above
   abbrev Outside : ℕ → Type 0
-  Outside number = (proc : Proc) → slice_get program.procs number ≡ Some proc → is_of_layer (layer + 1) proc.refines ≡ false
+  Outside number = (proc : Proc) → slice_get program.procs number ≡ Some proc → has_layer (layer + 1) proc ≡ false
 
   outside : (frame : Activation) → Outside frame.procedure → frame_stands frame (slice_get program.procs frame.procedure) ≡ Between
   outside frame h = go (slice_get program.procs frame.procedure) h
@@ -83,13 +84,13 @@ module _ (program : Program) (layer : ℕ) where
       by_layer false proc e = refl
       by_layer true proc e = absurd (false≢true (sym e))
 
-      go : (o : Option Proc) → ((proc : Proc) → o ≡ Some proc → is_of_layer (layer + 1) proc.refines ≡ false) → frame_stands frame o ≡ Between
+      go : (o : Option Proc) → ((proc : Proc) → o ≡ Some proc → has_layer (layer + 1) proc ≡ false) → frame_stands frame o ≡ Between
       go None k = refl
-      go (Some proc) k = by_layer (is_of_layer (layer + 1) proc.refines) proc (k proc refl)
+      go (Some proc) k = by_layer (has_layer (layer + 1) proc) proc (k proc refl)
 
   -- where nothing is ahead a frame isn't early
   not_early : (proc : Proc) (frame : Activation) (o : Option Proc) → o ≡ Some proc → ahead_in program (rest_at proc.body frame.place) ≡ false → frame_stands frame o ≢ Early
-  not_early proc frame o e h = subst (λ (p : Option Proc). frame_stands frame p ≢ Early) (sym e) (by_layer (is_of_layer (layer + 1) proc.refines))
+  not_early proc frame o e h = subst (λ (p : Option Proc). frame_stands frame p ≢ Early) (sym e) (by_layer (has_layer (layer + 1) proc))
     where
       by_ahead : (b : Bool) → b ≡ false → (if b then Early else Late) ≢ Early
       by_ahead false q k = absurd cc
@@ -111,25 +112,25 @@ module _ (program : Program) (layer : ℕ) where
     pub open_block : at_yield (rest_at proc.body frame.place) ≡ false
     pub nothing : ahead_in program (rest_at proc.body frame.place) ≡ false
 
-  layered_by : (o : Option Refines) → is_of_layer (layer + 1) o ≡ true → (r : Refines) × (o ≡ Some r) × (r.layer ≡ layer + 1)
+  layered_by : (o : Option Refines) → refines_at (layer + 1) o ≡ true → (r : Refines) × (o ≡ Some r) × (r.layer ≡ layer + 1)
   layered_by None e = absurd (false≢true e)
   layered_by (Some r) e = (r, refl, eqb-true r.layer (layer + 1) e)
 
   late_is : (frame : Activation) (proc : Proc) → frame_stands frame (Some proc) ≡ Late → IsLate frame proc
-  late_is frame proc = by_layer (is_of_layer (layer + 1) proc.refines) refl
+  late_is frame proc = by_layer (has_layer (layer + 1) proc) refl
     where
       rest : Rest
       rest = rest_at proc.body frame.place
 
-      by_ahead : (b : Bool) → ahead_in program (rest_at proc.body frame.place) ≡ b → is_of_layer (layer + 1) proc.refines ≡ true → at_yield (rest_at proc.body frame.place) ≡ false → (if b then Early else Late) ≡ Late → IsLate frame proc
+      by_ahead : (b : Bool) → ahead_in program (rest_at proc.body frame.place) ≡ b → has_layer (layer + 1) proc ≡ true → at_yield (rest_at proc.body frame.place) ≡ false → (if b then Early else Late) ≡ Late → IsLate frame proc
       by_ahead true a l y e = absurd cc
       by_ahead false a l y e = let r = layered_by proc.refines l in record { refines = r.0; refined = r.1; layered = r.2; open_block = y; nothing = a }
 
-      by_yield : (b : Bool) → at_yield (rest_at proc.body frame.place) ≡ b → is_of_layer (layer + 1) proc.refines ≡ true → place_of_rest program (if◌then◌else◌ {A = Option Rest} b None (Some (rest_at proc.body frame.place))) ≡ Late → IsLate frame proc
+      by_yield : (b : Bool) → at_yield (rest_at proc.body frame.place) ≡ b → has_layer (layer + 1) proc ≡ true → place_of_rest program (if◌then◌else◌ {A = Option Rest} b None (Some (rest_at proc.body frame.place))) ≡ Late → IsLate frame proc
       by_yield true y l e = absurd cc
       by_yield false y l e = by_ahead (ahead_in program (rest_at proc.body frame.place)) refl l y e
 
-      by_layer : (b : Bool) → is_of_layer (layer + 1) proc.refines ≡ b → place_of_rest program (block_in (if◌then◌else◌ {A = Option (Proc × Activation)} b (Some (proc, frame)) None)) ≡ Late → IsLate frame proc
+      by_layer : (b : Bool) → has_layer (layer + 1) proc ≡ b → place_of_rest program (block_in (if◌then◌else◌ {A = Option (Proc × Activation)} b (Some (proc, frame)) None)) ≡ Late → IsLate frame proc
       by_layer false l e = absurd cc
       by_layer true l e = by_yield (at_yield (rest_at proc.body frame.place)) refl l e
 
@@ -149,7 +150,7 @@ module _ (program : Program) (layer : ℕ) where
 
     -- a frame that waits in a call that runs a body is of no procedure of the layer above
     waits_outside : (n : ℕ) (f : Activation) → Waits plain n f → Outside f.procedure
-    waits_outside n f w proc there = untrue (is_of_layer (layer + 1) proc.refines) (λ l. by_spot l (spot_at proc.body f.place) refl (subst (ProcCalls plain n f.place) there w))
+    waits_outside n f w proc there = untrue (has_layer (layer + 1) proc) (λ l. by_spot l (spot_at proc.body f.place) refl (subst (ProcCalls plain n f.place) there w))
       where
         untrue : (b : Bool) → (b ≡ true → ⊥) → b ≡ false
         untrue true h = absurd (h refl)
@@ -160,7 +161,7 @@ module _ (program : Program) (layer : ℕ) where
         by_meaning (Runs number p) b = (number, p, refl)
         by_meaning Missing b = absurd b
 
-        by_form : is_of_layer (layer + 1) proc.refines ≡ true → (s : Spot) → spot_at proc.body f.place ≡ Some s → (d : Stmt-F Stmt) → out-Stmt s.stmt ≡ d → LayerCalls plain n d → ⊥
+        by_form : has_layer (layer + 1) proc ≡ true → (s : Spot) → spot_at proc.body f.place ≡ Some s → (d : Stmt-F Stmt) → out-Stmt s.stmt ≡ d → LayerCalls plain n d → ⊥
         by_form l s at (Call g es rs) form c =
             let r = layered_by proc.refines l in
             let low = r.2 in
@@ -168,7 +169,7 @@ module _ (program : Program) (layer : ℕ) where
             calls_no_body program layer src f.procedure proc r.0 there r.1 (omega (arith, low)) s.number s.stmt (stands_there program proc.body f.place s at) g es rs form m.0 m.1 m.2
         by_form l s at _ form c = c
 
-        by_spot : is_of_layer (layer + 1) proc.refines ≡ true → (o : Option Spot) → spot_at proc.body f.place ≡ o → SpotCalls plain n f.place o → ⊥
+        by_spot : has_layer (layer + 1) proc ≡ true → (o : Option Spot) → spot_at proc.body f.place ≡ o → SpotCalls plain n f.place o → ⊥
         by_spot l None at c = c
         by_spot l (Some s) at c = by_form l s at (out-Stmt s.stmt) refl c.1
 
@@ -234,7 +235,7 @@ module _ (program : Program) (layer : ℕ) where
       -- early behind a call, that is of a right mover
       early_call : (s : Spot) → spot_at proc.body top.place ≡ Some s → (g : Name) (es : List Expr) (rs : List Name) → out-Stmt s.stmt ≡ Call g es rs → (a : Action) → called plain g ≡ Does a → (frame : Activation) → frame.procedure ≡ top.procedure → frame.place ≡ s.next
           → frame_stands frame (slice_get program.procs frame.procedure) ≡ Early → turns a.mover ≡ false
-      early_call s at g es rs form a does frame number place early = untrue (turns a.mover) (λ t. by_layer (is_of_layer (layer + 1) proc.refines) refl t)
+      early_call s at g es rs form a does frame number place early = untrue (turns a.mover) (λ t. by_layer (has_layer (layer + 1) proc) refl t)
         where
           untrue : (b : Bool) → (b ≡ true → ⊥) → b ≡ false
           untrue true h = absurd (h refl)
@@ -243,9 +244,9 @@ module _ (program : Program) (layer : ℕ) where
           here : slice_get program.procs frame.procedure ≡ Some proc
           here = ap (slice_get program.procs) number ∙ there
 
-          by_layer : (b : Bool) → is_of_layer (layer + 1) proc.refines ≡ b → turns a.mover ≡ true → ⊥
+          by_layer : (b : Bool) → has_layer (layer + 1) proc ≡ b → turns a.mover ≡ true → ⊥
           by_layer false l t =
-              let between = outside frame (λ other e. ap (λ (p : Proc). is_of_layer (layer + 1) p.refines) (sym (same_Some proc other (sym here ∙ e))) ∙ l) in
+              let between = outside frame (λ other e. ap (λ (p : Proc). has_layer (layer + 1) p) (sym (same_Some proc other (sym here ∙ e))) ∙ l) in
               let b : Between ≡ Early = sym between ∙ early in
               absurd cc
           by_layer true l t =
@@ -269,7 +270,7 @@ module _ (program : Program) (layer : ℕ) where
       any_layer s at (Assert e) form = any_assert (is_true (value_of (frame_values program.globals proc top.locals) e)) s.next
       any_layer s at (Spawn g es) form =
           let root = roots_alone program yields top.procedure proc there s.number s.stmt (stands_there program proc.body top.place s at) g es form in
-          (outside (record { procedure = top.procedure; place = s.next; locals = top.locals }) (λ other e. ap (λ (p : Proc). is_of_layer (layer + 1) p.refines) (sym (same_proc other e)) ∙ ap (is_of_layer (layer + 1)) root), refl)
+          (outside (record { procedure = top.procedure; place = s.next; locals = top.locals }) (λ other e. ap (λ (p : Proc). has_layer (layer + 1) p) (sym (same_proc other e)) ∙ ap (refines_at (layer + 1)) root), refl)
       any_layer s at _ form = tt
 
       any_leaves : (outs : List Value) (o : Option Activation) → AnyDoes (whole (at_state (Inside below top)) (leaving plain outs o))

@@ -1,10 +1,9 @@
 -- Blocks of the procedures of a layer: from the entry, a yield or a yield loop to the next of these, or to the exit. A thread
 -- stands inside a block in the program of the layer below. (Yields delimit atomic blocks: Hawblitzel, Petrank, Qadeer,
 -- Tasiran, CAV 2015; Flanagan, Qadeer, A type and effect system for atomicity, 2003.)
-use Rattle.std.specs.Prelude.{ℕ, ◌+◌, Bool, true, false, nat_eq, if◌then◌else◌, [], ◌∷◌, Option, None, Some, is_some, slice_get}
+use Rattle.std.specs.Prelude.{ℕ, ◌+◌, Bool, true, false, if◌then◌else◌, [], ◌∷◌, Option, None, Some, is_some, slice_get}
 use Rattle.civl_tree.specs.declared.stmt.Stmt.{Stmt, out-Stmt}
 use Rattle.civl_tree.specs.declared.stmt.Stmt.TheOpen.{Stmt-F, YieldLoop, Yield, Commit, Intro}
-use Rattle.civl_tree.specs.declared.program.Refines.{Refines}
 use Rattle.civl_tree.specs.declared.program.Proc.{Proc}
 use Rattle.civl_tree.specs.declared.program.Program.{Program}
 use Rattle.civl_meaning.specs.declared.config.Activation.{Activation}
@@ -12,6 +11,7 @@ use Rattle.civl_meaning.specs.declared.config.State.{State}
 use Rattle.civl_meaning.specs.declared.config.State.TheVariants.{Before, Inside, After}
 use Rattle.civl_meaning.specs.declared.config.Running.{Running}
 use Rattle.civl_meaning.specs.Rest.{Rest, rest_at}
+use Rattle.civl_conditions.specs.Steps.{has_layer}
 
 -- ---- the ends of blocks
 
@@ -30,14 +30,9 @@ at_yield (q ∷ rest) = layer_at_yield (out-Stmt q.1) (at_yield rest)
 
 -- ---- frames of a layer
 
--- a procedure refines an action in this layer
-abbrev pub is_of_layer : ℕ → Option Refines → Bool
-is_of_layer layer None = false
-is_of_layer layer (Some refines) = nat_eq refines.layer layer
-
 abbrev pub framed_in : ℕ → Activation → Option Proc → Option (Proc × Activation)
 framed_in layer frame None = None
-framed_in layer frame (Some proc) = if is_of_layer layer proc.refines then Some (proc, frame) else None
+framed_in layer frame (Some proc) = if has_layer layer proc then Some (proc, frame) else None
 
 abbrev pub framed_state : Program → ℕ → State → Option (Proc × Activation)
 framed_state program layer Before = None
