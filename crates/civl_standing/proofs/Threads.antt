@@ -10,6 +10,7 @@ use Rattle.civl_tree.specs.declared.expr.Expr.{Expr}
 use Rattle.civl_tree.specs.declared.action.Action.{Action}
 use Rattle.civl_tree.specs.declared.stmt.Stmt.{Stmt, out-Stmt}
 use Rattle.civl_tree.specs.declared.stmt.Stmt.TheOpen.{Stmt-F, Assert, Call, Spawn}
+use Rattle.civl_tree.specs.declared.stmt.Stmt.TheOpen as stmt
 use Rattle.civl_tree.specs.declared.program.Refines.{Refines}
 use Rattle.civl_tree.specs.declared.program.Proc.{Proc}
 use Rattle.civl_tree.specs.declared.program.Program.{Program}
@@ -28,19 +29,23 @@ use Rattle.civl_meaning.specs.Layers.{program_at}
 use Rattle.civl_meaning.specs.Change.{caller_of, outs_in, returned_at, returned_in, returned}
 use Rattle.civl_meaning.specs.Config.{IsPlain, IsBodyOf, LayerCalls, SpotCalls, ProcCalls, Waits, AreWaiting, StateIsStacked}
 use Rattle.civl_layers.specs.Layered.{IsLayered}
+use Rattle.civl_layers.proofs.PlainPrograms.{layered_is_plain}
 use Rattle.civl_conditions.specs.Steps.{refines_at, has_layer}
-use Rattle.civl_yields.specs.Movers.{turns, may_follow}
+use Rattle.civl_yields.specs.Movers.{turns}
+use Rattle.civl_yields.specs.Phases.{called_phase}
 use Rattle.civl_yields.specs.YieldRules.{yield_rules}
 use Rattle.civl_interleavings.specs.Reduction.{Place, Between, Early, Late}
-use Rattle.civl_interleavings.specs.Threads as threads
 use Rattle.civl_exchanges.specs.Doing.{Doing, call_doing, layer_doing, leaving, spot_doing, proc_doing, state_doing}
 use Rattle.civl_exchanges.specs.Doing as does
-use Rattle.civl_exchanges.specs.Interleavings.{Call as Called, whole}
+use Rattle.civl_exchanges.specs.Interleavings.{whole}
 use Rattle.civl_standing.specs.Blocks.{at_yield, framed_in, framed_state, block_in}
 use Rattle.civl_standing.specs.Ahead.{ahead_in}
-use Rattle.civl_standing.specs.Stands.{place_of_rest, stands}
+use Rattle.civl_standing.specs.Stands.{place_of_rest}
+use Rattle.civl_standing.specs.Turns.{NothingAheadBehindTurns, CallsRunNoBodies, LateDoes, AnyDoes, ThreadsTurnOnce}
 use Rattle.civl_standing.proofs.Below.{calls_no_body}
 use Rattle.civl_standing.proofs.Going.{roots_alone, AfterLate, late_goes_on, behind_turn}
+use Rattle.civl_standing.proofs.Phased.{layered_clean}
+use Rattle.civl_standing.proofs.Turning.{IsClean, enters_clean, nothing_ahead}
 use Rattle.civl_standing.proofs.Spots.{led, spot_belongs, stands_there, spot_clean}
 
 module _ (program : Program) (layer : ℕ) where
@@ -52,24 +57,6 @@ module _ (program : Program) (layer : ℕ) where
 
   abbrev frame_stands : Activation → Option Proc → Place
   frame_stands frame o = place_of_rest program (block_in (framed_in (layer + 1) frame o))
-
-  -- ---- what is shown of a thread
-
-  -- what a late thread does next: a call is of a left mover, it doesn't stand early then, nor wait, spawn or enter a body
-  abbrev pub LateDoes : threads.Doing Running Called (List Value) → Type 0
-  LateDoes threads.Fails = Unit {0}
-  LateDoes threads.Waits = ⊥
-  LateDoes (threads.Goes r) = stands program layer r ≢ Early
-  LateDoes (threads.Spawns r n) = ⊥
-  LateDoes (threads.Calls x f) = (may_follow x.0.mover ≡ true) × ((outs : List Value) → stands program layer (f outs) ≢ Early)
-
-  -- what any thread does: early behind a call, that is of a right mover; behind a spawn it stands between blocks, as the new one
-  abbrev pub AnyDoes : threads.Doing Running Called (List Value) → Type 0
-  AnyDoes threads.Fails = Unit {0}
-  AnyDoes threads.Waits = Unit {0}
-  AnyDoes (threads.Goes r) = Unit {0}
-  AnyDoes (threads.Spawns r n) = (stands program layer r ≡ Between) × (stands program layer n ≡ Between)
-  AnyDoes (threads.Calls x f) = (outs : List Value) → stands program layer (f outs) ≡ Early → turns x.0.mover ≡ false
 
   -- ---- frames
 
@@ -185,10 +172,10 @@ module _ (program : Program) (layer : ℕ) where
         by_proc None = refl
         by_proc (Some proc) = by_spot proc (spot_at proc.body f.place)
 
-    leaves_between : (below : List Activation) (top : Activation) → AreWaiting plain below top → (outs : List Value) → LateDoes (whole (at_state (Inside below top)) (leaving plain outs (caller_of below)))
+    leaves_between : (below : List Activation) (top : Activation) → AreWaiting plain below top → (outs : List Value) → LateDoes program layer (whole (at_state (Inside below top)) (leaving plain outs (caller_of below)))
     leaves_between below top w outs = go (caller_of below) refl
       where
-        go : (o : Option Activation) → caller_of below ≡ o → LateDoes (whole (at_state (Inside below top)) (leaving plain outs o))
+        go : (o : Option Activation) → caller_of below ≡ o → LateDoes program layer (whole (at_state (Inside below top)) (leaving plain outs o))
         go None e = λ h. absurd cc
         go (Some f) e = λ h.
             let out : Outside (returned plain outs f).procedure = subst Outside (sym (returned_same outs f)) (waits_outside top.procedure f (last_waits below top f w e)) in
@@ -197,7 +184,7 @@ module _ (program : Program) (layer : ℕ) where
 
     -- ---- a thread that stands late
 
-    late_whole : (below : List Activation) (top : Activation) (proc : Proc) → slice_get program.procs top.procedure ≡ Some proc → (D : Doing) → AfterLate program proc D → LateDoes (whole (at_state (Inside below top)) D)
+    late_whole : (below : List Activation) (top : Activation) (proc : Proc) → slice_get program.procs top.procedure ≡ Some proc → (D : Doing) → AfterLate program proc D → LateDoes program layer (whole (at_state (Inside below top)) D)
     late_whole below top proc there (does.Goes locals place) h = not_early proc (record { procedure = top.procedure; place = place; locals = locals }) (slice_get program.procs top.procedure) there h
     late_whole below top proc there (does.Calls names locals results next action vs) h = (h.0, λ outs. not_early proc (record { procedure = top.procedure; place = next; locals = _ }) (slice_get program.procs top.procedure) there h.1)
     late_whole below top proc there does.Fails h = tt
@@ -207,7 +194,7 @@ module _ (program : Program) (layer : ℕ) where
     late_whole below top proc there (does.Leaves frame) h = absurd h
     late_whole below top proc there (does.Spawns thread place) h = h
 
-    late_spot : (below : List Activation) (top : Activation) (proc : Proc) → slice_get program.procs top.procedure ≡ Some proc → IsLate top proc → AreWaiting plain below top → (o : Option Spot) → spot_at proc.body top.place ≡ o → LateDoes (whole (at_state (Inside below top)) (spot_doing plain (caller_of below) top proc o))
+    late_spot : (below : List Activation) (top : Activation) (proc : Proc) → slice_get program.procs top.procedure ≡ Some proc → IsLate top proc → AreWaiting plain below top → (o : Option Spot) → spot_at proc.body top.place ≡ o → LateDoes program layer (whole (at_state (Inside below top)) (spot_doing plain (caller_of below) top proc o))
     late_spot below top proc there l w None at = leaves_between below top w (outs_in proc top.locals)
     late_spot below top proc there l w (Some s) at =
         let lead = led program proc.body top.place s at in
@@ -217,12 +204,12 @@ module _ (program : Program) (layer : ℕ) where
         (subst (λ (next : ℕ). AfterLate program proc (layer_doing plain proc top.locals s.number next (out-Stmt s.stmt))) (sym lead.next)
         (late_goes_on program layer src ok yields top.procedure proc l.refines there l.refined (omega (arith, low)) s.stmt s.number lead.rest top.locals lead.plain too.1 (stands_there program proc.body top.place s at) (spot_belongs program proc.body top.place s at) (sym too.0 ∙ l.nothing)))
 
-    pub late_does : (state : State) → StateIsStacked plain callee state → state_stands state ≡ Late → LateDoes (whole (at_state state) (state_doing plain (at_state state) state))
+    pub late_does : (state : State) → StateIsStacked plain callee state → state_stands state ≡ Late → LateDoes program layer (whole (at_state state) (state_doing plain (at_state state) state))
     late_does Before k e = absurd cc
     late_does After k e = absurd cc
     late_does (Inside below top) k e = by_proc (slice_get program.procs top.procedure) refl e
       where
-        by_proc : (o : Option Proc) → slice_get program.procs top.procedure ≡ o → frame_stands top o ≡ Late → LateDoes (whole (at_state (Inside below top)) (proc_doing plain (caller_of below) top o))
+        by_proc : (o : Option Proc) → slice_get program.procs top.procedure ≡ o → frame_stands top o ≡ Late → LateDoes program layer (whole (at_state (Inside below top)) (proc_doing plain (caller_of below) top o))
         by_proc None there h = absurd cc
         by_proc (Some proc) there h = late_spot below top proc there (late_is top proc h) k.waiting (spot_at proc.body top.place) refl
 
@@ -256,16 +243,16 @@ module _ (program : Program) (layer : ℕ) where
               let nothing = behind_turn program layer src ok yields top.procedure proc r.0 there r.1 (omega (arith, low)) s.stmt s.number lead.rest g es rs form (spot_belongs program proc.body top.place s at).1 (spot_clean program yields top.procedure proc r.0 there r.1 top.place s at) a does t in
               not_early proc frame (slice_get program.procs frame.procedure) here (ap (λ (n : ℕ). ahead_in program (rest_at proc.body n)) (place ∙ lead.next) ∙ nothing) early
 
-      any_call : (s : Spot) → spot_at proc.body top.place ≡ Some s → (g : Name) (es : List Expr) (rs : List Name) → out-Stmt s.stmt ≡ Call g es rs → (names : List Name) (vs : List Value) → (m : Meaning) → called plain g ≡ m → AnyDoes (whole (at_state (Inside below top)) (call_doing names top.locals rs s.number s.next m vs))
+      any_call : (s : Spot) → spot_at proc.body top.place ≡ Some s → (g : Name) (es : List Expr) (rs : List Name) → out-Stmt s.stmt ≡ Call g es rs → (names : List Name) (vs : List Value) → (m : Meaning) → called plain g ≡ m → AnyDoes program layer (whole (at_state (Inside below top)) (call_doing names top.locals rs s.number s.next m vs))
       any_call s at g es rs form names vs (Does a) e = λ outs early. early_call s at g es rs form a e (record { procedure = top.procedure; place = s.next; locals = _ }) refl refl early
       any_call s at g es rs form names vs (Runs n p) e = tt
       any_call s at g es rs form names vs Missing e = tt
 
-      any_assert : (b : Bool) (next : ℕ) → AnyDoes (whole (at_state (Inside below top)) (if b then does.Goes top.locals next else does.Fails))
+      any_assert : (b : Bool) (next : ℕ) → AnyDoes program layer (whole (at_state (Inside below top)) (if b then does.Goes top.locals next else does.Fails))
       any_assert true next = tt
       any_assert false next = tt
 
-      any_layer : (s : Spot) → spot_at proc.body top.place ≡ Some s → (d : Stmt-F Stmt) → out-Stmt s.stmt ≡ d → AnyDoes (whole (at_state (Inside below top)) (layer_doing plain proc top.locals s.number s.next d))
+      any_layer : (s : Spot) → spot_at proc.body top.place ≡ Some s → (d : Stmt-F Stmt) → out-Stmt s.stmt ≡ d → AnyDoes program layer (whole (at_state (Inside below top)) (layer_doing plain proc top.locals s.number s.next d))
       any_layer s at (Call g es rs) form = any_call s at g es rs form _ _ (called plain g) refl
       any_layer s at (Assert e) form = any_assert (is_true (value_of (frame_values program.globals proc top.locals) e)) s.next
       any_layer s at (Spawn g es) form =
@@ -273,24 +260,47 @@ module _ (program : Program) (layer : ℕ) where
           (outside (record { procedure = top.procedure; place = s.next; locals = top.locals }) (λ other e. ap (λ (p : Proc). has_layer (layer + 1) p) (sym (same_proc other e)) ∙ ap (refines_at (layer + 1)) root), refl)
       any_layer s at _ form = tt
 
-      any_leaves : (outs : List Value) (o : Option Activation) → AnyDoes (whole (at_state (Inside below top)) (leaving plain outs o))
+      any_leaves : (outs : List Value) (o : Option Activation) → AnyDoes program layer (whole (at_state (Inside below top)) (leaving plain outs o))
       any_leaves outs None = tt
       any_leaves outs (Some f) = tt
 
-      any_spot : (o : Option Spot) → spot_at proc.body top.place ≡ o → AnyDoes (whole (at_state (Inside below top)) (spot_doing plain (caller_of below) top proc o))
+      any_spot : (o : Option Spot) → spot_at proc.body top.place ≡ o → AnyDoes program layer (whole (at_state (Inside below top)) (spot_doing plain (caller_of below) top proc o))
       any_spot None at = any_leaves (outs_in proc top.locals) (caller_of below)
       any_spot (Some s) at = any_layer s at (out-Stmt s.stmt) refl
 
-    first_call : (m : Meaning) → AnyDoes (whole (at_state Before) (call_doing [] [] [] 0 0 m args))
+    first_call : (m : Meaning) → AnyDoes program layer (whole (at_state Before) (call_doing [] [] [] 0 0 m args))
     first_call (Does a) = λ outs early. absurd cc
     first_call (Runs n p) = tt
     first_call Missing = tt
 
-    pub any_does : (state : State) → AnyDoes (whole (at_state state) (state_doing plain (at_state state) state))
+    pub any_does : (state : State) → AnyDoes program layer (whole (at_state state) (state_doing plain (at_state state) state))
     any_does Before = first_call (meaning_of plain callee)
     any_does After = tt
     any_does (Inside below top) = by_proc (slice_get program.procs top.procedure) refl
       where
-        by_proc : (o : Option Proc) → slice_get program.procs top.procedure ≡ o → AnyDoes (whole (at_state (Inside below top)) (proc_doing plain (caller_of below) top o))
+        by_proc : (o : Option Proc) → slice_get program.procs top.procedure ≡ o → AnyDoes program layer (whole (at_state (Inside below top)) (proc_doing plain (caller_of below) top o))
         by_proc None there = tt
         by_proc (Some proc) there = any_spot below top proc there (spot_at proc.body top.place) refl
+
+pub threads_turn_once : ThreadsTurnOnce
+threads_turn_once program layer thread src yields stacked =
+    let ok = layered_is_plain program src layer in
+    (late_does program layer src ok yields thread.callee thread.args thread.state stacked, any_does program layer src ok yields thread.callee thread.args thread.state)
+
+-- ---- bodies
+
+refined_by : (layer : ℕ) (o : Option Refines) → refines_at layer o ≡ true → (r : Refines) × (o ≡ Some r) × (r.layer ≡ layer)
+refined_by layer None e = absurd (false≢true e)
+refined_by layer (Some r) e = (r, refl, eqb-true r.layer layer e)
+
+pub calls_run_no_bodies : CallsRunNoBodies
+calls_run_no_bodies program layer number at proc call callee args results src there layered here form n body =
+    let r = refined_by (layer + 1) proc.refines layered in
+    let low = r.2 in
+    calls_no_body program layer src number proc r.0 there r.1 (omega (arith, low)) at call here callee args results form n body
+
+pub nothing_ahead_behind_turns : NothingAheadBehindTurns
+nothing_ahead_behind_turns program layer number place at proc call rest callee args results action yields there layered is form meant t =
+    let r = refined_by layer proc.refines layered in
+    let c = subst (IsClean program) is (layered_clean program yields number proc r.0 there r.1 place) in
+    nothing_ahead program rest (enters_clean program call at rest c.0 c.1 (stmt.Call callee args results) form (ap (λ (o : Option Action). called_phase o false) meant ∙ t))
