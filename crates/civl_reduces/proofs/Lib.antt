@@ -1,0 +1,2 @@
+pub mod Phasing
+pub mod Reducing
