@@ -6,6 +6,7 @@ use Rattle.civl_tree.specs.declared.program.Program.{Program}
 use Rattle.civl_firing.specs.declared.store.Store.{Store}
 use Rattle.civl_meaning.specs.declared.config.Move.{Move}
 use Rattle.civl_meaning.specs.declared.config.Running.{Running}
+use Rattle.civl_meaning.specs.declared.config.Config as meaning
 use Rattle.civl_meaning.specs.Failing.{CanFail}
 use Rattle.civl_meaning.specs.Layers.{program_at}
 use Rattle.civl_interleavings.specs.Systems.{System}
@@ -21,9 +22,12 @@ use Rattle.civl_standing.specs.Stands.{stands}
 abbrev pub Challenged : Type 0
 Challenged = List Move → Bool
 
--- a move of the system, as one of the program
+-- a move and a configuration of the system, as those of the program
 abbrev pub plain_move : threads.Move Chosen → Move
 plain_move move = record { thread = move.thread; choices = move.chosen.0 }
+
+abbrev pub plain_config : Config Store Running → meaning.Config
+plain_config config = record { store = config.store; threads = config.threads }
 
 -- ---- the program of a layer as a system of threads
 
