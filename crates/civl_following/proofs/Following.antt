@@ -46,7 +46,7 @@ use Rattle.civl_paths.proofs.Running.{step_is_on_path}
 use Rattle.civl_paths.proofs.Layering.{steps_see_their_globals}
 use Rattle.civl_paths.proofs.Standing.{begins_stands}
 use Rattle.civl_paths.proofs.Belonging.{Belongs, size_is_some, all_belong, own_place, start_place, first_covered, second_covered, while_covered, yield_loop_covered, rank_loop_covered, rest_belongs}
-use Rattle.civl_following.specs.Following.{SameBelow, with_choices, form_loops, IsNotBelow, layer_head, head_there, cut_ahead, form_plain, HasNoPlainLoops, IsOnPath, Follows, frame_does, StepFollows, FramesFollow, FramesArrive}
+use Rattle.civl_following.specs.Following.{SameBelow, with_choices, form_loops, IsNotBelow, layer_head, head_there, cut_ahead, form_plain, HasNoPlainLoops, IsOnPath, Follows, frame_at, frame_does, FollowsOn, StepFollows, FramesFollow, FramesArrive}
 use Rattle.civl_following.proofs.Onward.{Beyond, Onward, beyond_less, beyond_joined, onward_joined, rest_onward, head_beyond, Split, head_splits}
 use Rattle.civl_following.proofs.Leading.{Stays as LedStays, led_same, led_stays}
 
@@ -201,12 +201,12 @@ module _ (program : Program) (number step : ℕ) (proc : Proc) (cut : Cut) (from
 
   advance_is : (f : ℕ → List Value) → advance (course f) here ≡ advance_from (course f) s state
   advance_is f =
-      ap (λ (p : Progress). option_map_or (λ number. Ends (Comes number p)) (yield_before rest) (advance_at (course f) (spot_at proc.body here.place) p)) (led_same program step proc f chosen rest here.state)
+      ap (λ (p : Progress). option_map_or (λ number. Ends (Comes number p)) (yield_before rest) (advance_at (course f) (spot_at proc.body here.place) p)) (led_same program step proc f (λ n. []) rest here.state)
       ∙ ap (λ (o : Option ℕ). option_map_or (λ number. Ends (Comes number state)) o (advance_at (course f) (spot_at proc.body here.place) state)) nothing_ahead.0
       ∙ ap (λ (o : Option Spot). advance_at (course f) o state) here_there
 
   stays : LedStays program number step proc layered of here.state store state
-  stays = led_stays program number step proc layered of store chosen here.place here.state follows.alike.stores
+  stays = led_stays program number step proc layered of store (λ n. []) here.place here.state follows.alike.stores
 
   -- the step of the path
   abbrev path_does : List Value → Change
@@ -247,7 +247,7 @@ module _ (program : Program) (number step : ℕ) (proc : Proc) (cut : Cut) (from
       (forward (program_at program (step - 1)) store values proc frame.locals s.number s.stmt split.behind split.belongs split.onward (out-Stmt s.stmt) refl)
 
   abbrev Goal : Change → Type 0
-  Goal b = StepFollows program step proc cut from chosen s.number values here store frame b
+  Goal b = StepFollows program step proc cut from chosen s values here store frame b
 
   -- what the path's change does for all choices that agree
   abbrev ForAll : Change → Type 0
@@ -258,38 +258,42 @@ module _ (program : Program) (number step : ℕ) (proc : Proc) (cut : Cut) (from
     next = record { place = place; state = record { store = state.store; locals = locals; done = state.done; again = state.again } };
     goes = adv ∙ ap (advance_by state) e;
     place = refl;
+    state = refl;
     follows = record {
       on_path = record { comes = λ f k. sym (subst (λ (a : Change). Reaches (course f) (advance_by state a) (path_from (course f) cut from)) e (r f k)); ahead = h };
       alike = record { spot = refl; locals = refl; stores = stays.stores };
     };
   }
 
-  acts : (a : Change) (inner after : Store) (locals : List Value) (place : ℕ) → a ≡ Acts inner locals place → StoresAgree (exists_at (step - 1)) program.globals inner after → IsNotBelow (s.number + 1) (spot_at proc.body place) → ForAll a → advance (course now) here ≡ advance_by state a → Goal (Acts after locals place)
+  acts : (a : Change) (inner after : Store) (locals : List Value) (place : ℕ) → a ≡ Acts inner locals place → StoresAgree (exists_at (step - 1)) program.globals inner after → IsNotBelow (s.number + 1) (spot_at proc.body place) → ForAll a → advance (course now) here ≡ advance_by state a
+      → FollowsOn program step proc cut from now (s.number + 1) here inner after (frame_at frame locals place)
   acts a inner after locals place e g h r adv = record {
     next = record { place = place; state = record { store = inner; locals = locals; done = state.done; again = state.again } };
     goes = adv ∙ ap (advance_by state) e;
     place = refl;
+    state = refl;
     follows = record {
       on_path = record { comes = λ f k. sym (subst (λ (a : Change). Reaches (course f) (advance_by state a) (path_from (course f) cut from)) e (r f k)); ahead = h };
       alike = record { spot = refl; locals = refl; stores = g };
     };
   }
 
-  settled : (a b : Change) → ChangesAgree (exists_at (step - 1)) program.globals a b → GoesForward proc.body s.number b → ForAll a → advance (course now) here ≡ advance_by state a → (answers_failing b ≡ true → has_failed (path_from (course chosen) cut from) ≡ true) → Goal b
-  settled (Acts inner l p) (Goes locals place) g h r adv f = absurd g
-  settled a (Goes locals place) g h r adv f = goes a locals place g h r adv
-  settled (Acts inner l p) (Acts after locals place) g h r adv f =
-      acts (Acts inner l p) inner after locals place (ap (λ (ls : List Value). Acts inner ls p) g.1 ∙ ap (λ (w : ℕ). Acts inner locals w) g.2) g.0 h r adv
-  settled a (Acts after locals place) g h r adv f = absurd g
-  settled a (Stays answer.Failing) g h r adv f = f refl
-  settled a (Stays answer.Moved) g h r adv f = tt
-  settled a (Stays answer.Blocked) g h r adv f = tt
-  settled a (Stays answer.NoThread) g h r adv f = tt
-  settled a (Stays answer.Ended) g h r adv f = tt
-  settled a (Stays answer.BadChoices) g h r adv f = tt
-  settled a (Enters other place) g h r adv f = tt
-  settled a (Leaves other) g h r adv f = tt
-  settled a (Spawns thread place) g h r adv f = tt
+  settled : (a b : Change) → a ≡ path_does values → ChangesAgree (exists_at (step - 1)) program.globals a b → GoesForward proc.body s.number b → ForAll a → advance (course now) here ≡ advance_by state a → (answers_failing b ≡ true → has_failed (path_from (course chosen) cut from) ≡ true) → Goal b
+  settled (Acts inner l p) (Goes locals place) w g h r adv f = absurd g
+  settled a (Goes locals place) w g h r adv f = goes a locals place g h r adv
+  settled (Acts inner l p) (Acts after locals place) w g h r adv f =
+      let same : Acts inner l p ≡ Acts inner locals place = ap (λ (ls : List Value). Acts inner ls p) g.1 ∙ ap (λ (at : ℕ). Acts inner locals at) g.2 in
+      (inner, sym w ∙ same, acts (Acts inner l p) inner after locals place same g.0 h r adv)
+  settled a (Acts after locals place) w g h r adv f = absurd g
+  settled a (Stays answer.Failing) w g h r adv f = f refl
+  settled a (Stays answer.Moved) w g h r adv f = tt
+  settled a (Stays answer.Blocked) w g h r adv f = tt
+  settled a (Stays answer.NoThread) w g h r adv f = tt
+  settled a (Stays answer.Ended) w g h r adv f = tt
+  settled a (Stays answer.BadChoices) w g h r adv f = tt
+  settled a (Enters other place) w g h r adv f = tt
+  settled a (Leaves other) w g h r adv f = tt
+  settled a (Spawns thread place) w g h r adv f = tt
 
   fails : layer_ends s.number state (out-Stmt s.stmt) ≡ None → answers_failing (frame_does program step proc store values frame s) ≡ true → has_failed (path_from (course chosen) cut from) ≡ true
   fails none e =
@@ -299,7 +303,7 @@ module _ (program : Program) (number step : ℕ) (proc : Proc) (cut : Cut) (from
 
   passed : layer_ends s.number state (out-Stmt s.stmt) ≡ None → Goal (frame_does program step proc store values frame s)
   passed none =
-      settled (path_does values) (frame_does program step proc store values frame s) (agree values) forth
+      settled (path_does values) (frame_does program step proc store values frame s) refl (agree values) forth
       (λ f h. subst (λ (v : List Value). Reaches (course f) (advance_by state (path_does v)) (path_from (course f) cut from)) (made f h) (reaches none f (before f h)))
       (advance_does none now ∙ ap (λ (v : List Value). advance_by state (path_does v)) (made now (λ m l. refl)))
       (fails none)
@@ -311,7 +315,7 @@ module _ (program : Program) (number step : ℕ) (proc : Proc) (cut : Cut) (from
   by_form (stmt.Spawn f es) e l = tt
   by_form _ e l = subst (λ (d : stmt.Stmt-F Stmt). Goal (layer_change (program_at program (step - 1)) store values proc frame.locals s.number s.next d)) e (passed (ap (layer_ends s.number state) e))
 
-  pub step_follows : (bound ≤ s.number) × StepFollows program step proc cut from chosen s.number values here store frame (frame_does program step proc store values frame s)
+  pub step_follows : (bound ≤ s.number) × StepFollows program step proc cut from chosen s values here store frame (frame_does program step proc store values frame s)
   step_follows = (low, by_form (out-Stmt s.stmt) refl not_loop)
 
 pub frames_follow : FramesFollow
@@ -340,19 +344,24 @@ module _ (program : Program) (step : ℕ) (proc : Proc) (cut : Cut) (from : Prog
   abbrev advanced : Option ℕ → Option Spot → Advance
   advanced o u = option_map_or (λ number. Ends (Comes number end)) o (advance_at own u end)
 
+  arriving_is : advance own here ≡ advanced (yield_before (rest_at proc.body here.place)) (spot_at proc.body here.place)
+  arriving_is =
+      ap (λ (p : Progress). option_map_or (λ number. Ends (Comes number p)) (yield_before (rest_at proc.body here.place)) (advance_at own (spot_at proc.body here.place) p))
+      (led_same program step proc chosen (λ n. []) (rest_at proc.body here.place) here.state)
+
   at_cut : (o : Option ℕ) (u : Option Spot) (number : ℕ) → option_map_or (λ number. Some number) o (head_there u) ≡ Some number → advanced o u ≡ Ends (Comes number end)
   at_cut (Some n) u number e = ap (λ (o : Option ℕ). option_map_or (λ m. Ends (Comes m end)) o (Ends (Past end))) e
   at_cut None None number e = absurd (none-some number e)
   at_cut None (Some s) number e = ap (λ (o : Option Outcome). option_map_or Ends o (advance_by end (spot_does own s end))) (head_ends s.number number end (out-Stmt s.stmt) e)
 
   pub arrives_at : (number : ℕ) → cut_ahead proc.body here.place ≡ Some number → path_from own cut from ≡ Comes number end
-  arrives_at number e = ended (Comes number end) (at_cut (yield_before (rest_at proc.body here.place)) (spot_at proc.body here.place) number e)
+  arrives_at number e = ended (Comes number end) (arriving_is ∙ at_cut (yield_before (rest_at proc.body here.place)) (spot_at proc.body here.place) number e)
 
   pub leaves : cut_ahead proc.body here.place ≡ None → spot_at proc.body here.place ≡ None → path_from own cut from ≡ Past end
   leaves e none =
       let nothing = none_both (yield_before (rest_at proc.body here.place)) (head_there (spot_at proc.body here.place)) e in
       ended (Past end)
-      (ap (λ (o : Option ℕ). advanced o (spot_at proc.body here.place)) nothing.0 ∙ ap (λ (u : Option Spot). advance_at own u end) none)
+      (arriving_is ∙ ap (λ (o : Option ℕ). advanced o (spot_at proc.body here.place)) nothing.0 ∙ ap (λ (u : Option Spot). advance_at own u end) none)
 
 pub frames_arrive : FramesArrive
 frames_arrive program step proc cut from chosen bound here on_path = (arrives_at program step proc cut from chosen bound here on_path, leaves program step proc cut from chosen bound here on_path)

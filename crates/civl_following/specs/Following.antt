@@ -2,7 +2,7 @@
 -- which is a function of the values at its beginning and of the choices of its calls, of which those that were made are
 -- known. (Blocks between yields: Hawblitzel, Petrank, Qadeer, Tasiran, CAV 2015; Kragl, Qadeer, CAV 2018. Choices that are
 -- known before they are made: prophecy variables, Abadi, Lamport, The existence of refinement mappings, 1991.)
-use Rattle.std.specs.Prelude.{ℕ, ◌+◌, ◌-◌, ◌<◌, ◌≤◌, ◌≡◌, Bool, true, false, nat_eq, if◌then◌else◌, ◌⊎◌, List, Option, None, Some}
+use Rattle.std.specs.Prelude.{ℕ, ◌+◌, ◌-◌, ◌<◌, ◌≤◌, ◌≡◌, Bool, true, false, nat_eq, if◌then◌else◌, ◌⊎◌, List, [], Option, None, Some}
 use Rattle.std.specs.Option.{option_map_or}
 use Rattle.civl_bits.specs.declared.value.Value.{Value}
 use Rattle.civl_tree.specs.declared.program.Proc.{Proc}
@@ -72,6 +72,10 @@ form_plain _ = false
 abbrev pub HasNoPlainLoops : Proc → Type 0
 HasNoPlainLoops proc = (number : ℕ) (s : Stmt) → statement_at proc.body number ≡ Some s → form_plain (out-Stmt s) ≡ false
 
+-- the state there, behind the commits and intros that come before the next step; these read no choices
+abbrev pub led_here : Program → ℕ → Proc → Standing → Progress
+led_here program step proc here = led (lower_course program step proc (λ number. [])) (rest_at proc.body here.place) here.state
+
 -- ---- following
 
 -- From this beginning at the cut the path with these choices stands here: whatever is chosen for the numbers from the bound
@@ -100,22 +104,24 @@ frame_at frame locals place = record { procedure = frame.procedure; place = plac
 abbrev pub frame_does : Program → ℕ → Proc → Store → List Value → Activation → Spot → Change
 frame_does program step proc store values frame s = layer_change (program_at program (step - 1)) store values proc frame.locals s.number s.next (out-Stmt s.stmt)
 
--- the path stands one step further, and the frame follows it there
-pub record FollowsOn (program : Program) (step : ℕ) (proc : Proc) (cut : Cut) (from : Progress) (chosen : ℕ → List Value) (bound : ℕ) (here : Standing) (store : Store) (frame : Activation) : Type 0 where
+-- the path stands one step further, with this store, and the frame follows it there
+pub record FollowsOn (program : Program) (step : ℕ) (proc : Proc) (cut : Cut) (from : Progress) (chosen : ℕ → List Value) (bound : ℕ) (here : Standing) (inner store : Store) (frame : Activation) : Type 0 where
   pub next : Standing
   pub goes : advance (lower_course program step proc chosen) here ≡ Stands next
   pub place : next.place ≡ frame.place
+  pub state : next.state ≡ record { store = inner; locals = frame.locals; done = (led_here program step proc here).done; again = (led_here program step proc here).again }
   pub follows : Follows program step proc cut from chosen bound next store frame
 
--- what a step with these values for its choices, from the statement with this number, makes of following: the frame follows
--- on; and where the step fails, so does the path
-abbrev pub StepFollows : Program → ℕ → Proc → Cut → Progress → (ℕ → List Value) → ℕ → List Value → Standing → Store → Activation → Change → Type 0
-StepFollows program step proc cut from chosen number values here store frame (Goes locals place) =
-    FollowsOn program step proc cut from (with_choices chosen number values) (number + 1) here store (frame_at frame locals place)
-StepFollows program step proc cut from chosen number values here store frame (Acts after locals place) =
-    FollowsOn program step proc cut from (with_choices chosen number values) (number + 1) here after (frame_at frame locals place)
-StepFollows program step proc cut from chosen number values here store frame (Stays answer.Failing) = has_failed (path_from (lower_course program step proc chosen) cut from) ≡ true
-StepFollows program step proc cut from chosen number values here store frame _ = Unit {0}
+-- What a step with these values for its choices, of the statement at this spot, makes of following: the frame follows on, and
+-- what an action does to its store it does to the path's; and where the step fails, so does the path.
+abbrev pub StepFollows : Program → ℕ → Proc → Cut → Progress → (ℕ → List Value) → Spot → List Value → Standing → Store → Activation → Change → Type 0
+StepFollows program step proc cut from chosen s values here store frame (Goes locals place) =
+    FollowsOn program step proc cut from (with_choices chosen s.number values) (s.number + 1) here (led_here program step proc here).store store (frame_at frame locals place)
+StepFollows program step proc cut from chosen s values here store frame (Acts after locals place) =
+    (inner : Store) × (frame_does program step proc (led_here program step proc here).store values frame s ≡ Acts inner locals place)
+    × FollowsOn program step proc cut from (with_choices chosen s.number values) (s.number + 1) here inner after (frame_at frame locals place)
+StepFollows program step proc cut from chosen s values here store frame (Stays answer.Failing) = has_failed (path_from (lower_course program step proc chosen) cut from) ≡ true
+StepFollows program step proc cut from chosen s values here store frame _ = Unit {0}
 
 -- a frame that follows a path and stands before no cut follows it on in each step
 abbrev pub FramesFollow : Type 0
@@ -123,7 +129,7 @@ FramesFollow =
     (program : Program) (number step : ℕ) (proc : Proc) (cut : Cut) (from : Progress) (chosen : ℕ → List Value) (bound : ℕ) (here : Standing) (store : Store) (frame : Activation) (values : List Value) (s : Spot)
     → IsLayered program → IsProcOf program number step proc → HasNoPlainLoops proc
     → Follows program step proc cut from chosen bound here store frame → cut_ahead proc.body here.place ≡ None → spot_at proc.body frame.place ≡ Some s
-    → (bound ≤ s.number) × StepFollows program step proc cut from chosen s.number values here store frame (frame_does program step proc store values frame s)
+    → (bound ≤ s.number) × StepFollows program step proc cut from chosen s values here store frame (frame_does program step proc store values frame s)
 
 -- where the path has ended: before a cut, or behind all statements
 abbrev pub FramesArrive : Type 0
@@ -131,6 +137,6 @@ FramesArrive =
     (program : Program) (step : ℕ) (proc : Proc) (cut : Cut) (from : Progress) (chosen : ℕ → List Value) (bound : ℕ) (here : Standing)
     → IsOnPath program step proc cut from chosen bound here
     → ((number : ℕ) → cut_ahead proc.body here.place ≡ Some number
-    → path_from (lower_course program step proc chosen) cut from ≡ Comes number (led (lower_course program step proc chosen) (rest_at proc.body here.place) here.state))
+    → path_from (lower_course program step proc chosen) cut from ≡ Comes number (led_here program step proc here))
     × (cut_ahead proc.body here.place ≡ None → spot_at proc.body here.place ≡ None
-    → path_from (lower_course program step proc chosen) cut from ≡ Past (led (lower_course program step proc chosen) (rest_at proc.body here.place) here.state))
+    → path_from (lower_course program step proc chosen) cut from ≡ Past (led_here program step proc here))
