@@ -1,2 +1,2 @@
-mod Listing
-mod Concluding
+pub mod Listing
+pub mod Concluding

@@ -1,0 +1,8 @@
+use Rattle.civl_open_blocks.proofs.Ending.{open_blocks_conclude, open_blocks_go_round}
+use Rattle.civl_open_blocks.proofs.laws.open_blocks_end.Goals as goal
+
+pub returns-clause-conclude : goal.returns-clause-conclude
+returns-clause-conclude c = open_blocks_conclude
+
+pub returns-clause-round : goal.returns-clause-round
+returns-clause-round c = open_blocks_go_round
