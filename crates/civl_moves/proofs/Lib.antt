@@ -5,3 +5,4 @@ pub mod Moving
 pub mod Calling
 pub mod Stopping
 pub mod Picking
+pub mod Leaving

@@ -1,5 +1,5 @@
 -- The two ends of an `if` at terms: where a sweep stands, and what stands behind both branches.
-use Rattle.std.specs.Prelude.{◌≡◌, ℕ, ◌+◌, nat_eq, if◌then◌else◌, List, [], ◌∷◌, map}
+use Rattle.std.specs.Prelude.{◌≡◌, ℕ, ◌+◌, nat_eq, if◌then◌else◌, List, [], ◌∷◌, map, slice_get, Some}
 use Rattle.civl_tree.specs.declared.expr.Sort.{Sort}
 use Rattle.civl_tree.specs.declared.program.Proc.{Proc}
 use Rattle.civl_tree.specs.declared.program.Program.{Program}
@@ -41,6 +41,10 @@ pub record CanEnd (ns : List Node) (program : Program) (proc : Proc) (f : Front)
 pub record ArePicked (old new : List Node) (test : ℕ) (sorts : List Sort) (xs ys ids : List ℕ) : Type 0 where
   pub are : (env : Env) → Fits env new → values_at env new ids ≡ (if bool_at env old test then values_at env old xs else values_at env old ys)
   pub sorted : AreOf new ids sorts
+
+-- a term that stands at one place of both lists stands there
+abbrev pub KeepsSame : List ℕ → List ℕ → List ℕ → Type 0
+KeepsSame xs ys ids = (place id : ℕ) → slice_get xs place ≡ Some id → slice_get ys place ≡ Some id → slice_get ids place ≡ Some id
 
 -- the bits of the terms that aren't the same
 abbrev pub differing : List Node → List ℕ → List ℕ → ℕ

@@ -17,7 +17,7 @@ ghost use Rattle.civl_sweeps.specs.Sweeps.{joined};
 ghost use Rattle.civl_conditions.specs.Weights.{body_weight};
 ghost use Rattle.civl_formulas.specs.Lists.{AreAlike};
 ghost use Rattle.civl_formulas.specs.Said.{Env, IsTest, IsSaid};
-ghost use Rattle.civl_moves.specs.Branches.{ArePicked, CanEnd, ended_at, front_of, with_front, differing};
+ghost use Rattle.civl_moves.specs.Branches.{ArePicked, CanEnd, KeepsSame, ended_at, front_of, with_front, differing};
 ghost use Rattle.civl_moves.specs.Expressions.{IsProcIn};
 ghost use Rattle.civl_moves.specs.States.{CanSweep, IsBool, Moves, Suits, bool_at, holds_at, swept_at};
 
@@ -148,6 +148,7 @@ fn picked(terms: &mut Terms, test: Id, a: Id, b: Id) -> Result<Id, Memory>
     requires sort { IsSome (sort_at terms.old a) }
     requires alike { sort_at terms.old b ≡ sort_at terms.old a }
     ensures said { IfOk result (λ id. (s : Sort) (t : Env → Bool) (f g : Env → Meant) → IsTest terms.old test t → IsSaid terms.old a s f → IsSaid terms.old b s g → IsSaid terms.new id s (λ env. if t env then f env else g env)) }
+    ensures same { IfOk result (λ id. a ≡ b → id ≡ a) }
     ensures grows { Grows terms.old terms.new }
     ensures weighs { OnOk result (graph_weight terms.new ≤ graph_weight terms.old + (if nat_eq a b then 0 else bits_in (sort_at terms.old a))) }
 {
@@ -170,6 +171,7 @@ fn picked_all(
     requires test { IsBool terms.old test }
     requires alike { AreAlike terms.old xs.now ys.now }
     ensures picked { IfOk result (λ ids. (ss : ListOf Sort) → AreOf terms.old xs.now ss → AreOf terms.old ys.now ss → ArePicked terms.old terms.new test ss xs.now ys.now ids) }
+    ensures same { IfOk result (λ ids. KeepsSame xs.now ys.now ids) }
     ensures grows { Grows terms.old terms.new }
     ensures weighs { OnOk result (graph_weight terms.new ≤ graph_weight terms.old + differing terms.old xs.now ys.now) }
 {
@@ -201,6 +203,8 @@ fn picked_state(
     requires locals { AreAlike terms.old ended.now.locals sweep.now.locals }
     ensures globals { IfOk result (λ s. (ss : ListOf Sort) → AreOf terms.old ended.now.globals ss → AreOf terms.old sweep.now.globals ss → ArePicked terms.old terms.new test ss ended.now.globals sweep.now.globals s.globals) }
     ensures locals { IfOk result (λ s. (ss : ListOf Sort) → AreOf terms.old ended.now.locals ss → AreOf terms.old sweep.now.locals ss → ArePicked terms.old terms.new test ss ended.now.locals sweep.now.locals s.locals) }
+    ensures same_globals { IfOk result (λ s. KeepsSame ended.now.globals sweep.now.globals s.globals) }
+    ensures same_locals { IfOk result (λ s. KeepsSame ended.now.locals sweep.now.locals s.locals) }
     ensures grows { Grows terms.old terms.new }
     ensures weighs { OnOk result (graph_weight terms.new ≤ graph_weight terms.old + differing terms.old ended.now.globals sweep.now.globals + differing terms.old ended.now.locals sweep.now.locals) }
 {
@@ -229,7 +233,7 @@ fn one_of(first: bool, second: bool) -> bool
 }
 
 /// Behind both branches of an `if`, from the end of the first one and that of the second, where the sweep stands. The graph's
-/// weight rises by at most 2 and the bits of the terms of the two states that aren't the same.
+/// weight rises by at most 2 and the bits of the terms of the two states that aren't the same. A term that is the same stays.
 ///
 /// # Errors
 ///
@@ -249,6 +253,9 @@ pub fn join(
     requires ended_done { sort_at terms.old ended.now.done ≡ Some Truth }
     requires done { sort_at terms.old sweep.old.done ≡ Some Truth }
     ensures moves { OnOk result ((program : Whole) (proc : Procedure) → CanSweep terms.old program proc sweep.old → CanEnd terms.old program proc ended.now → Moves terms.old terms.new program proc sweep.old sweep.new (λ env d. joined (bool_at env terms.old test) (ended_at env terms.old ended.now d) d)) }
+    ensures same_globals { OnOk result (KeepsSame ended.now.globals sweep.old.globals sweep.new.globals) }
+    ensures same_locals { OnOk result (KeepsSame ended.now.locals sweep.old.locals sweep.new.locals) }
+    ensures rest { OnOk result (sweep.new ≡ record sweep.old { onward = ended.now.onward || sweep.old.onward; live = sweep.new.live; globals = sweep.new.globals; locals = sweep.new.locals; done = sweep.new.done }) }
     ensures weighs { OnOk result (graph_weight terms.new ≤ graph_weight terms.old + differing terms.old ended.now.globals sweep.old.globals + differing terms.old ended.now.locals sweep.old.locals + 2) }
     ensures grows { Grows terms.old terms.new }
 {

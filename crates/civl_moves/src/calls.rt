@@ -2,7 +2,7 @@
 ghost use Rattle.std.specs.Prelude.{◌≡◌, ◌≤◌, ◌+◌, ◌<◌, ◌^◌, length, map, All, slice_get, IfOk, OnOk, IfSome, Some};
 ghost use Rattle.civl_tree.specs.declared.action.Action.{Action};
 ghost use Rattle.civl_tree.specs.declared.expr.Sort.TheVariants.{Bool as Truth};
-ghost use Rattle.civl_tree.specs.rules.Names.{names_in_proc};
+ghost use Rattle.civl_tree.specs.rules.Names.{global_names, names_in_proc, targets_of};
 ghost use Rattle.civl_tree.specs.rules.Rules.{Keeps};
 ghost use Rattle.civl_tree.specs.rules.Scopes.{body_scope};
 ghost use Rattle.civl_tree.specs.rules.Typing.{typing_rules};
@@ -11,7 +11,7 @@ ghost use Rattle.civl_meaning.specs.Config.{frame_sorts};
 ghost use Rattle.civl_terms.specs.Building.{Grows};
 ghost use Rattle.civl_terms.specs.Graphs.{sort_at};
 ghost use Rattle.civl_terms.specs.Weights.{graph_weight};
-ghost use Rattle.civl_actions.specs.Actions.{values_at};
+ghost use Rattle.civl_actions.specs.Actions.{LeavesOthers, values_at};
 ghost use Rattle.civl_actions.specs.Scopes.{AreOf, IsTyped};
 ghost use Rattle.civl_sweeps.specs.Sweeps.{with_action};
 ghost use Rattle.civl_conditions.specs.Weights.{body_weight, weights_of};
@@ -84,6 +84,7 @@ fn run_action(
     requires live { sort_at terms.old sweep.now.live ≡ Some Truth }
     requires safe { sort_at terms.old sweep.now.safe ≡ Some Truth }
     ensures ran { IfOk result (λ ran. IfSome (slice_get program.now.actions action) (λ a. HasRun terms.old terms.new program.now a sweep.now.globals inputs.now choices.now sweep.now.live sweep.now.safe ran)) }
+    ensures others { IfOk result (λ ran. IfSome (slice_get program.now.actions action) (λ a. LeavesOthers (global_names program.now.globals) (targets_of a) sweep.now.globals ran.globals)) }
     ensures weighs { OnOk result (IfSome (slice_get program.now.actions action) (λ a. graph_weight terms.new ≤ graph_weight terms.old + action_weight program.now a + 4)) }
     ensures grows { Grows terms.old terms.new }
 {
@@ -128,6 +129,7 @@ fn take_outs(alloc: Alloc, locals: &mut List<Id>, proc: &Proc, results: &[Name],
 }
 
 /// A call of an action, at these terms for its parameters and its choices. The graph's weight rises by at most the action's and 4.
+/// Globals that the action doesn't update keep their terms, and so do names that are no results.
 ///
 /// # Errors
 ///
@@ -150,6 +152,9 @@ pub fn pass_action(
     requires choices { IfSome (slice_get program.now.actions action) (λ a. AreOf terms.old choices.now (map (λ c. c.sort) a.choices)) }
     requires results { IfSome (slice_get program.now.actions action) (λ a. ResultsSuit proc.now results.now (map (λ p. p.sort) a.outs)) }
     ensures moves { OnOk result (IfSome (slice_get program.now.actions action) (λ a. Moves terms.old terms.new program.now proc.now sweep.old sweep.new (λ env. with_action (body_of program.now proc.now) results.now a (values_at env terms.old inputs.now) (values_at env terms.old choices.now)))) }
+    ensures globals { OnOk result (IfSome (slice_get program.now.actions action) (λ a. LeavesOthers (global_names program.now.globals) (targets_of a) sweep.old.globals sweep.new.globals)) }
+    ensures locals { OnOk result (LeavesOthers (names_in_proc proc.now) results.now sweep.old.locals sweep.new.locals) }
+    ensures rest { OnOk result (sweep.new ≡ record sweep.old { live = sweep.new.live; safe = sweep.new.safe; globals = sweep.new.globals; locals = sweep.new.locals }) }
     ensures weighs { OnOk result (IfSome (slice_get program.now.actions action) (λ a. graph_weight terms.new ≤ graph_weight terms.old + action_weight program.now a + 4)) }
     ensures grows { Grows terms.old terms.new }
 {

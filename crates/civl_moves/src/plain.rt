@@ -1,5 +1,5 @@
 // Assigns, asserts, commits and intros at terms.
-ghost use Rattle.std.specs.Prelude.{◌≡◌, ◌≤◌, ◌+◌, ◌&&◌, not, ◌||◌, Bool, Some, slice_set, IfOk, OnOk};
+ghost use Rattle.std.specs.Prelude.{◌≡◌, ◌≤◌, ◌+◌, ◌&&◌, not, ◌||◌, Bool, Some, [], ◌∷◌, slice_set, IfOk, OnOk};
 ghost use Rattle.civl_tree.specs.declared.expr.Sort.TheVariants.{Bool as Truth};
 ghost use Rattle.civl_tree.specs.rules.Names.{global_names, names_in_proc};
 ghost use Rattle.civl_tree.specs.rules.Rules.{Keeps};
@@ -16,6 +16,7 @@ ghost use Rattle.civl_paths.specs.Paths.{set_global};
 ghost use Rattle.civl_terms.specs.Building.{Grows};
 ghost use Rattle.civl_terms.specs.Graphs.{sort_at};
 ghost use Rattle.civl_terms.specs.Weights.{graph_weight};
+ghost use Rattle.civl_actions.specs.Actions.{LeavesOthers};
 ghost use Rattle.civl_sweeps.specs.Sweeps.{gated, set_locals, with_commit};
 ghost use Rattle.civl_conditions.specs.Weights.{body_weight, note_weight};
 ghost use Rattle.civl_formulas.specs.Said.{Env, IsTest};
@@ -89,7 +90,7 @@ fn global_place(program: &Program, name: &Name) -> usize
     place(&names, name)
 }
 
-/// An assign. The graph's weight rises by at most the expression's.
+/// An assign. The graph's weight rises by at most the expression's. Other names keep their terms.
 ///
 /// # Errors
 ///
@@ -108,6 +109,8 @@ pub fn pass_assign(
     requires suits { Suits (body_scope program.now proc.now) expr.now (place_sort proc.now target.now) }
     requires can { CanSweep terms.old program.now proc.now sweep.old }
     ensures moves { OnOk result (Moves terms.old terms.new program.now proc.now sweep.old sweep.new (λ env d. set_locals (slice_set d.locals (place_of (names_in_proc proc.now) target.now) (value_of (frame_values program.now.globals proc.now d.locals) expr.now)) d)) }
+    ensures others { OnOk result (LeavesOthers (names_in_proc proc.now) (target.now ∷ []) sweep.old.locals sweep.new.locals) }
+    ensures rest { OnOk result (sweep.new ≡ record sweep.old { locals = sweep.new.locals }) }
     ensures weighs { OnOk result (graph_weight terms.new ≤ graph_weight terms.old + body_weight program.now proc.now expr.now) }
     ensures grows { Grows terms.old terms.new }
 {
@@ -116,7 +119,7 @@ pub fn pass_assign(
     Ok(())
 }
 
-/// An intro. The graph's weight rises by at most that of its value.
+/// An intro. The graph's weight rises by at most that of its value. Other globals keep their terms.
 ///
 /// # Errors
 ///
@@ -135,6 +138,8 @@ pub fn pass_intro(
     requires suits { Suits (note_scope program.now proc.now) expr.now (sort_in (bind_globals program.now.globals) target.now) }
     requires can { CanSweep terms.old program.now proc.now sweep.old }
     ensures moves { OnOk result (Moves terms.old terms.new program.now proc.now sweep.old sweep.new (λ env d. record d { store = set_global program.now.globals d.store target.now (value_of (plain_note_values program.now.globals proc.now d.store d.locals) expr.now) })) }
+    ensures others { OnOk result (LeavesOthers (global_names program.now.globals) (target.now ∷ []) sweep.old.globals sweep.new.globals) }
+    ensures rest { OnOk result (sweep.new ≡ record sweep.old { globals = sweep.new.globals }) }
     ensures weighs { OnOk result (graph_weight terms.new ≤ graph_weight terms.old + note_weight program.now proc.now expr.now) }
     ensures grows { Grows terms.old terms.new }
 {
@@ -194,6 +199,7 @@ pub fn pass_assert(
     requires suits { Suits (body_scope program.now proc.now) fact.now (Some Truth) }
     requires can { CanSweep terms.old program.now proc.now sweep.old }
     ensures moves { OnOk result (Moves terms.old terms.new program.now proc.now sweep.old sweep.new (λ env d. gated (holds_at program.now proc.now fact.now d) d)) }
+    ensures rest { OnOk result (sweep.new ≡ record sweep.old { live = sweep.new.live; safe = sweep.new.safe }) }
     ensures weighs { OnOk result (graph_weight terms.new ≤ graph_weight terms.old + body_weight program.now proc.now fact.now + 3) }
     ensures grows { Grows terms.old terms.new }
 {
@@ -230,6 +236,7 @@ pub fn pass_commit(terms: &mut Terms, sweep: &mut Sweep) -> Result<(), Memory>
     requires live { sort_at terms.old sweep.old.live ≡ Some Truth }
     requires done { sort_at terms.old sweep.old.done ≡ Some Truth }
     ensures moves { OnOk result ((program : Whole) (proc : Procedure) → CanSweep terms.old program proc sweep.old → Moves terms.old terms.new program proc sweep.old sweep.new (λ env. with_commit)) }
+    ensures rest { OnOk result (sweep.new ≡ record sweep.old { done = sweep.new.done; once = sweep.new.once }) }
     ensures weighs { OnOk result (graph_weight terms.new ≤ graph_weight terms.old + 3) }
     ensures grows { Grows terms.old terms.new }
 {

@@ -1,5 +1,5 @@
 // Where paths end or stop, at terms.
-ghost use Rattle.std.specs.Prelude.{◌≡◌, ◌≤◌, [], ◌∷◌, ◌++◌, IfOk, OnOk};
+ghost use Rattle.std.specs.Prelude.{◌≡◌, ◌≤◌, [], ◌∷◌, ◌++◌, false, map, IfOk, OnOk};
 ghost use Rattle.civl_tree.specs.declared.program.Proc.{Proc as Procedure};
 ghost use Rattle.civl_tree.specs.declared.program.Program.{Program as Whole};
 ghost use Rattle.civl_terms.specs.Building.{Grows};
@@ -58,6 +58,8 @@ pub fn pass_cut(
     number: u32,
 ) -> Result<(), Memory>
     ensures moves { OnOk result ((program : Whole) (proc : Procedure) → CanSweep terms.old program proc sweep.old → Moves terms.old terms.new program proc sweep.old sweep.new (λ env. cut_at number)) }
+    ensures numbers { OnOk result (map (λ s. s.number) sweep.new.stops ≡ map (λ s. s.number) sweep.old.stops ++ number ∷ []) }
+    ensures rest { OnOk result (sweep.new ≡ record sweep.old { onward = false; live = sweep.new.live; stops = sweep.new.stops }) }
     ensures weighs { OnOk result (graph_weight terms.new ≤ graph_weight terms.old) }
     ensures grows { Grows terms.old terms.new }
 {
@@ -76,6 +78,7 @@ pub fn pass_cut(
 /// For want of memory; the nodes before stay.
 pub fn halt(terms: &mut Terms, sweep: &mut Sweep) -> Result<(), Memory>
     ensures moves { OnOk result ((program : Whole) (proc : Procedure) → CanSweep terms.old program proc sweep.old → Moves terms.old terms.new program proc sweep.old sweep.new (λ env. halted)) }
+    ensures rest { OnOk result (sweep.new ≡ record sweep.old { live = sweep.new.live }) }
     ensures weighs { OnOk result (graph_weight terms.new ≤ graph_weight terms.old) }
     ensures grows { Grows terms.old terms.new }
 {
@@ -91,6 +94,7 @@ pub fn halt(terms: &mut Terms, sweep: &mut Sweep) -> Result<(), Memory>
 /// For want of memory; the nodes before stay.
 pub fn stop(terms: &mut Terms, sweep: &mut Sweep) -> Result<(), Memory>
     ensures moves { OnOk result ((program : Whole) (proc : Procedure) → CanSweep terms.old program proc sweep.old → Moves terms.old terms.new program proc sweep.old sweep.new (λ env. stopped)) }
+    ensures rest { OnOk result (sweep.new ≡ record sweep.old { onward = false; live = sweep.new.live }) }
     ensures weighs { OnOk result (graph_weight terms.new ≤ graph_weight terms.old) }
     ensures grows { Grows terms.old terms.new }
 {

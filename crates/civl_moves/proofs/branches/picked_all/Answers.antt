@@ -1,13 +1,14 @@
-use Rattle.std.proofs.Common.{◌≡◌, ◌∙◌, ap₂, length, take, sym, refl, subst, arith, List, ℕ, Option}
+use Rattle.std.proofs.Common.{◌≡◌, ◌∙◌, ap, ap₂, ◌+◌, [], ◌∷◌, length, take, sym, refl, subst, arith, List, ℕ, Option}
 use Rattle.std.specs.Prelude.{IsSome}
-use Rattle.std.proofs.lemmas.List.{take_all}
+use Rattle.std.proofs.lemmas.List.{take_all, length-append}
 use Rattle.civl_tree.specs.declared.expr.Sort.{Sort}
 use Rattle.civl_tree.specs.declared.expr.Sort.TheVariants.{Bool as Truth}
 use Rattle.civl_terms.proofs.Growing.{grows_trans}
 use Rattle.civl_formulas.proofs.Saying.{sort_stays}
 use Rattle.civl_formulas.proofs.Listing.{alike_at, alike_long, alike_stay}
-use Rattle.civl_moves.specs.Branches.{ArePicked, differing}
+use Rattle.civl_moves.specs.Branches.{ArePicked, KeepsSame, differing}
 use Rattle.civl_moves.proofs.Picking.{are_length, picked_step, differ_next}
+use Rattle.civl_moves.proofs.Leaving.{same_step}
 use Rattle.civl_moves.proofs.branches.picked_all.Goals as goal
 
 pub picked-requires-clause-test : goal.picked-requires-clause-test
@@ -42,6 +43,8 @@ loop-at-preserved c =
       grows_trans _ _ _ g c.in_ok-id.ensures.grows,
       λ ss hx hy. picked_step o m n c.args.test ss c.args.xs.now c.args.ys.now c.loop-at.ids.items _ i c.in_ok-id.id g c.in_ok-id.ensures.grows c.requires.test hx hy (omega arith) (c.loop-at.invariant.1 ss hx hy) c.in_ok-id.ensures.said c.in_ok-push.ensures.items,
       omega (arith, c.loop-at.invariant.2, c.in_ok-id.ensures.weighs, differ_next o m c.args.xs.now c.args.ys.now r.sorts i g r.first r.second (omega arith)),
+      ap (length {A = ℕ}) c.in_ok-push.ensures.items ∙ length-append c.loop-at.ids.items (c.in_ok-id.id ∷ []) ∙ ap (λ (k : ℕ). k + 1) c.loop-at.invariant.3,
+      same_step c.args.xs.now c.args.ys.now c.loop-at.ids.items _ i c.in_ok-id.id (omega arith) (omega (arith, alike_long o c.args.xs.now c.args.ys.now r.sorts r.first r.second)) c.loop-at.invariant.3 c.in_ok-id.ensures.same c.loop-at.invariant.4 c.in_ok-push.ensures.items,
     )
 
 pub returns-clause-picked : goal.returns-clause-picked
@@ -65,3 +68,13 @@ returns-clause-weighs c =
     let long = alike_long c.args.terms.now c.args.xs.now c.args.ys.now c.requires.alike.sorts c.requires.alike.first c.requires.alike.second in
     let e = ap₂ (λ (us vs : List ℕ). differing c.args.terms.now us vs) (take_all i c.args.xs.now (omega arith)) (take_all i c.args.ys.now (omega arith)) in
     omega (arith, c.loop-at.invariant.2, e)
+
+pub returns-clause-same : goal.returns-clause-same
+returns-clause-same c =
+    let i = c.loop-at.at in
+    let xs = c.args.xs.now in
+    let ys = c.args.ys.now in
+    let long = alike_long c.args.terms.now xs ys c.requires.alike.sorts c.requires.alike.first c.requires.alike.second in
+    let h1 = subst (λ (zs : List ℕ). KeepsSame zs (take i ys) c.loop-at.ids.items) (take_all i xs (omega arith)) c.loop-at.invariant.4 in
+    let h2 = subst (λ (zs : List ℕ). KeepsSame xs zs c.loop-at.ids.items) (take_all i ys (omega (arith, long))) h1 in
+    subst (KeepsSame xs ys) (sym c.from_vec.ensures) h2

@@ -1,8 +1,8 @@
-use Rattle.std.proofs.Common.{◌∙◌, ap₂, arith, List, ℕ}
+use Rattle.std.proofs.Common.{◌∙◌, ap₂, subst, arith, List, ℕ}
 use Rattle.civl_terms.proofs.Growing.{grows_trans}
 use Rattle.civl_actions.proofs.Staying.{are_stay}
 use Rattle.civl_formulas.proofs.Listing.{alike_stay}
-use Rattle.civl_moves.specs.Branches.{differing}
+use Rattle.civl_moves.specs.Branches.{KeepsSame, differing}
 use Rattle.civl_moves.proofs.States.{bool_stays}
 use Rattle.civl_moves.proofs.Picking.{alike_of, picked_of, picked_since, picked_stays, differ_stays}
 use Rattle.civl_moves.proofs.branches.picked_state.Goals as goal
@@ -51,3 +51,13 @@ returns-clause-weighs c =
     let first = ap₂ (λ (us vs : List ℕ). differing o us vs) c.as_slice.ensures c.as_slice-2.ensures in
     let second = ap₂ (λ (us vs : List ℕ). differing m us vs) c.as_slice-3.ensures c.as_slice-4.ensures ∙ differ_stays o m e.locals s.locals c.requires.locals.sorts c.in_ok-globals.ensures.grows c.requires.locals.first in
     omega (arith, c.in_ok-globals.ensures.weighs, c.in_ok-locals.ensures.weighs, first, second)
+
+pub returns-clause-same_globals : goal.returns-clause-same_globals
+returns-clause-same_globals c =
+    subst (λ (ys : List ℕ). KeepsSame c.args.ended.now.globals ys c.in_ok-globals.globals) c.as_slice-2.ensures
+    (subst (λ (xs : List ℕ). KeepsSame xs c.as_slice-2.result.now c.in_ok-globals.globals) c.as_slice.ensures c.in_ok-globals.ensures.same)
+
+pub returns-clause-same_locals : goal.returns-clause-same_locals
+returns-clause-same_locals c =
+    subst (λ (ys : List ℕ). KeepsSame c.args.ended.now.locals ys c.in_ok-locals.locals) c.as_slice-4.ensures
+    (subst (λ (xs : List ℕ). KeepsSame xs c.as_slice-4.result.now c.in_ok-locals.locals) c.as_slice-3.ensures c.in_ok-locals.ensures.same)

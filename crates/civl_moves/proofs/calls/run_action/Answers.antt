@@ -39,3 +39,6 @@ returns-clause-ran c =
 pub returns-clause-weighs : goal.returns-clause-weighs
 returns-clause-weighs c =
     if_each _ _ (λ a e. weighs_four (graph_weight c.args.terms.now) (graph_weight c.instance.new.terms) (graph_weight c.gate.new.terms) (graph_weight c.both.new.terms) (action_weight c.args.program.now a) (of_some _ _ a e c.in_ok-made.ensures.weighs) c.in_ok-gated.ensures.weighs c.in_ok-live.ensures.weighs)
+
+pub returns-clause-others : goal.returns-clause-others
+returns-clause-others c = c.in_ok-made.ensures.others
