@@ -9,3 +9,7 @@ pub mod Called
 pub mod Calling
 pub mod Resting
 pub mod RestPassing
+pub mod Few
+pub mod Listing
+pub mod Drawn
+pub mod Sweeping

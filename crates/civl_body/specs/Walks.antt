@@ -38,3 +38,16 @@ pub record IsWalk (ns : List Node) (program : Program) (proc : Proc) (cut : Cut)
   pub once : IsTest ns walk.once (λ env. not (progress_of (o env)).again)
   pub ends : map (λ w. w.end) walk.ways ≡ ends_from proc cut
   pub ways : All (IsWay ns program proc o) walk.ways
+
+-- ---- terms of the sorts that belong there
+
+-- at an end
+pub record CanEnd (ns : List Node) (program : Program) (proc : Proc) (way : Way) : Type 0 where
+  pub globals : AreGlobals ns program way.globals
+  pub locals : AreOf ns way.locals (frame_sorts proc)
+  pub done : sort_at ns way.done ≡ Some Truth
+
+-- and a test whether the way is taken
+pub record CanTake (ns : List Node) (program : Program) (proc : Proc) (way : Way) : Type 0 where
+  pub taken : sort_at ns way.taken ≡ Some Truth
+  pub ends : CanEnd ns program proc way

@@ -7,6 +7,8 @@ mod rests;
 mod sizes;
 mod statements;
 mod way;
+mod ways;
 
 pub use begin::pass_from;
 pub use way::{Walk, Way};
+pub use ways::walk;
