@@ -25,6 +25,7 @@ use Rattle.civl_paths.specs.Flows.{Flow, flow_all, flow_layer, flow_rest}
 use Rattle.civl_paths.proofs.Following.{flow_append}
 use Rattle.civl_paths.proofs.Each.{each_numbered}
 use Rattle.civl_sweeps.specs.Sweeps.{Swept, sweep_all, sweep_layer, sweep_rest}
+use Rattle.civl_conditions.specs.Weights.{layer_weight}
 use Rattle.civl_states.specs.declared.beginning.Chosen.{Chosen}
 use Rattle.civl_moves.specs.declared.sweep.Sweep.{Sweep}
 use Rattle.civl_moves.specs.States.{swept_at}
@@ -84,6 +85,7 @@ loop_yield_loop s e i a is =
       flows = λ rest. ap (λ (y : stmt.Stmt-F Stmt). flow_layer y rest) o;
       sweeps = λ c rest x. ap (λ (y : stmt.Stmt-F Stmt). sweep_layer c y rest x) o;
       suits = λ program keeps proc there number at. first_suits _ e _ _ (form_kept program keeps proc there number s _ at o);
+      weighs = λ plain proc. ap (layer_weight plain proc s) o;
     }
 
 pub loop_rank_loop : (s : Stmt) (e r i : Expr) (a : List Stmt) → s ≡ tree.RankLoop e r i a → IsLoop s e a
@@ -95,6 +97,7 @@ loop_rank_loop s e r i a is =
       flows = λ rest. ap (λ (y : stmt.Stmt-F Stmt). flow_layer y rest) o;
       sweeps = λ c rest x. ap (λ (y : stmt.Stmt-F Stmt). sweep_layer c y rest x) o;
       suits = λ program keeps proc there number at. first_suits _ e _ _ (form_kept program keeps proc there number s _ at o);
+      weighs = λ plain proc. ap (layer_weight plain proc s) o;
     }
 
 -- a loop's body, and the loop again

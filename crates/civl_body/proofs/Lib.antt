@@ -13,3 +13,7 @@ pub mod Few
 pub mod Listing
 pub mod Drawn
 pub mod Sweeping
+pub mod Keeping
+pub mod Differing
+pub mod Writing
+pub mod Weighing

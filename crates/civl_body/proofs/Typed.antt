@@ -122,6 +122,7 @@ pub record CallKept (program : Program) (proc : Proc) (f : Name) (es : List Expr
   pub is : callee_signature program f ≡ Some signature
   pub args : Kept (argument_uses (body_scope program proc) es (param_sorts signature.params))
   pub long : length es ≡ length (param_sorts signature.params)
+  pub given : length rs ≡ length signature.outs
   pub results : results_missorted proc rs (param_sorts signature.outs) ≡ false
 
 the_signature : (o : Option Signature) → is_none o ≡ false → (x : Signature) × (o ≡ Some x)
@@ -141,5 +142,6 @@ module _ (program : Program) (keeps : Keeps typing_rules program) (proc : Proc) 
         is = found.1;
         args = subst (λ (x : Option Signature). Kept (argument_uses (body_scope program proc) es (taken_sorts x))) found.1 (form_kept program keeps proc there number s _ at o);
         long = same ∙ sym (length-map found.0.params (λ p. p.sort));
+        given = eqb-true (length rs) (length found.0.outs) (not-false (nat_eq (length rs) (length found.0.outs)) (or_parts _ _ counted).1);
         results = subst (λ (x : Option Signature). results_missorted proc rs (given_sorts x) ≡ false) found.1 (results_kept program keeps proc there number s _ at o);
       }

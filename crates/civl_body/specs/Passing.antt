@@ -15,6 +15,7 @@ use Rattle.civl_paths.specs.Flows.{flow_all, flow_loop, flow_layer, flow_rest, f
 use Rattle.civl_layers.specs.declared.cut.Cut.{Cut}
 use Rattle.civl_tree.specs.rules.Rules.{Keeps}
 use Rattle.civl_tree.specs.rules.Typing.{typing_rules}
+use Rattle.civl_meaning.specs.declared.config.Plain.{Plain}
 use Rattle.civl_meaning.specs.Layers.{program_at}
 use Rattle.civl_meaning.specs.Rest.{Rest, rest_at}
 use Rattle.civl_layers.specs.Layered.{IsLayered}
@@ -24,6 +25,7 @@ use Rattle.civl_actions.specs.Scopes.{AreOf}
 use Rattle.civl_actions.specs.Actions.{values_at}
 use Rattle.civl_paths.specs.Paths.{Course, tested}
 use Rattle.civl_paths.specs.Choices.{layer_action}
+use Rattle.civl_conditions.specs.Weights.{layer_weight, body_weight}
 use Rattle.civl_sweeps.specs.Sweeps.{Swept, sweep_all, sweep_loop, sweep_layer, sweep_rest, sweep_from, standing, first_begins, second_begins}
 use Rattle.civl_formulas.specs.Said.{Env}
 use Rattle.civl_moves.specs.declared.sweep.Sweep.{Sweep}
@@ -129,6 +131,7 @@ pub record IsLoop (s : Stmt) (e : Expr) (a : List Stmt) : Type 0 where
   pub flows : (rest : Rest) → flow_layer (out-Stmt s) rest ≡ flow_loop a rest
   pub sweeps : (c : Course) (rest : Rest) (d : Swept) → sweep_layer c (out-Stmt s) rest d ≡ sweep_loop c e a rest d
   pub suits : (program : Program) → Keeps typing_rules program → (proc : Proc) → IsProcIn program proc → (number : ℕ) → statement_at proc.body number ≡ Some s → Suits (body_scope program proc) e (Some Truth)
+  pub weighs : (plain : Plain) (proc : Proc) → layer_weight plain proc s (out-Stmt s) ≡ 1 + body_weight plain.program proc e
 
 -- it isn't
 pub record IsPlain (s : Stmt) : Type 0 where

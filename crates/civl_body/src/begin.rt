@@ -1,10 +1,15 @@
 // From the head of a loop, at terms.
-ghost use Rattle.std.specs.Prelude.{◌≡◌, true, false, ◌+◌, ◌∷◌, [], ◌++◌, ◌<◌, ◌^◌, None, Some, OnOk, IfOk};
+ghost use Rattle.std.specs.Prelude.{◌≡◌, true, false, ◌≤◌, ◌+◌, ◌*◌, ◌∷◌, [], ◌++◌, ◌<◌, ◌^◌, None, Some, OnOk, IfOk};
 ghost use Rattle.civl_tree.specs.Numbering.{numbered, sizes_of};
 ghost use Rattle.civl_paths.specs.Flows.{flow_from, flow_rest};
 ghost use Rattle.civl_sweeps.specs.Sweeps.{sweep_from, sweep_rest};
+ghost use Rattle.civl_tree.specs.rules.Rules.{Keeps};
+ghost use Rattle.civl_linear.specs.LinearRules.{linear_rules};
+ghost use Rattle.civl_conditions.specs.Weights.{body_weight};
 ghost use Rattle.civl_terms.specs.Building.{Grows};
+ghost use Rattle.civl_terms.specs.Weights.{graph_weight};
 ghost use Rattle.civl_body.specs.Rests.{rest_of};
+ghost use Rattle.civl_body.specs.Weights.{passed_weights};
 ghost use Rattle.civl_body.specs.Passing.{IsEntry, IsLoop, IsPlain, IsWithin, Passes, ReadyFrom, ReadyHead, ReadyLoop, by_loop, loop_passed};
 
 use crate::rests::{Numbered, push_among, push_numbered, push_one};
@@ -32,6 +37,7 @@ pub fn pass_loop(
     requires ready { ReadyLoop terms.old program.now layer proc.now chosen.now sweep.old condition.now (rest_of inside.now) (rest_of behind.now) }
     requires small { sizes_of proc.now.body < 2 ^ 32 }
     ensures passes { OnOk result (Passes terms.old terms.new program.now layer proc.now chosen.now sweep.old sweep.new (loop_passed (rest_of inside.now) (rest_of behind.now)) (λ c. by_loop c condition.now (rest_of inside.now) (rest_of behind.now))) }
+    ensures weighs { OnOk result (Keeps linear_rules program.now → graph_weight terms.new ≤ graph_weight terms.old + (body_weight program.now proc.now condition.now + 3) + 4 * passed_weights program.now layer proc.now (loop_passed (rest_of inside.now) (rest_of behind.now))) }
     ensures grows { Grows terms.old terms.new }
 {
     let fork = part(alloc, terms, program, proc, sweep, condition)?;
@@ -100,6 +106,7 @@ pub fn pass_head(
     requires ready { ReadyHead terms.old program.now layer proc.now chosen.now sweep.old (rest_of items.now) }
     requires small { sizes_of proc.now.body < 2 ^ 32 }
     ensures passes { OnOk result (Passes terms.old terms.new program.now layer proc.now chosen.now sweep.old sweep.new (flow_rest (rest_of items.now)).passed (λ c. sweep_rest c (rest_of items.now))) }
+    ensures weighs { OnOk result (Keeps linear_rules program.now → graph_weight terms.new ≤ graph_weight terms.old + 4 * passed_weights program.now layer proc.now (flow_rest (rest_of items.now)).passed) }
     ensures grows { Grows terms.old terms.new }
 {
     if items.len() == 0 {
@@ -153,7 +160,8 @@ fn is_entry(cut: Cut) -> bool
     }
 }
 
-/// What the paths do from a cut, at terms.
+/// What the paths do from a cut, at terms. Where no rule on linear locals is broken, the graph's weight rises by at most four times
+/// that of the statements that some path passes.
 ///
 /// # Errors
 ///
@@ -171,6 +179,7 @@ pub fn pass_from(
     requires ready { ReadyFrom terms.old program.now layer proc.now chosen.now sweep.old cut }
     requires small { sizes_of proc.now.body < 2 ^ 32 }
     ensures passes { OnOk result (Passes terms.old terms.new program.now layer proc.now chosen.now sweep.old sweep.new (flow_from proc.now cut).passed (λ c. sweep_from c cut)) }
+    ensures weighs { OnOk result (Keeps linear_rules program.now → graph_weight terms.new ≤ graph_weight terms.old + 4 * passed_weights program.now layer proc.now (flow_from proc.now cut).passed) }
     ensures grows { Grows terms.old terms.new }
 {
     let mut rest = Vec::new(alloc);

@@ -1,11 +1,18 @@
 // Calls at terms.
-ghost use Rattle.std.specs.Prelude.{◌≡◌, ◌<◌, ◌^◌, ℕ, List as ListOf, length, Some, IfOk, IfSome, OnOk};
+ghost use Rattle.std.specs.Prelude.{◌≡◌, ◌≤◌, ◌+◌, ◌*◌, ◌<◌, ◌^◌, ℕ, List as ListOf, length, Some, IfOk, IfSome, OnOk};
+ghost use Rattle.std.specs.Option.{option_map_or};
 ghost use Rattle.civl_bits.specs.declared.value.Value.{Value};
 ghost use Rattle.civl_tree.specs.declared.action.Action.{Action};
+ghost use Rattle.civl_tree.specs.declared.stmt.Stmt.TheOpen.{Call};
 ghost use Rattle.civl_tree.specs.rules.Names.{action_named};
+ghost use Rattle.civl_tree.specs.rules.Rules.{Keeps};
+ghost use Rattle.civl_linear.specs.LinearRules.{linear_rules};
+ghost use Rattle.civl_values.specs.ActionWeights.{action_weight};
 ghost use Rattle.civl_conditions.specs.Passed.{refined_at};
+ghost use Rattle.civl_conditions.specs.Weights.{body_weight, layer_written, weights_of};
 ghost use Rattle.civl_terms.specs.Building.{Grows};
 ghost use Rattle.civl_terms.specs.Graphs.{Fits};
+ghost use Rattle.civl_terms.specs.Weights.{graph_weight};
 ghost use Rattle.civl_actions.specs.Actions.{values_at};
 ghost use Rattle.civl_actions.specs.Scopes.{AreOf};
 ghost use Rattle.civl_meaning.specs.Layers.{program_at};
@@ -19,6 +26,7 @@ ghost use Rattle.civl_moves.specs.States.{CanSweep, Moves};
 ghost use Rattle.civl_states.specs.Beginnings.{chosen_at};
 ghost use Rattle.civl_states.specs.Stores.{choice_sorts};
 ghost use Rattle.civl_body.specs.Passing.{StandsCall, action_at, course_in};
+ghost use Rattle.civl_body.specs.Weights.{Leaves};
 
 use civl_firing::names::action as place_of_action;
 use civl_moves::{Sweep, body_terms, copied, halt, pass_action};
@@ -106,6 +114,8 @@ pub fn pass_call(
     requires can { CanSweep terms.old program.now proc.now sweep.old }
     requires choices { (a : Action) → action_meant (called (program_at program.now layer) callee.now) ≡ Some a → AreOf terms.old (chosen_at chosen.now number) (choice_sorts a) }
     ensures moves { OnOk result ((v : Env → ℕ → ListOf Value) → ((a : Action) → action_meant (called (program_at program.now layer) callee.now) ≡ Some a → (env : Env) → Fits env terms.old → values_at env terms.old (chosen_at chosen.now number) ≡ v env number) → Moves terms.old terms.new program.now proc.now sweep.old sweep.new (λ env. with_call (course_in program.now layer proc.now (v env)) callee.now args.now results.now number)) }
+    ensures leaves { OnOk result (Keeps linear_rules program.now → Leaves program.now proc.now (layer_written (program_at program.now layer) (Call callee.now args.now results.now)) sweep.old sweep.new) }
+    ensures weighs { OnOk result (graph_weight terms.new ≤ graph_weight terms.old + weights_of (body_weight program.now proc.now) args.now + option_map_or (action_weight program.now) (action_meant (called (program_at program.now layer) callee.now)) 0 + 4) }
     ensures grows { Grows terms.old terms.new }
 {
     match number_meant(program, layer, callee) {

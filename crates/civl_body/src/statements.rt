@@ -1,11 +1,15 @@
 // The statements of a body, one behind the other, at terms.
-ghost use Rattle.std.specs.Prelude.{◌≡◌, ◌+◌, ◌∷◌, ◌<◌, ◌^◌, OnOk};
+ghost use Rattle.std.specs.Prelude.{◌≡◌, ◌≤◌, ◌+◌, ◌∷◌, ◌<◌, ◌^◌, OnOk};
 ghost use Rattle.civl_tree.specs.Numbering.{inner_of, numbered, size_of, sizes_of, statements_of};
+ghost use Rattle.civl_tree.specs.rules.Rules.{Keeps};
+ghost use Rattle.civl_linear.specs.LinearRules.{linear_rules};
 ghost use Rattle.civl_terms.specs.Building.{Grows};
+ghost use Rattle.civl_terms.specs.Weights.{graph_weight};
 ghost use Rattle.civl_paths.specs.Flows.{flow, flow_all};
 ghost use Rattle.civl_sweeps.specs.Sweeps.{sweep as sweep_stmt, sweep_all, where_onward};
 ghost use Rattle.civl_body.specs.Rests.{rest_of};
 ghost use Rattle.civl_body.specs.Passing.{Passes, Ready, ReadyRest};
+ghost use Rattle.civl_body.specs.Weights.{Leaves, passed_weights, spent, written};
 
 use crate::calls::pass_call;
 use crate::rests::Numbered;
@@ -35,6 +39,8 @@ fn pass_all(
     requires ready { Ready terms.old program.now layer proc.now chosen.now sweep.old number (statements_of stmts.now) (flow_all (numbered number stmts.now)).passed }
     requires small { number + sizes_of stmts.now < 2 ^ 32 }
     ensures passes { OnOk result (Passes terms.old terms.new program.now layer proc.now chosen.now sweep.old sweep.new (flow_all (numbered number stmts.now)).passed (λ c. sweep_all c (numbered number stmts.now))) }
+    ensures leaves { OnOk result (Keeps linear_rules program.now → Leaves program.now proc.now (written program.now layer (statements_of stmts.now)) sweep.old sweep.new) }
+    ensures weighs { OnOk result (Keeps linear_rules program.now → graph_weight terms.new ≤ graph_weight terms.old + spent sweep.old.onward (passed_weights program.now layer proc.now (flow_all (numbered number stmts.now)).passed)) }
     ensures grows { Grows terms.old terms.new }
 {
     let mut here = number;
@@ -62,6 +68,7 @@ pub fn pass_rest(
     requires ready { ReadyRest terms.old program.now layer proc.now chosen.now sweep.old (rest_of items.now) }
     requires small { sizes_of proc.now.body < 2 ^ 32 }
     ensures passes { OnOk result (Passes terms.old terms.new program.now layer proc.now chosen.now sweep.old sweep.new (flow_all (rest_of items.now)).passed (λ c. sweep_all c (rest_of items.now))) }
+    ensures weighs { OnOk result (Keeps linear_rules program.now → graph_weight terms.new ≤ graph_weight terms.old + spent sweep.old.onward (passed_weights program.now layer proc.now (flow_all (rest_of items.now)).passed)) }
     ensures grows { Grows terms.old terms.new }
 {
     for item in items {
@@ -97,6 +104,8 @@ fn pass(
     requires ready { Ready terms.old program.now layer proc.now chosen.now sweep.old number (stmt.now ∷ inner_of stmt.now) (flow stmt.now stmt.now number).passed }
     requires small { number + size_of stmt.now < 2 ^ 32 }
     ensures passes { OnOk result (Passes terms.old terms.new program.now layer proc.now chosen.now sweep.old sweep.new (flow stmt.now stmt.now number).passed (λ c. where_onward (sweep_stmt c stmt.now number))) }
+    ensures leaves { OnOk result (Keeps linear_rules program.now → Leaves program.now proc.now (written program.now layer (stmt.now ∷ inner_of stmt.now)) sweep.old sweep.new) }
+    ensures weighs { OnOk result (Keeps linear_rules program.now → graph_weight terms.new ≤ graph_weight terms.old + spent sweep.old.onward (passed_weights program.now layer proc.now (flow stmt.now stmt.now number).passed)) }
     ensures grows { Grows terms.old terms.new }
 {
     if !sweep.onward {

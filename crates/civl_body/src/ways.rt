@@ -1,8 +1,10 @@
 // The paths from a cut as terms: a sweep over all of them, and the ways to their ends.
-ghost use Rattle.std.specs.Prelude.{◌≡◌, ◌≤◌, ◌+◌, ◌-◌, ◌∷◌, [], ◌++◌, ◌<◌, ◌^◌, true, length, map, All, Some, IsSome, IfOk, OnOk};
+ghost use Rattle.std.specs.Prelude.{◌≡◌, ◌≤◌, ◌+◌, ◌-◌, ◌*◌, ◌∷◌, [], ◌++◌, ◌<◌, ◌^◌, true, length, map, All, Some, IsSome, IfOk, OnOk};
 ghost use Rattle.std.specs.List.{Contains};
 ghost use Rattle.civl_tree.specs.Numbering.{sizes_of};
 ghost use Rattle.civl_tree.specs.declared.expr.Sort.TheVariants.{Bool as Truth};
+ghost use Rattle.civl_tree.specs.rules.Rules.{Keeps};
+ghost use Rattle.civl_linear.specs.LinearRules.{linear_rules};
 ghost use Rattle.civl_terms.specs.Building.{Grows};
 ghost use Rattle.civl_terms.specs.Graphs.{sort_at};
 ghost use Rattle.civl_terms.specs.Weights.{graph_weight};
@@ -12,6 +14,7 @@ ghost use Rattle.civl_paths.specs.Ends.{ends_from};
 ghost use Rattle.civl_sweeps.specs.Flowing.{is_statement};
 ghost use Rattle.civl_conditions.specs.Parts.{outcome_of};
 ghost use Rattle.civl_conditions.specs.Values.{Begun};
+ghost use Rattle.civl_conditions.specs.Weights.{passed_weight};
 ghost use Rattle.civl_formulas.specs.Said.{Env, IsTest};
 ghost use Rattle.civl_moves.specs.Expressions.{IsProcIn};
 ghost use Rattle.civl_states.specs.Beginnings.{AreBegun, CanBegin};
@@ -144,7 +147,8 @@ fn layer_below(step: u32) -> u32
 
 /// What the paths from a cut of a procedure that refines an action come to in the program below a step, at these terms for their
 /// beginning: whether they are safe, whether no second commit is passed, and the ways to their ends, one for each in rising order.
-/// `cuts` are the cuts of the procedure.
+/// `cuts` are the cuts of the procedure. Where the program keeps the rules E40 to E43, the graph's weight rises by at most four times
+/// that of the statements that some path passes.
 ///
 /// # Errors
 ///
@@ -172,6 +176,7 @@ pub fn walk(
     ensures ways { IfOk result (λ walk. All (CanTake terms.new program.now proc.now) walk.ways) }
     ensures ends { IfOk result (λ walk. map (λ w. w.end) walk.ways ≡ ends_from proc.now cut) }
     ensures grows { Grows terms.old terms.new }
+    ensures weighs { OnOk result (Keeps linear_rules program.now → graph_weight terms.new ≤ graph_weight terms.old + 4 * passed_weight program.now step proc.now cut) }
 {
     let mut sweep = begins(alloc, terms, beginning)?;
     let _began = terms.len();

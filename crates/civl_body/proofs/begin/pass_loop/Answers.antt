@@ -3,6 +3,9 @@ use Rattle.civl_terms.proofs.Growing.{grows_trans}
 use Rattle.civl_moves.specs.Branches.{with_front}
 use Rattle.civl_body.specs.Rests.{rest_of}
 use Rattle.civl_body.proofs.Looping.{inside_ready, behind_ready, loop_passes}
+use Rattle.civl_terms.specs.Weights.{graph_weight}
+use Rattle.civl_conditions.specs.Weights.{body_weight}
+use Rattle.civl_body.proofs.Weighing.{loop_weighs}
 use Rattle.civl_body.proofs.begin.pass_loop.Goals as goal
 
 pub pass_rest-requires-clause-ready : goal.pass_rest-requires-clause-ready
@@ -31,3 +34,8 @@ returns-clause-passes c =
 
 pub returns-clause-grows : goal.returns-clause-grows
 returns-clause-grows c = grows_trans _ _ _ c.in_ok-fork.ensures.grows (grows_trans _ _ _ c.in_ok-pass_rest.ensures.grows c.in_ok-pass_rest-2.ensures.grows)
+
+pub returns-clause-weighs : goal.returns-clause-weighs
+returns-clause-weighs c = λ linear.
+    loop_weighs c.args.program.now c.args.layer c.args.proc.now (rest_of c.args.inside.now) (rest_of c.args.behind.now) (body_weight c.args.program.now c.args.proc.now c.args.condition.now) c.args.sweep.now.onward c.swap-ended.new.sweep.onward
+    (graph_weight c.args.terms.now) (graph_weight c.part.new.terms) (graph_weight c.pass_rest.new.terms) (graph_weight c.pass_rest-2.new.terms) c.in_ok-fork.ensures.weighs (c.in_ok-pass_rest.ensures.weighs linear) (c.in_ok-pass_rest-2.ensures.weighs linear)

@@ -1,10 +1,16 @@
-use Rattle.std.proofs.Common.{◌∙◌, List, ℕ, sym, subst}
+use Rattle.std.specs.Option.{option_map_or}
+use Rattle.std.proofs.Common.{◌∙◌, List, ℕ, Option, ap, sym, subst, arith}
+use Rattle.civl_tree.specs.declared.action.Action.{Action}
+use Rattle.civl_tree.specs.rules.Names.{names_in_proc}
+use Rattle.civl_values.specs.ActionWeights.{action_weight}
+use Rattle.civl_conditions.specs.Weights.{body_weight, weights_of}
+use Rattle.civl_moves.specs.declared.sweep.Sweep.{Sweep}
 use Rattle.std.specs.Prelude.{All, map}
 use Rattle.civl_tree.specs.declared.expr.Expr.{Expr}
 use Rattle.civl_tree.specs.declared.name.Name.{Name}
 use Rattle.civl_tree.specs.rules.Scopes.{body_scope}
 use Rattle.civl_terms.proofs.Growing.{grows_trans}
-use Rattle.civl_actions.specs.Actions.{values_at}
+use Rattle.civl_actions.specs.Actions.{LeavesOthers, values_at}
 use Rattle.civl_actions.specs.Scopes.{AreOf, IsTyped}
 use Rattle.civl_actions.proofs.Staying.{are_stay}
 use Rattle.civl_sweeps.specs.Sweeps.{with_action}
@@ -13,6 +19,8 @@ use Rattle.civl_moves.specs.States.{Moves, body_of}
 use Rattle.civl_moves.proofs.Calling.{if_each, of_some}
 use Rattle.civl_moves.proofs.States.{can_stays}
 use Rattle.civl_body.proofs.Calling.{few_actions, halt_calls, typed_args, inputs_are, results_are, action_calls, some_at, terms_of}
+use Rattle.civl_body.proofs.Keeping.{leaves_same}
+use Rattle.civl_body.proofs.Writing.{action_leaves}
 use Rattle.civl_body.proofs.calls.pass_call.Goals as goal
 
 pub number_meant-requires : goal.number_meant-requires
@@ -80,3 +88,32 @@ pub returns-in_ok-halt-in-None-clause-moves : goal.returns-in_ok-halt-in-None-cl
 returns-in_ok-halt-in-None-clause-moves c = λ v says.
     halt_calls c.args.terms.now c.halt.new.terms c.args.program.now c.args.layer c.args.proc.now c.args.sweep.now c.halt.new.sweep v c.args.callee.now c.args.args.now c.args.results.now c.args.number (sym c.in-None.ensures.is)
     (c.in_ok-halt-in-None.ensures.moves _ _ c.requires.can)
+
+pub returns-in_ok-pass_action-in-Some-clause-leaves : goal.returns-in_ok-pass_action-in-Some-clause-leaves
+returns-in_ok-pass_action-in-Some-clause-leaves c = λ linear.
+    let p = c.args.program.now in
+    let q = c.args.proc.now in
+    let found = some_at p.actions c.in-Some.action c.in-Some.ensures.within in
+    let e = c.in_ok-pass_action-in-Some.ensures in
+    action_leaves p c.args.layer q linear c.requires.layered c.requires.proc c.args.number c.args.callee.now c.args.args.now c.args.results.now c.requires.stands found.0 (sym c.in-Some.ensures.is ∙ found.1) c.args.sweep.now c.pass_action.new.sweep (of_some _ _ found.0 found.1 e.globals)
+    (subst (λ (rs : List Name). LeavesOthers (names_in_proc q) rs c.args.sweep.now.locals c.pass_action.new.sweep.locals) c.as_slice-in-Some-2.ensures e.locals)
+
+pub returns-in_ok-pass_action-in-Some-clause-weighs : goal.returns-in_ok-pass_action-in-Some-clause-weighs
+returns-in_ok-pass_action-in-Some-clause-weighs c =
+    let p = c.args.program.now in
+    let q = c.args.proc.now in
+    let found = some_at p.actions c.in-Some.action c.in-Some.ensures.within in
+    let meant = sym c.in-Some.ensures.is ∙ found.1 in
+    let own = ap (λ (o : Option Action). option_map_or (action_weight p) o 0) meant in
+    let args = ap (weights_of (body_weight p q)) c.as_slice-in-Some.ensures in
+    let inputs = c.in_ok-inputs-in-Some.ensures.weighs in
+    let action = of_some _ _ found.0 found.1 c.in_ok-pass_action-in-Some.ensures.weighs in
+    omega (arith, own, args, inputs, action)
+
+pub returns-in_ok-halt-in-None-clause-leaves : goal.returns-in_ok-halt-in-None-clause-leaves
+returns-in_ok-halt-in-None-clause-leaves c = λ linear.
+    let rest = c.in_ok-halt-in-None.ensures.rest in
+    leaves_same c.args.program.now c.args.proc.now _ c.args.sweep.now c.halt.new.sweep (ap (λ (y : Sweep). y.globals) rest) (ap (λ (y : Sweep). y.locals) rest)
+
+pub returns-in_ok-halt-in-None-clause-weighs : goal.returns-in_ok-halt-in-None-clause-weighs
+returns-in_ok-halt-in-None-clause-weighs c = omega (arith, c.in_ok-halt-in-None.ensures.weighs)

@@ -8,9 +8,24 @@ use Rattle.civl_terms.proofs.Growing.{grows_trans, grows_same}
 use Rattle.civl_paths.proofs.Walked.{sizes_behind}
 use Rattle.civl_body.proofs.Typed.{assign_suits, assert_suits, if_suits, intro_suits}
 use Rattle.civl_body.proofs.Forms.{is_assign, is_assert, is_if, is_while, is_yield_loop, is_rank_loop, is_call, is_yield, is_commit, is_intro, is_spawn, if_size, call_passed, item_size}
-use Rattle.civl_body.proofs.Passing.{passed_by, under_begins, under_first, under_step, under_ends}
+use Rattle.civl_body.proofs.Passing.{passed_by, goes_on, under_begins, under_first, under_step, under_ends}
 use Rattle.civl_moves.specs.Branches.{with_front}
 use Rattle.civl_body.proofs.Joining.{first_ready, second_ready, can4, can_end, can_test, global_alike, local_alike, if_passes}
+use Rattle.std.specs.Option.{option_map_or}
+use Rattle.civl_tree.specs.Numbering.{numbered}
+use Rattle.civl_meaning.specs.Meaning.{called}
+use Rattle.civl_values.specs.ActionWeights.{action_weight}
+use Rattle.civl_terms.specs.Weights.{graph_weight}
+use Rattle.civl_actions.proofs.Listing.{item_at}
+use Rattle.civl_paths.specs.Flows.{flow_all}
+use Rattle.civl_paths.specs.Choices.{action_meant}
+use Rattle.civl_conditions.specs.Weights.{body_weight, note_weight, weights_of}
+use Rattle.civl_moves.specs.declared.sweep.Sweep.{Sweep}
+use Rattle.civl_moves.specs.Branches.{differing}
+use Rattle.civl_body.specs.Weights.{passed_weights, spent}
+use Rattle.civl_body.proofs.Keeping.{leaves_same, leaves_then, leaves_more, item_written}
+use Rattle.civl_body.proofs.Writing.{assign_leaves, intro_leaves, call_leaves, if_leaves, globals_differ, locals_differ}
+use Rattle.civl_body.proofs.Weighing.{item_spent, one_weighs, if_weighs}
 use Rattle.civl_body.proofs.statements.+pass.Goals as goal
 
 pub pass-pass_assign-requires-clause-suits : goal.pass-pass_assign-requires-clause-suits
@@ -83,6 +98,10 @@ pass_all-loop-stmt-init t c = record {
   behind = omega arith;
   under = subst (λ ss. Under c.args.terms.now c.args.terms.now c.args.program.now c.args.layer c.args.proc.now c.args.chosen.now c.args.sweep.now c.args.sweep.now c.args.number c.args.number c.args.stmts.now ss) (sym c.as_slice-stmt-items.ensures)
       (under_begins c.args.program.now c.args.layer c.args.proc.now c.args.chosen.now c.args.terms.now c.args.sweep.now c.args.number c.args.stmts.now (grows_same c.args.terms.now) c.requires.ready);
+  leaves = λ linear. leaves_same c.args.program.now c.args.proc.now _ c.args.sweep.now c.args.sweep.now refl refl;
+  weighs = λ linear.
+      let same = ap (λ ss. spent c.args.sweep.now.onward (passed_weights c.args.program.now c.args.layer c.args.proc.now (flow_all (numbered c.args.number ss)).passed)) c.as_slice-stmt-items.ensures in
+      omega (arith, same);
 }
 
 pub pass_all-pass-requires : goal.pass_all-pass-requires
@@ -107,6 +126,13 @@ pass_all-loop-stmt-preserved t c =
       under =
           under_step c.args.program.now c.args.layer c.args.proc.now c.args.chosen.now c.args.terms.now l.terms c.pass.new.terms c.args.sweep.now l.sweep c.pass.new.sweep c.args.number l.here _ c.args.stmts.now items l.stmt-index s c.loop-stmt-test.true c.stmt-item.is l.invariant.under
           c.in_ok-pass.ensures.grows (grows_trans _ _ _ l.invariant.under.grows c.in_ok-pass.ensures.grows) c.len-count.ensures.graph c.in_ok-pass.ensures.passes (ap (λ (n : ℕ). l.here + n) c.size-here.ensures);
+      leaves = λ linear.
+          let there = item_at c.args.stmts.now items l.stmt-index s c.as_slice-stmt-items.ensures c.loop-stmt-test.true c.stmt-item.is in
+          leaves_then c.args.program.now c.args.proc.now _ c.args.sweep.now l.sweep c.pass.new.sweep (l.invariant.leaves linear)
+          (leaves_more c.args.program.now c.args.proc.now _ _ l.sweep c.pass.new.sweep (λ n h. item_written c.args.program.now c.args.layer c.args.stmts.now l.stmt-index s n there h) (c.in_ok-pass.ensures.leaves linear));
+      weighs = λ linear.
+          item_spent c.args.program.now c.args.layer c.args.proc.now items l.stmt-index s l.here _ l.sweep.onward c.pass.new.sweep.onward _ (graph_weight l.terms) (graph_weight c.pass.new.terms) c.loop-stmt-test.true c.stmt-item.is (ap (λ (n : ℕ). l.here + n) c.size-here.ensures)
+          (λ o. goes_on c.args.program.now c.args.layer c.args.proc.now c.args.chosen.now l.terms c.pass.new.terms l.sweep c.pass.new.sweep s l.here c.len-count.ensures.graph c.in_ok-pass.ensures.passes o) (l.invariant.weighs linear) (c.in_ok-pass.ensures.weighs linear);
     }
 
 pub pass_all-returns-clause-passes : goal.pass_all-returns-clause-passes
@@ -277,3 +303,141 @@ pass-returns-in_ok-join-in-If-clause-passes t c =
     let f = c.in_ok-fork-in-If in
     if_passes p c.args.layer q c.args.chosen.now n x i.condition i.first i.second o c.args.terms.now c.part.new.terms c.args.sweep.now f.fork r c.if-not-sweep.false f.ensures.grows f.ensures.test f.ensures.first f.ensures.second c.pass_all.new.terms c.pass_all.new.sweep c.in_ok-pass_all-in-If.ensures.grows c.in_ok-pass_all-in-If.ensures.passes c.swap-ended.new.sweep (c.swap-ended.ensures.is ∙ ap (λ y. with_front y c.pass_all.new.sweep) c.in_ok-before-in-If.ensures) _ (ap (λ (m : ℕ). n + 1 + m) c.sizes.ensures) c.swap-ended.result c.swap-ended.ensures.was c.pass_all-in-If.new.terms c.pass_all-in-If.new.sweep c.in_ok-pass_all-in-If-2.ensures.grows c.in_ok-pass_all-in-If-2.ensures.passes c.join.new.terms c.join.new.sweep c.in_ok-join-in-If.ensures.grows
     (c.in_ok-join-in-If.ensures.moves p q (can4 p c.args.layer q c.args.chosen.now n x i.condition i.first i.second o c.args.terms.now c.part.new.terms c.args.sweep.now f.fork r c.if-not-sweep.false f.ensures.grows f.ensures.test f.ensures.first f.ensures.second c.pass_all.new.terms c.pass_all.new.sweep c.in_ok-pass_all-in-If.ensures.grows c.in_ok-pass_all-in-If.ensures.passes c.swap-ended.new.sweep (c.swap-ended.ensures.is ∙ ap (λ y. with_front y c.pass_all.new.sweep) c.in_ok-before-in-If.ensures) _ (ap (λ (m : ℕ). n + 1 + m) c.sizes.ensures) c.swap-ended.result c.swap-ended.ensures.was c.pass_all-in-If.new.terms c.pass_all-in-If.new.sweep c.in_ok-pass_all-in-If-2.ensures.grows c.in_ok-pass_all-in-If-2.ensures.passes) (can_end p c.args.layer q c.args.chosen.now n x i.condition i.first i.second o c.args.terms.now c.part.new.terms c.args.sweep.now f.fork r c.if-not-sweep.false f.ensures.grows f.ensures.test f.ensures.first f.ensures.second c.pass_all.new.terms c.pass_all.new.sweep c.in_ok-pass_all-in-If.ensures.grows c.in_ok-pass_all-in-If.ensures.passes c.swap-ended.new.sweep (c.swap-ended.ensures.is ∙ ap (λ y. with_front y c.pass_all.new.sweep) c.in_ok-before-in-If.ensures) _ (ap (λ (m : ℕ). n + 1 + m) c.sizes.ensures) c.swap-ended.result c.swap-ended.ensures.was c.pass_all-in-If.new.terms c.pass_all-in-If.new.sweep c.in_ok-pass_all-in-If-2.ensures.grows c.in_ok-pass_all-in-If-2.ensures.passes))
+
+pub pass-returns-in_ok-pass_assign-in-Assign-clause-leaves : goal.pass-returns-in_ok-pass_assign-in-Assign-clause-leaves
+pass-returns-in_ok-pass_assign-in-Assign-clause-leaves t c = λ linear.
+    let r = c.requires.ready in
+    let x = c.args.stmt.now in
+    let e = c.in_ok-pass_assign-in-Assign.ensures in
+    assign_leaves c.args.program.now c.args.layer c.args.proc.now linear r.there c.args.number x c.in-Assign.target c.in-Assign.expr (r.stands 0 c.args.number x (omega arith) refl) (is_assign x _ _ c.in-Assign.is) c.args.sweep.now c.pass_assign.new.sweep e.others (ap (λ (y : Sweep). y.globals) e.rest)
+
+pub pass-returns-in_ok-pass_assign-in-Assign-clause-weighs : goal.pass-returns-in_ok-pass_assign-in-Assign-clause-weighs
+pass-returns-in_ok-pass_assign-in-Assign-clause-weighs t c = λ linear.
+    let x = c.args.stmt.now in
+    one_weighs c.args.program.now c.args.layer c.args.proc.now c.args.number x c.args.sweep.now.onward c.if-not-sweep.false _ (is_assign x _ _ c.in-Assign.is) refl (graph_weight c.args.terms.now) (graph_weight c.pass_assign.new.terms) (body_weight c.args.program.now c.args.proc.now c.in-Assign.expr) (omega (arith, c.in_ok-pass_assign-in-Assign.ensures.weighs)) (omega arith)
+
+pub pass-returns-in_ok-pass_assert-in-Assert-clause-leaves : goal.pass-returns-in_ok-pass_assert-in-Assert-clause-leaves
+pass-returns-in_ok-pass_assert-in-Assert-clause-leaves t c = λ linear.
+    let rest = c.in_ok-pass_assert-in-Assert.ensures.rest in
+    leaves_same c.args.program.now c.args.proc.now _ c.args.sweep.now c.pass_assert.new.sweep (ap (λ (y : Sweep). y.globals) rest) (ap (λ (y : Sweep). y.locals) rest)
+
+pub pass-returns-in_ok-pass_assert-in-Assert-clause-weighs : goal.pass-returns-in_ok-pass_assert-in-Assert-clause-weighs
+pass-returns-in_ok-pass_assert-in-Assert-clause-weighs t c = λ linear.
+    let x = c.args.stmt.now in
+    one_weighs c.args.program.now c.args.layer c.args.proc.now c.args.number x c.args.sweep.now.onward c.if-not-sweep.false _ (is_assert x _ c.in-Assert.is) refl (graph_weight c.args.terms.now) (graph_weight c.pass_assert.new.terms) (body_weight c.args.program.now c.args.proc.now c.in-Assert.fact + 3) (omega (arith, c.in_ok-pass_assert-in-Assert.ensures.weighs)) (omega arith)
+
+pub pass-returns-in_ok-pass_call-in-Call-clause-leaves : goal.pass-returns-in_ok-pass_call-in-Call-clause-leaves
+pass-returns-in_ok-pass_call-in-Call-clause-leaves t c = λ linear.
+    let x = c.args.stmt.now in
+    call_leaves c.args.program.now c.args.layer c.args.proc.now x _ (is_call x _ _ _ c.in-Call.is) c.args.sweep.now c.pass_call.new.sweep (c.in_ok-pass_call-in-Call.ensures.leaves linear)
+
+pub pass-returns-in_ok-pass_call-in-Call-clause-weighs : goal.pass-returns-in_ok-pass_call-in-Call-clause-weighs
+pass-returns-in_ok-pass_call-in-Call-clause-weighs t c = λ linear.
+    let x = c.args.stmt.now in
+    one_weighs c.args.program.now c.args.layer c.args.proc.now c.args.number x c.args.sweep.now.onward c.if-not-sweep.false _ (is_call x _ _ _ c.in-Call.is) refl (graph_weight c.args.terms.now) (graph_weight c.pass_call.new.terms) (weights_of (body_weight c.args.program.now c.args.proc.now) c.in-Call.args + option_map_or (action_weight c.args.program.now) (action_meant (called (program_at c.args.program.now c.args.layer) c.in-Call.callee)) 0 + 4) (omega (arith, c.in_ok-pass_call-in-Call.ensures.weighs)) (omega arith)
+
+pub pass-returns-in_ok-pass_commit-in-Commit-clause-leaves : goal.pass-returns-in_ok-pass_commit-in-Commit-clause-leaves
+pass-returns-in_ok-pass_commit-in-Commit-clause-leaves t c = λ linear.
+    let rest = c.in_ok-pass_commit-in-Commit.ensures.rest in
+    leaves_same c.args.program.now c.args.proc.now _ c.args.sweep.now c.pass_commit.new.sweep (ap (λ (y : Sweep). y.globals) rest) (ap (λ (y : Sweep). y.locals) rest)
+
+pub pass-returns-in_ok-pass_commit-in-Commit-clause-weighs : goal.pass-returns-in_ok-pass_commit-in-Commit-clause-weighs
+pass-returns-in_ok-pass_commit-in-Commit-clause-weighs t c = λ linear.
+    let x = c.args.stmt.now in
+    one_weighs c.args.program.now c.args.layer c.args.proc.now c.args.number x c.args.sweep.now.onward c.if-not-sweep.false _ (is_commit x c.in-Commit.is) refl (graph_weight c.args.terms.now) (graph_weight c.pass_commit.new.terms) (3) (omega (arith, c.in_ok-pass_commit-in-Commit.ensures.weighs)) (omega arith)
+
+pub pass-returns-in_ok-pass_intro-in-Intro-clause-leaves : goal.pass-returns-in_ok-pass_intro-in-Intro-clause-leaves
+pass-returns-in_ok-pass_intro-in-Intro-clause-leaves t c = λ linear.
+    let x = c.args.stmt.now in
+    let e = c.in_ok-pass_intro-in-Intro.ensures in
+    intro_leaves c.args.program.now c.args.layer c.args.proc.now x c.in-Intro.target c.in-Intro.expr (is_intro x _ _ c.in-Intro.is) c.args.sweep.now c.pass_intro.new.sweep e.others (ap (λ (y : Sweep). y.locals) e.rest)
+
+pub pass-returns-in_ok-pass_intro-in-Intro-clause-weighs : goal.pass-returns-in_ok-pass_intro-in-Intro-clause-weighs
+pass-returns-in_ok-pass_intro-in-Intro-clause-weighs t c = λ linear.
+    let x = c.args.stmt.now in
+    one_weighs c.args.program.now c.args.layer c.args.proc.now c.args.number x c.args.sweep.now.onward c.if-not-sweep.false _ (is_intro x _ _ c.in-Intro.is) refl (graph_weight c.args.terms.now) (graph_weight c.pass_intro.new.terms) (note_weight c.args.program.now c.args.proc.now c.in-Intro.expr) (omega (arith, c.in_ok-pass_intro-in-Intro.ensures.weighs)) (omega arith)
+
+pub pass-returns-in_ok-pass_cut-in-Yield-clause-leaves : goal.pass-returns-in_ok-pass_cut-in-Yield-clause-leaves
+pass-returns-in_ok-pass_cut-in-Yield-clause-leaves t c = λ linear.
+    let rest = c.in_ok-pass_cut-in-Yield.ensures.rest in
+    leaves_same c.args.program.now c.args.proc.now _ c.args.sweep.now c.pass_cut.new.sweep (ap (λ (y : Sweep). y.globals) rest) (ap (λ (y : Sweep). y.locals) rest)
+
+pub pass-returns-in_ok-pass_cut-in-Yield-clause-weighs : goal.pass-returns-in_ok-pass_cut-in-Yield-clause-weighs
+pass-returns-in_ok-pass_cut-in-Yield-clause-weighs t c = λ linear.
+    omega (arith, c.in_ok-pass_cut-in-Yield.ensures.weighs)
+
+pub pass-returns-in_ok-pass_cut-in-YieldLoop-clause-leaves : goal.pass-returns-in_ok-pass_cut-in-YieldLoop-clause-leaves
+pass-returns-in_ok-pass_cut-in-YieldLoop-clause-leaves t c = λ linear.
+    let rest = c.in_ok-pass_cut-in-YieldLoop.ensures.rest in
+    leaves_same c.args.program.now c.args.proc.now _ c.args.sweep.now c.pass_cut-in-YieldLoop.new.sweep (ap (λ (y : Sweep). y.globals) rest) (ap (λ (y : Sweep). y.locals) rest)
+
+pub pass-returns-in_ok-pass_cut-in-YieldLoop-clause-weighs : goal.pass-returns-in_ok-pass_cut-in-YieldLoop-clause-weighs
+pass-returns-in_ok-pass_cut-in-YieldLoop-clause-weighs t c = λ linear.
+    omega (arith, c.in_ok-pass_cut-in-YieldLoop.ensures.weighs)
+
+pub pass-returns-in_ok-pass_cut-in-RankLoop-clause-leaves : goal.pass-returns-in_ok-pass_cut-in-RankLoop-clause-leaves
+pass-returns-in_ok-pass_cut-in-RankLoop-clause-leaves t c = λ linear.
+    let rest = c.in_ok-pass_cut-in-RankLoop.ensures.rest in
+    leaves_same c.args.program.now c.args.proc.now _ c.args.sweep.now c.pass_cut-in-RankLoop.new.sweep (ap (λ (y : Sweep). y.globals) rest) (ap (λ (y : Sweep). y.locals) rest)
+
+pub pass-returns-in_ok-pass_cut-in-RankLoop-clause-weighs : goal.pass-returns-in_ok-pass_cut-in-RankLoop-clause-weighs
+pass-returns-in_ok-pass_cut-in-RankLoop-clause-weighs t c = λ linear.
+    omega (arith, c.in_ok-pass_cut-in-RankLoop.ensures.weighs)
+
+pub pass-returns-in_ok-stop-in-While-clause-leaves : goal.pass-returns-in_ok-stop-in-While-clause-leaves
+pass-returns-in_ok-stop-in-While-clause-leaves t c = λ linear.
+    let rest = c.in_ok-stop-in-While.ensures.rest in
+    leaves_same c.args.program.now c.args.proc.now _ c.args.sweep.now c.stop.new.sweep (ap (λ (y : Sweep). y.globals) rest) (ap (λ (y : Sweep). y.locals) rest)
+
+pub pass-returns-in_ok-stop-in-While-clause-weighs : goal.pass-returns-in_ok-stop-in-While-clause-weighs
+pass-returns-in_ok-stop-in-While-clause-weighs t c = λ linear.
+    omega (arith, c.in_ok-stop-in-While.ensures.weighs)
+
+pub pass-returns-in_ok-stop-in-Spawn-clause-leaves : goal.pass-returns-in_ok-stop-in-Spawn-clause-leaves
+pass-returns-in_ok-stop-in-Spawn-clause-leaves t c = λ linear.
+    let rest = c.in_ok-stop-in-Spawn.ensures.rest in
+    leaves_same c.args.program.now c.args.proc.now _ c.args.sweep.now c.stop-in-Spawn.new.sweep (ap (λ (y : Sweep). y.globals) rest) (ap (λ (y : Sweep). y.locals) rest)
+
+pub pass-returns-in_ok-stop-in-Spawn-clause-weighs : goal.pass-returns-in_ok-stop-in-Spawn-clause-weighs
+pass-returns-in_ok-stop-in-Spawn-clause-weighs t c = λ linear.
+    omega (arith, c.in_ok-stop-in-Spawn.ensures.weighs)
+
+pub pass-returns-in_ok-join-in-If-clause-leaves : goal.pass-returns-in_ok-join-in-If-clause-leaves
+pass-returns-in_ok-join-in-If-clause-leaves t c = λ linear.
+    let r = c.requires.ready in
+    let p = c.args.program.now in
+    let q = c.args.proc.now in
+    let n = c.args.number in
+    let x = c.args.stmt.now in
+    let s = c.args.sweep.now in
+    let i = c.in-If in
+    let o = is_if x _ _ _ i.is in
+    let f = c.in_ok-fork-in-If in
+    let swapped = c.swap-ended.ensures.is ∙ ap (λ y. with_front y c.pass_all.new.sweep) c.in_ok-before-in-If.ensures in
+    let e = c.in_ok-join-in-If.ensures in
+    if_leaves c.args.program.now c.args.layer q x i.condition i.first i.second o c.args.terms.now s c.requires.ready.can f.fork.first f.fork.second c.pass_all.new.sweep c.swap-ended.new.sweep c.pass_all-in-If.new.sweep (c.in_ok-pass_all-in-If.ensures.leaves linear) swapped (c.in_ok-pass_all-in-If-2.ensures.leaves linear) c.swap-ended.result c.swap-ended.ensures.was c.join.new.sweep e.same_globals e.same_locals
+
+pub pass-returns-in_ok-join-in-If-clause-weighs : goal.pass-returns-in_ok-join-in-If-clause-weighs
+pass-returns-in_ok-join-in-If-clause-weighs t c = λ linear.
+    let r = c.requires.ready in
+    let p = c.args.program.now in
+    let q = c.args.proc.now in
+    let n = c.args.number in
+    let x = c.args.stmt.now in
+    let s = c.args.sweep.now in
+    let i = c.in-If in
+    let o = is_if x _ _ _ i.is in
+    let f = c.in_ok-fork-in-If in
+    let swapped = c.swap-ended.ensures.is ∙ ap (λ y. with_front y c.pass_all.new.sweep) c.in_ok-before-in-If.ensures in
+    let ends = can_end p c.args.layer q c.args.chosen.now n x i.condition i.first i.second o c.args.terms.now c.part.new.terms c.args.sweep.now f.fork r c.if-not-sweep.false f.ensures.grows f.ensures.test f.ensures.first f.ensures.second c.pass_all.new.terms c.pass_all.new.sweep c.in_ok-pass_all-in-If.ensures.grows c.in_ok-pass_all-in-If.ensures.passes c.swap-ended.new.sweep (c.swap-ended.ensures.is ∙ ap (λ y. with_front y c.pass_all.new.sweep) c.in_ok-before-in-If.ensures) _ (ap (λ (m : ℕ). n + 1 + m) c.sizes.ensures) c.swap-ended.result c.swap-ended.ensures.was c.pass_all-in-If.new.terms c.pass_all-in-If.new.sweep c.in_ok-pass_all-in-If-2.ensures.grows c.in_ok-pass_all-in-If-2.ensures.passes in
+    let w = c.pass_all-in-If.new.terms in
+    if_weighs p c.args.layer q n x i.condition i.first i.second o s.onward s.onward c.swap-ended.new.sweep.onward c.if-not-sweep.false (n + 1 + c.sizes.result) (ap (λ (m : ℕ). n + 1 + m) c.sizes.ensures)
+    (graph_weight c.args.terms.now) (graph_weight c.part.new.terms) (graph_weight c.pass_all.new.terms) (graph_weight w) (graph_weight c.join.new.terms) (differing w c.swap-ended.result.globals c.pass_all-in-If.new.sweep.globals) (differing w c.swap-ended.result.locals c.pass_all-in-If.new.sweep.locals)
+    f.ensures.weighs (c.in_ok-pass_all-in-If.ensures.weighs linear) (c.in_ok-pass_all-in-If-2.ensures.weighs linear) c.in_ok-join-in-If.ensures.weighs
+    (globals_differ c.args.program.now c.args.layer q x i.condition i.first i.second o c.args.terms.now s c.requires.ready.can f.fork.first f.fork.second c.pass_all.new.sweep c.swap-ended.new.sweep c.pass_all-in-If.new.sweep (c.in_ok-pass_all-in-If.ensures.leaves linear) swapped (c.in_ok-pass_all-in-If-2.ensures.leaves linear) c.swap-ended.result c.swap-ended.ensures.was w ends.globals) (locals_differ c.args.program.now c.args.layer q x i.condition i.first i.second o c.args.terms.now s c.requires.ready.can f.fork.first f.fork.second c.pass_all.new.sweep c.swap-ended.new.sweep c.pass_all-in-If.new.sweep (c.in_ok-pass_all-in-If.ensures.leaves linear) swapped (c.in_ok-pass_all-in-If-2.ensures.leaves linear) c.swap-ended.result c.swap-ended.ensures.was w ends.locals)
+
+pub pass_all-returns-clause-leaves : goal.pass_all-returns-clause-leaves
+pass_all-returns-clause-leaves t c = λ linear. c.loop-stmt.invariant.leaves linear
+
+pub pass_all-returns-clause-weighs : goal.pass_all-returns-clause-weighs
+pass_all-returns-clause-weighs t c = λ linear. omega (arith, c.loop-stmt.invariant.weighs linear)

@@ -1,5 +1,5 @@
 use Rattle.std.specs.Prelude.{All, IsSome, map}
-use Rattle.std.proofs.Common.{◌≡◌, ◌∙◌, ◌<◌, ◌^◌, List, Option, Some, None, length, refl, sym, ap, subst}
+use Rattle.std.proofs.Common.{◌≡◌, ◌∙◌, ◌<◌, ◌^◌, List, Option, Some, None, length, refl, sym, ap, subst, ℕ, ◌+◌, ◌*◌, ◌≤◌, arith}
 use Rattle.std.proofs.lemmas.Bool.{false≢true}
 use Rattle.civl_tree.specs.declared.program.Refines.{Refines}
 use Rattle.civl_terms.proofs.Growing.{grows_trans}
@@ -11,6 +11,9 @@ use Rattle.civl_body.specs.Ways.{ways_from}
 use Rattle.civl_body.proofs.Few.{few_cuts}
 use Rattle.civl_body.proofs.Drawn.{ends_are, ways_can, is_walk}
 use Rattle.civl_body.proofs.Sweeping.{begins_ready, ends_can, stops_are, onward_is, drawn}
+use Rattle.civl_terms.specs.Weights.{graph_weight}
+use Rattle.civl_paths.specs.Flows.{flow_from}
+use Rattle.civl_body.specs.Weights.{passed_weights}
 use Rattle.civl_body.proofs.ways.walk.Goals as goal
 
 some_of : (o : Option Refines) → IsSome o → (r : Refines) × (o ≡ Some r)
@@ -119,3 +122,8 @@ returns-clause-ends c =
     let refines = some_of q.refines c.requires.refines in
     let ways : c.in_ok-ways.ways ≡ ways_from 0 (proc_cuts q) u = c.in_ok-ways.ensures ∙ ap (λ (cs : List Cut). ways_from 0 cs u) c.requires.cuts in
     ap (map (λ (w : Way). w.end)) ways ∙ ends_are n p q c.args.cut u can refines.0 refines.1 stops onward
+
+pub returns-clause-weighs : goal.returns-clause-weighs
+returns-clause-weighs c = λ linear.
+    let w = subst (λ (n : ℕ). graph_weight c.pass_from.new.terms ≤ graph_weight c.begins.new.terms + 4 * passed_weights c.args.program.now n c.args.proc.now (flow_from c.args.proc.now c.args.cut).passed) c.layer_below.ensures (c.in_ok-pass_from.ensures.weighs linear) in
+    omega (arith, c.in_ok-sweep.ensures.weighs, w)
