@@ -48,6 +48,7 @@ use Rattle.civl_soundness.proofs.Sorted.{sort_fits, zeros_fit, none_at}
 use Rattle.civl_soundness.proofs.Called.{Serves, called_serves}
 use Rattle.civl_conditions.specs.Variables.{choices_of, layer_choices, passed_choices}
 use Rattle.civl_following.specs.Following.{with_choices}
+use Rattle.civl_open_blocks.specs.Open.{ChoicesAreThere}
 
 -- values for these choices
 abbrev pub FitChoices : List Value → List Choice → Type 0
@@ -188,3 +189,6 @@ module _ (program : Program) (layered : IsLayered program) (step q : ℕ) (proc 
       let known = (or_parts (form_unknown program proc (out-Stmt is.0)) (any_unknown (form_uses program proc (out-Stmt is.0))) (statement_kept typing_rules program layered.rules unknown_rule unknown_among (stmt_unknown program proc) q proc there refl number is.0 is.1)).0 in
       let values : zero_choices number ≡ zeros choices = ap (λ (o : Option Stmt). option_map_or (λ s. zeros (layer_choices plain (out-Stmt s))) o []) is.1 ∙ ap zeros is.2 in
       subst (λ (vs : List Value). FitChoices vs choices) (sym values) (subst (λ (cs : List Choice). FitChoices (zeros cs) cs) is.2 (form_zeros (out-Stmt is.0) known))
+
+pub choices_are_there : ChoicesAreThere
+choices_are_there program step q proc cut layered of = (zero_choices program layered step q proc of.there, zeros_fit_all program layered step q proc of.there cut)

@@ -159,7 +159,7 @@ module _ (program : Program) (step q c : ℕ) (proc : Proc) (cut : Cut) (b : Beg
 
   open_on : (chosen : ℕ → List Value) (inner after : Store) (locals : List Value) (place : ℕ) → AllFit program step proc cut chosen → IsStore program.globals inner → inputs_of proc locals ≡ inputs_of proc frame.locals
       → bound ≤ s.number → FollowsOn program step proc cut (beginning b) chosen (s.number + 1) here inner after (frame_at frame locals place)
-      → StaysOpen program step q c proc cut b bound here after (frame_at frame locals place)
+      → StaysOpen program step q c proc cut b bound here inner after (frame_at frame locals place)
   open_on chosen inner after locals place h hs i low f = record {
     chosen = chosen;
     later = s.number + 1;
@@ -167,6 +167,7 @@ module _ (program : Program) (step q c : ℕ) (proc : Proc) (cut : Cut) (b : Beg
     next = f.next;
     goes = f.goes;
     place = f.place;
+    state = f.state;
     opened = record {
       assumed = assumed_with chosen h;
       follows = f.follows;
@@ -183,9 +184,9 @@ module _ (program : Program) (step q c : ℕ) (proc : Proc) (cut : Cut) (b : Beg
       (subst (Fits lower thread.state) (thread_does program step q proc thread frame of.there top state.store values s there ∙ e) fits).0
 
   abbrev Stays_so : Change → Type 0
-  Stays_so x = StepStaysOpen program step q c proc cut b bound here store frame x
+  Stays_so x = StepStaysOpen program step q c proc cut b bound here store frame s values x
 
-  goes_on : (locals : List Value) (place : ℕ) → frame_does program step proc store values frame s ≡ Goes locals place → StaysOpen program step q c proc cut b bound here store (frame_at frame locals place)
+  goes_on : (locals : List Value) (place : ℕ) → frame_does program step proc store values frame s ≡ Goes locals place → Stays_so (Goes locals place)
   goes_on locals place e =
       let v = b.chosen s.number in
       let same = goes_whatever lower store proc frame.locals s.number s.next values v (out-Stmt s.stmt) locals place e in
@@ -193,12 +194,12 @@ module _ (program : Program) (step q c : ℕ) (proc : Proc) (cut : Cut) (b : Beg
       open_on (with_choices b.chosen s.number v) state.store store locals place (same_fit program step proc cut b.chosen fit s.number) state_fits
       (subst Inputs e (inputs_kept values)) f.0 (subst (StepFollows program step proc cut (beginning b) b.chosen s v here store frame) same f.1)
 
-  acts_on : (after : Store) (locals : List Value) (place : ℕ) → frame_does program step proc store values frame s ≡ Acts after locals place → StaysOpen program step q c proc cut b bound here after (frame_at frame locals place)
+  acts_on : (after : Store) (locals : List Value) (place : ℕ) → frame_does program step proc store values frame s ≡ Acts after locals place → Stays_so (Acts after locals place)
   acts_on after locals place e =
       let f = follows values in
       let g = subst (StepFollows program step proc cut (beginning b) b.chosen s values here store frame) e f.1 in
       let fits = more_fit program step proc cut b.chosen fit s.number s.stmt stands values (acts_fitting lower store proc frame.locals s.number s.next values are (out-Stmt s.stmt) after locals place e) in
-      open_on (with_choices b.chosen s.number values) g.0 after locals place fits (inner_fits g.0 locals place g.1) (subst Inputs e (inputs_kept values)) f.0 g.2
+      (g.0, g.1, open_on (with_choices b.chosen s.number values) g.0 after locals place fits (inner_fits g.0 locals place g.1) (subst Inputs e (inputs_kept values)) f.0 g.2)
 
   no_failure : frame_does program step proc store values frame s ≡ Stays answer.Failing → ⊥
   no_failure e =

@@ -89,13 +89,13 @@ module _ (program : Program) (step q : ℕ) (proc : Proc) (layered : IsLayered p
       (subst (HaveSorts (slice_set store.values (place_of (names_of globals) x) v)) sorts_are k)
 
   module _ (n : ℕ) (s : Stmt) (at : statement_at proc.body n ≡ Some s) where
-    sorted_there : any_missorted (form_uses program proc (out-Stmt s)) ≡ false
+    pub sorted_there : any_missorted (form_uses program proc (out-Stmt s)) ≡ false
     sorted_there = (or_parts (any_missorted (form_uses program proc (out-Stmt s))) (form_missorted program proc (out-Stmt s)) (statement_kept typing_rules program layered.rules sort_rule sort_among (stmt_missorted program proc) q proc there refl n s at)).0
 
-    narrow_there : any_width (form_uses program proc (out-Stmt s)) ≡ false
+    pub narrow_there : any_width (form_uses program proc (out-Stmt s)) ≡ false
     narrow_there = statement_kept typing_rules program layered.rules width_rule width_among (λ stmt. any_width (stmt_uses program proc stmt)) q proc there refl n s at
 
-    low_there : any_index (form_uses program proc (out-Stmt s)) ≡ false
+    pub low_there : any_index (form_uses program proc (out-Stmt s)) ≡ false
     low_there = statement_kept typing_rules program layered.rules index_rule index_among (λ stmt. any_index (stmt_uses program proc stmt)) q proc there refl n s at
 
     one_sorted : (d : stmt.Stmt-F Stmt) → any_missorted (form_uses program proc d) ≡ false → any_width (form_uses program proc d) ≡ false → any_index (form_uses program proc d) ≡ false

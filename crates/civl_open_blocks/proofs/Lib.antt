@@ -4,3 +4,4 @@ pub mod Choices
 pub mod Going
 pub mod Opening
 pub mod Ending
+pub mod Cuts

@@ -88,7 +88,7 @@ blocks_open_behind_yields program step q c proc cut b here store frame assumed e
 -- ---- loops
 
 -- the head of a loop has this number
-head_number : (n m : ℕ) (d : stmt.Stmt-F Stmt) → layer_head n d ≡ Some m → n ≡ m
+pub head_number : (n m : ℕ) (d : stmt.Stmt-F Stmt) → layer_head n d ≡ Some m → n ≡ m
 head_number n m (stmt.YieldLoop t i a) e = same_Some n m e
 head_number n m (stmt.RankLoop t r i a) e = same_Some n m e
 head_number n m _ e = absurd (none-some m e)
@@ -100,7 +100,7 @@ loop_goes plain proc locals n p m (stmt.RankLoop t r i a) e = (_, λ store v. re
 loop_goes plain proc locals n p m _ e = absurd (none-some m e)
 
 -- from its own number the same comes next
-spot_again : (body : List Stmt) (place : ℕ) (s : Spot) → spot_at body place ≡ Some s → spot_at body s.number ≡ Some s
+pub spot_again : (body : List Stmt) (place : ℕ) (s : Spot) → spot_at body place ≡ Some s → spot_at body s.number ≡ Some s
 spot_again body place s e =
     let split : Split body s = head_splits body (rest_at body place) s (rest_belongs body place) (rest_onward body place) (sym (spot_of_rest body place) ∙ e) in
     let own = own_place body ((s.number, s.stmt) ∷ split.behind) split.belongs in

@@ -1,10 +1,11 @@
 -- Blocks that are open: a thread goes through a block of its topmost frame, and all that the conditions assume held at the
 -- cut from which its path goes. (Blocks between yields: Hawblitzel, Petrank, Qadeer, Tasiran, CAV 2015; Kragl, Qadeer, CAV
 -- 2018; cut points and ranks: Floyd, Assigning meanings to programs, 1967.)
-use Rattle.std.specs.Prelude.{ℕ, ◌+◌, ◌-◌, ◌<◌, ◌≡◌, true, false, List, ◌⊎◌, None, Some, slice_get, All}
+use Rattle.std.specs.Prelude.{ℕ, ◌+◌, ◌-◌, ◌<◌, ◌≡◌, true, false, List, ◌⊎◌, None, Some, slice_get, All, map}
 use Rattle.std.specs.List.{Contains}
 use Rattle.civl_bits.specs.Value.{IsValue}
 use Rattle.civl_bits.specs.declared.value.Value.{Value}
+use Rattle.civl_tree.specs.declared.action.Choice.{Choice}
 use Rattle.civl_tree.specs.declared.program.Proc.{Proc}
 use Rattle.civl_tree.specs.declared.program.Program.{Program}
 use Rattle.civl_tree.specs.declared.stmt.Stmt.{out-Stmt}
@@ -33,14 +34,15 @@ use Rattle.civl_footprints.specs.Agreement.{StoresAgree, exists_at}
 use Rattle.civl_paths.specs.Paths.{Progress}
 use Rattle.civl_paths.specs.Runs.{Standing, begins_at, Stands, advance}
 use Rattle.civl_paths.specs.Ends.{is_rank_loop, exit_of, cut_number}
-use Rattle.civl_paths.specs.Seen.{lower_course}
+use Rattle.civl_paths.specs.Seen.{IsProcOf, lower_course}
 use Rattle.civl_conditions.specs.declared.condition.Condition.{Condition}
 use Rattle.civl_conditions.specs.Listed.{conditions}
+use Rattle.civl_conditions.specs.Variables.{passed_choices}
 use Rattle.civl_conditions.specs.Values.{Begun}
 use Rattle.civl_conditions.specs.Assumed.{inputs_of, owned}
 use Rattle.civl_conditions.specs.Violated.{Holds}
 use Rattle.civl_block_ends.specs.Ends.{IsAssumed, Concludes}
-use Rattle.civl_following.specs.Following.{layer_head, cut_ahead, led_here, StandsAlike, Follows, frame_at}
+use Rattle.civl_following.specs.Following.{layer_head, cut_ahead, led_here, StandsAlike, Follows, frame_at, frame_does}
 
 -- ---- programs and threads
 
@@ -85,22 +87,27 @@ pub record IsOpen (program : Program) (step q c : ℕ) (proc : Proc) (cut : Cut)
   pub inputs : inputs_of proc here.state.locals ≡ inputs_of proc b.locals
   pub done : b.done ≡ true → here.state.done ≡ true
 
--- one step further it is open still, with the choices of that step
-pub record StaysOpen (program : Program) (step q c : ℕ) (proc : Proc) (cut : Cut) (b : Begun) (bound : ℕ) (here : Standing) (store : Store) (frame : Activation) : Type 0 where
+-- one step further it is open still, with the choices of that step; the path has this store there
+pub record StaysOpen (program : Program) (step q c : ℕ) (proc : Proc) (cut : Cut) (b : Begun) (bound : ℕ) (here : Standing) (inner store : Store) (frame : Activation) : Type 0 where
   pub chosen : ℕ → List Value
   pub later : ℕ
   pub rises : bound < later
   pub next : Standing
   pub goes : advance (lower_course program step proc chosen) here ≡ Stands next
   pub place : next.place ≡ frame.place
+  pub state : next.state ≡ record { store = inner; locals = frame.locals; done = (led_here program step proc here).done; again = (led_here program step proc here).again }
   pub opened : IsOpen program step q c proc cut (choosing b chosen) later next store frame
 
--- what a step of the thread makes of it: the block doesn't fail
-abbrev pub StepStaysOpen : Program → ℕ → ℕ → ℕ → Proc → Cut → Begun → ℕ → Standing → Store → Activation → Change → Type 0
-StepStaysOpen program step q c proc cut b bound here store frame (Goes locals place) = StaysOpen program step q c proc cut b bound here store (frame_at frame locals place)
-StepStaysOpen program step q c proc cut b bound here store frame (Acts after locals place) = StaysOpen program step q c proc cut b bound here after (frame_at frame locals place)
-StepStaysOpen program step q c proc cut b bound here store frame (Stays answer.Failing) = ⊥
-StepStaysOpen program step q c proc cut b bound here store frame _ = Unit {0}
+-- What a step of the thread, with these values for its choices, of the statement at this spot, makes of it. An action does to
+-- the path's store what it does to the configuration's. The block doesn't fail.
+abbrev pub StepStaysOpen : Program → ℕ → ℕ → ℕ → Proc → Cut → Begun → ℕ → Standing → Store → Activation → Spot → List Value → Change → Type 0
+StepStaysOpen program step q c proc cut b bound here store frame s values (Goes locals place) =
+    StaysOpen program step q c proc cut b bound here (led_here program step proc here).store store (frame_at frame locals place)
+StepStaysOpen program step q c proc cut b bound here store frame s values (Acts after locals place) =
+    (inner : Store) × (frame_does program step proc (led_here program step proc here).store values frame s ≡ Acts inner locals place)
+    × StaysOpen program step q c proc cut b bound here inner after (frame_at frame locals place)
+StepStaysOpen program step q c proc cut b bound here store frame s values (Stays answer.Failing) = ⊥
+StepStaysOpen program step q c proc cut b bound here store frame s values _ = Unit {0}
 
 -- an open block whose frame stands before no cut, and not at the exit, stays open in each step of its thread
 abbrev pub OpenBlocksGoOn : Type 0
@@ -108,9 +115,15 @@ OpenBlocksGoOn =
     (program : Program) (step q c : ℕ) (proc : Proc) (cut : Cut) (b : Begun) (bound : ℕ) (here : Standing) (store : Store) (frame : Activation) (thread : Running) (values : List Value) (s : Spot)
     → IsSound program → IsOpen program step q c proc cut b bound here store frame → IsTopmost program step q thread frame → All IsValue values
     → cut_ahead proc.body here.place ≡ None → spot_at proc.body frame.place ≡ Some s
-    → StepStaysOpen program step q c proc cut b bound here store frame (change_of (program_at program (step - 1)) store values thread)
+    → StepStaysOpen program step q c proc cut b bound here store frame s values (change_of (program_at program (step - 1)) store values thread)
 
 -- ---- how blocks open
+
+-- there are choices of their sorts for the calls of all paths from a cut
+abbrev pub ChoicesAreThere : Type 0
+ChoicesAreThere =
+    (program : Program) (step q : ℕ) (proc : Proc) (cut : Cut) → IsLayered program → IsProcOf program q step proc
+    → (chosen : ℕ → List Value) × ((number : ℕ) (choices : List Choice) → Contains (passed_choices program step proc cut) (number, choices) → HaveSorts (chosen number) (map (λ c. c.sort) choices))
 
 -- behind the first step of a loop, which changes nothing
 abbrev pub OpensInLoop : Program → ℕ → ℕ → ℕ → Proc → Cut → Begun → Store → Activation → Change → Type 0
@@ -142,6 +155,12 @@ BlocksOpenInLoops =
     → OpensInLoop program step q c proc cut b store frame (change_of (program_at program (step - 1)) store values thread)
 
 -- ---- how they end
+
+-- a frame before a cut stands before one of its procedure's, which is a yield, a yield loop or a rank loop
+abbrev pub CutsAheadAreCuts : Type 0
+CutsAheadAreCuts =
+    (program : Program) (step q : ℕ) (proc : Proc) (place number : ℕ) → IsProcOf program q step proc → cut_ahead proc.body place ≡ Some number
+    → (there : Cut) × (slice_get (proc_cuts proc) (cut_number proc number) ≡ Some there) × (there.statement ≡ number)
 
 -- before a cut or at the exit, what the conditions say holds of the state there
 abbrev pub OpenBlocksConclude : Type 0

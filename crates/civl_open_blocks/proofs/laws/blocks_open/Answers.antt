@@ -1,4 +1,5 @@
 use Rattle.civl_open_blocks.proofs.Opening.{blocks_open_at_entries, blocks_open_behind_yields, blocks_open_in_loops}
+use Rattle.civl_open_blocks.proofs.Choices.{choices_are_there}
 use Rattle.civl_open_blocks.proofs.laws.blocks_open.Goals as goal
 
 pub returns-clause-entries : goal.returns-clause-entries
@@ -9,3 +10,6 @@ returns-clause-yields c = blocks_open_behind_yields
 
 pub returns-clause-loops : goal.returns-clause-loops
 returns-clause-loops c = blocks_open_in_loops
+
+pub returns-clause-choices : goal.returns-clause-choices
+returns-clause-choices c = choices_are_there

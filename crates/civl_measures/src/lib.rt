@@ -1,0 +1,4 @@
+//! Open blocks end: each step makes a measure smaller.
+#![tactic(auto)]
+
+pub mod laws;
