@@ -1,0 +1,4 @@
+pub mod Cuts
+pub mod Shadow
+pub mod Challenged
+pub mod examples

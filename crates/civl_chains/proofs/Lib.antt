@@ -1,0 +1,5 @@
+pub mod Gates
+pub mod Gliding
+pub mod Waiting
+pub mod Chaining
+pub mod Yielding
