@@ -153,7 +153,14 @@ fn neighbours(alloc: Global, plain: &Plain, from: &Config) -> Result<bool, Fail>
 fn fronted(alloc: Global, plain: &Plain, from: &Config) -> Result<bool, Fail> {
     let first = [1, 1, 1, 0, 0, 0, 1, 1, 1, 1, 1, 1, 0, 1];
     let three = List::from_vec([3, 4, 5].to_vec(alloc)?);
-    let same = fronts(alloc, plain, from, &LATE_STORE, &three, Wanted::Same(&first))?;
+    let same = fronts(
+        alloc,
+        plain,
+        from,
+        &LATE_STORE,
+        &three,
+        Wanted::Same(&first),
+    )?;
     let four = List::from_vec([3, 4, 5, 6].to_vec(alloc)?);
     let differs = fronts(alloc, plain, from, &LATE_STORE, &four, Wanted::Differs(5))?;
     Ok(same && differs)
@@ -175,7 +182,14 @@ fn failing_before_an_exchange(rt: HostRuntime) -> Result<(), Fail> {
     let plain = lowest(rt.alloc(), CLEARING, 2)?;
     let from = begun(rt.alloc(), &plain, Value::Bool(true))?;
     // A is called, B is called and needs the flag, and A clears it.
-    let fails = swaps(rt.alloc(), &plain, &from, &[0, 1, 1, 0], 2, Wanted::Fails(&[0, 1, 0]))?;
+    let fails = swaps(
+        rt.alloc(),
+        &plain,
+        &from,
+        &[0, 1, 1, 0],
+        2,
+        Wanted::Fails(&[0, 1, 0]),
+    )?;
     assert!(rt; fails);
     Ok(())
 }
