@@ -20,10 +20,10 @@ use Rattle.civl_terms.specs.declared.node.Node.{Node}
 use Rattle.civl_terms.specs.Building.{Grows}
 use Rattle.civl_formulas.specs.Said.{Env}
 use Rattle.civl_body.specs.declared.way.Way.{Way}
-use Rattle.civl_body.specs.Walks.{IsWay}
+use Rattle.civl_body.specs.Walks.{IsWay, CanTake}
 use Rattle.civl_refine.specs.declared.start.Start.{Start}
 use Rattle.civl_refine.specs.Judging.{fails_at, fails_before}
-use Rattle.civl_refine.specs.Ways.{CanTake, kept_by}
+use Rattle.civl_refine.specs.Ways.{kept_by}
 use Rattle.civl_refine.specs.Failing.{ArrivesAmong}
 use Rattle.civl_refine.proofs.Taking.{take_stays, way_stays}
 

@@ -53,7 +53,8 @@ use Rattle.civl_paths.specs.Paths.{Progress}
 use Rattle.civl_formulas.proofs.Saying.{sort_stays, test_stays}
 use Rattle.civl_formulas.proofs.Listing.{sorts_stay, said_stay}
 use Rattle.civl_body.specs.declared.way.Way.{Way}
-use Rattle.civl_refine.specs.Judging.{IsAt, CanEnd}
+use Rattle.civl_body.specs.Walks.{CanEnd}
+use Rattle.civl_refine.specs.Judging.{IsAt}
 
 -- ---- outputs among the terms of a frame
 

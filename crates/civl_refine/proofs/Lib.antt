@@ -7,3 +7,6 @@ pub mod Asking
 pub mod Taking
 pub mod Breaking
 pub mod Begun
+pub mod Cutting
+pub mod Placing
+pub mod Violating

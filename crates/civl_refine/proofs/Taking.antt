@@ -24,9 +24,8 @@ use Rattle.civl_formulas.proofs.Saying.{sort_stays, test_stays}
 use Rattle.civl_formulas.proofs.Listing.{sorts_stay, values_stay}
 use Rattle.civl_states.specs.Stores.{global_sorts}
 use Rattle.civl_body.specs.declared.way.Way.{Way}
-use Rattle.civl_body.specs.Walks.{IsWay, ends_at}
+use Rattle.civl_body.specs.Walks.{IsWay, ends_at, CanTake}
 use Rattle.civl_refine.specs.Judging.{IsAt}
-use Rattle.civl_refine.specs.Ways.{CanTake}
 use Rattle.civl_refine.proofs.Judging.{end_stays}
 
 -- ---- the state at a way's end

@@ -36,8 +36,7 @@ use Rattle.civl_conditions.specs.Parts.{end_values}
 use Rattle.civl_formulas.specs.Said.{Env, IsTest, IsSaid}
 use Rattle.civl_formulas.specs.Lists.{AreSaid}
 use Rattle.civl_terms.specs.Graphs.{sort_at}
-use Rattle.civl_actions.specs.Scopes.{AreOf}
-use Rattle.civl_states.specs.Stores.{AreStore, AreGlobals}
+use Rattle.civl_states.specs.Stores.{AreStore}
 use Rattle.civl_states.specs.declared.beginning.Beginning.{Beginning}
 use Rattle.civl_states.specs.Beginnings.{AreBegun}
 use Rattle.civl_body.specs.declared.way.Way.{Way}
@@ -63,12 +62,6 @@ pub record IsAt (ns : List Node) (program : Program) (proc : Proc) (way : Way) (
   pub globals : AreStore ns program way.globals (λ env. (p env).store)
   pub locals : AreSaid ns way.locals (frame_sorts proc) (λ env. (p env).locals)
   pub done : IsTest ns way.done (λ env. (p env).done)
-
--- terms of the sorts that belong there
-pub record CanEnd (ns : List Node) (program : Program) (proc : Proc) (way : Way) : Type 0 where
-  pub globals : AreGlobals ns program way.globals
-  pub locals : AreOf ns way.locals (frame_sorts proc)
-  pub done : sort_at ns way.done ≡ Some Truth
 
 -- the terms say what the refined action does from the old globals, with these choices
 pub record Performs (ns : List Node) (program : Program) (proc : Proc) (a : Action) (b : Env → Begun) (c : Env → List Value) (d : Performed) : Type 0 where

@@ -2,3 +2,5 @@ pub mod Assuming
 pub mod Judging
 pub mod Ways
 pub mod Failing
+pub mod Kinds
+pub mod Walked

@@ -11,8 +11,9 @@ ghost use Rattle.civl_conditions.specs.declared.condition.Part.TheVariants.{Gate
 ghost use Rattle.civl_conditions.specs.Assumed.{layer_rank, cut_rank};
 ghost use Rattle.civl_conditions.specs.Weights.{part_weight};
 ghost use Rattle.civl_states.specs.Beginnings.{CanBegin};
+ghost use Rattle.civl_body.specs.Walks.{CanEnd};
 ghost use Rattle.civl_refine.specs.Assuming.{IsStart};
-ghost use Rattle.civl_refine.specs.Judging.{CanEnd, AreCuts, IsAsked, KeepsAt};
+ghost use Rattle.civl_refine.specs.Judging.{AreCuts, IsAsked, KeepsAt};
 
 use crate::invariants::invariant_of;
 use crate::performing::perform_kept;
@@ -61,8 +62,8 @@ fn rank_of<'a>(proc: &Proc, flat: &[&'a Stmt], cut: Cut) -> Option<&'a Expr>
     }
 }
 
-/// Whether a block ends at this end: at the exit, and at each cut but rank loops.
-fn ends_block(cuts: &[Cut], end: u32) -> bool
+/// Whether a block ends at this end: at the exit, and at each cut but rank loops. These are all cuts of the procedure.
+pub fn ends_block(cuts: &[Cut], end: u32) -> bool
     ensures { result ≡ option_map_or (λ cut. not (is_rank_loop cut.kind)) (slice_get cuts.now end) true }
 {
     match cuts.get(end as usize) {

@@ -13,10 +13,9 @@ ghost use Rattle.civl_conditions.specs.Values.{Begun};
 ghost use Rattle.civl_conditions.specs.Weights.{base_weight, part_weight, summed};
 ghost use Rattle.civl_formulas.specs.Said.{Env, IsTest};
 ghost use Rattle.civl_states.specs.Beginnings.{AreBegun, CanBegin};
-ghost use Rattle.civl_body.specs.Walks.{IsWay};
+ghost use Rattle.civl_body.specs.Walks.{IsWay, CanTake};
 ghost use Rattle.civl_refine.specs.Assuming.{IsStart, BeginsAt};
 ghost use Rattle.civl_refine.specs.Judging.{AreCuts, fails_before};
-ghost use Rattle.civl_refine.specs.Ways.{CanTake};
 ghost use Rattle.civl_refine.specs.Failing.{ArrivesAmong, SaysBefore};
 
 use crate::assumption::assumed;

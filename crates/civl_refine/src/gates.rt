@@ -112,8 +112,12 @@ fn gate_and_done(terms: &mut Terms, old_done: Id, done: Id, gate: Id) -> Result<
     Ok(id)
 }
 
-/// Whether the second test is true if the first is.
-pub(crate) fn implied(terms: &mut Terms, a: Id, b: Id) -> Result<Id, Memory>
+/// Whether the second test is true if the first is. The graph's weight rises by at most 1.
+///
+/// # Errors
+///
+/// For want of memory; the nodes before stay.
+pub fn implied(terms: &mut Terms, a: Id, b: Id) -> Result<Id, Memory>
     requires a { sort_at terms.old a ≡ Some Truth }
     requires b { sort_at terms.old b ≡ Some Truth }
     ensures test { IfOk result (λ id. (f g : Env → Bool) → IsTest terms.old a f → IsTest terms.old b g → IsTest terms.new id (λ env. not (f env) || g env)) }

@@ -14,9 +14,11 @@ ghost use Rattle.civl_conditions.specs.Permissions.{in_store, of_held};
 ghost use Rattle.civl_conditions.specs.Weights.{lin, linear_globals};
 ghost use Rattle.civl_formulas.specs.Said.{Env, IsTest};
 ghost use Rattle.civl_formulas.specs.Lists.{AreSaid};
+ghost use Rattle.civl_formulas.specs.Masks.{AreCarried, CanCarry};
+ghost use Rattle.civl_states.specs.Items.{HasItems, items_weight};
 ghost use Rattle.civl_states.specs.Stores.{AreGlobals, AreStore};
 
-use civl_formulas::no_items;
+use civl_formulas::{Carried, no_items};
 use civl_states::{global_items, with_words};
 use civl_terms::{Id, Memory, Terms};
 use civl_tree::{List, Program};
@@ -38,6 +40,36 @@ pub fn held_ids(alloc: Alloc, locals: &[Id], held: &[u32]) -> Result<Vec<Id>, Me
     Ok(ids)
 }
 
+/// What the linear globals and these held locals carry. The graph's weight rises by at most what so many items weigh.
+///
+/// # Errors
+///
+/// For want of memory; the nodes before stay.
+pub fn owned_items(
+    alloc: Alloc,
+    terms: &mut Terms,
+    program: &Program,
+    globals: &List<Id>,
+    locals: &List<Id>,
+    held: &[u32],
+) -> Result<Carried, Memory>
+    requires rules { Keeps typing_rules program.now }
+    requires globals { AreGlobals terms.old program.now globals.now }
+    requires within { All (λ n. n < length locals.now) held.now }
+    requires words { All (λ n. sort_at terms.old (get_or locals.now n 0) ≡ Some (Word program.now.permissions)) held.now }
+    ensures carried { IfOk result (λ c. (ss : List Sort) (g : Env → Store) (v : Env → List Value) → AreStore terms.old program.now globals.now g → AreSaid terms.old locals.now ss v → AreCarried terms.new (2 ^ program.now.permissions) c (λ env. in_store program.now (g env) ++ of_held held.now (v env))) }
+    ensures sorted { IfOk result (λ c. CanCarry terms.new (2 ^ program.now.permissions) c) }
+    ensures number { IfOk result (λ c. HasItems c.mask (length held.now + linear_globals program.now)) }
+    ensures grows { Grows terms.old terms.new }
+    ensures weighs { OnOk result (graph_weight terms.new ≤ graph_weight terms.old + items_weight (2 ^ program.now.permissions) (length held.now + linear_globals program.now)) }
+{
+    let none = no_items(terms)?;
+    let stored = global_items(alloc, terms, program, none, globals)?;
+    let ids = held_ids(alloc, locals.as_slice(), held)?;
+    let all = with_words(terms, program.permissions, stored, ids.as_slice())?;
+    Ok(all)
+}
+
 /// Whether what the linear globals and these held locals carry is pairwise disjoint. The graph's weight rises by at most four
 /// times what a program's weight counts for so many items.
 pub(crate) fn owned_apart(
@@ -57,9 +89,6 @@ pub(crate) fn owned_apart(
     ensures grows { Grows terms.old terms.new }
     ensures weighs { OnOk result (graph_weight terms.new ≤ graph_weight terms.old + 4 * lin program.now (length held.now + linear_globals program.now)) }
 {
-    let none = no_items(terms)?;
-    let stored = global_items(alloc, terms, program, none, globals)?;
-    let ids = held_ids(alloc, locals.as_slice(), held)?;
-    let all = with_words(terms, program.permissions, stored, ids.as_slice())?;
+    let all = owned_items(alloc, terms, program, globals, locals, held)?;
     Ok(all.apart)
 }

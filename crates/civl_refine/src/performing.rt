@@ -24,8 +24,9 @@ ghost use Rattle.civl_formulas.specs.Said.{Env, IsTest};
 ghost use Rattle.civl_formulas.specs.Lists.{AreSaid};
 ghost use Rattle.civl_states.specs.Stores.{AreGlobals, AreStore, choice_sorts};
 ghost use Rattle.civl_states.specs.Beginnings.{AreBegun, CanBegin};
+ghost use Rattle.civl_body.specs.Walks.{CanEnd};
 ghost use Rattle.civl_refine.specs.Assuming.{IsStart};
-ghost use Rattle.civl_refine.specs.Judging.{IsAt, CanEnd, Performs, comes_to, with_values};
+ghost use Rattle.civl_refine.specs.Judging.{IsAt, Performs, comes_to, with_values};
 
 use crate::gates::{implied, input_ids};
 use crate::results::same_outs;

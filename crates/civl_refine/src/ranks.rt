@@ -20,8 +20,9 @@ ghost use Rattle.civl_conditions.specs.Values.{Begun};
 ghost use Rattle.civl_conditions.specs.Weights.{note_weight};
 ghost use Rattle.civl_formulas.specs.Said.{Env, IsTest};
 ghost use Rattle.civl_states.specs.Beginnings.{AreBegun, CanBegin};
+ghost use Rattle.civl_body.specs.Walks.{CanEnd};
 ghost use Rattle.civl_refine.specs.Assuming.{IsStart};
-ghost use Rattle.civl_refine.specs.Judging.{IsAt, CanEnd};
+ghost use Rattle.civl_refine.specs.Judging.{IsAt};
 
 use crate::start::Start;
 use crate::steady::{plain_note, steady_note};

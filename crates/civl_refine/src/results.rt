@@ -19,8 +19,9 @@ ghost use Rattle.civl_formulas.specs.Lists.{AreSaid};
 ghost use Rattle.civl_states.specs.Stores.{AreGlobals, AreStore};
 ghost use Rattle.civl_states.specs.Same.{layer_sorts, same_weight};
 ghost use Rattle.civl_states.specs.Beginnings.{AreBegun, CanBegin};
+ghost use Rattle.civl_body.specs.Walks.{CanEnd};
 ghost use Rattle.civl_refine.specs.Assuming.{IsStart};
-ghost use Rattle.civl_refine.specs.Judging.{IsAt, CanEnd};
+ghost use Rattle.civl_refine.specs.Judging.{IsAt};
 
 use crate::gates::implied;
 use crate::start::Start;

@@ -11,10 +11,10 @@ ghost use Rattle.civl_conditions.specs.Values.{Begun};
 ghost use Rattle.civl_conditions.specs.Weights.{part_weight, summed};
 ghost use Rattle.civl_formulas.specs.Said.{Env, IsTest};
 ghost use Rattle.civl_states.specs.Beginnings.{AreBegun, CanBegin};
-ghost use Rattle.civl_body.specs.Walks.{IsWay};
+ghost use Rattle.civl_body.specs.Walks.{IsWay, CanEnd, CanTake};
 ghost use Rattle.civl_refine.specs.Assuming.{IsStart};
-ghost use Rattle.civl_refine.specs.Judging.{CanEnd, AreCuts, Asks, IsAsked, KeepsAt};
-ghost use Rattle.civl_refine.specs.Ways.{CanTake, kept_by};
+ghost use Rattle.civl_refine.specs.Judging.{AreCuts, Asks, IsAsked, KeepsAt};
+ghost use Rattle.civl_refine.specs.Ways.{kept_by};
 
 use crate::ends::{invariant_at, once_at, perform_at, rank_at, stutter_at};
 use crate::gates::implied;

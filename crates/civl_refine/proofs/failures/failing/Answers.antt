@@ -10,9 +10,9 @@ use Rattle.civl_conditions.specs.Weights.{part_weight, summed}
 use Rattle.civl_formulas.specs.Said.{Env}
 use Rattle.civl_formulas.proofs.Saying.{sort_stays, test_stays, test_as}
 use Rattle.civl_body.specs.declared.way.Way.{Way}
-use Rattle.civl_body.specs.Walks.{IsWay}
+use Rattle.civl_body.specs.Walks.{IsWay, CanTake}
 use Rattle.civl_refine.specs.Judging.{fails_before}
-use Rattle.civl_refine.specs.Ways.{CanTake, kept_by}
+use Rattle.civl_refine.specs.Ways.{kept_by}
 use Rattle.civl_refine.specs.Failing.{ArrivesAmong}
 use Rattle.civl_refine.proofs.Assuming.{begin_stays, begun_stays}
 use Rattle.civl_refine.proofs.Breaking.{fails_as, takes_stay, ways_stay, weighs_all}

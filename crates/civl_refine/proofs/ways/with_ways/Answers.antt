@@ -4,8 +4,8 @@ use Rattle.std.proofs.lemmas.List.Elements.{All-get_or}
 use Rattle.civl_terms.proofs.Growing.{grows_trans}
 use Rattle.civl_formulas.proofs.Saying.{test_as}
 use Rattle.civl_conditions.specs.Weights.{part_weight}
-use Rattle.civl_body.specs.Walks.{IsWay}
-use Rattle.civl_refine.specs.Ways.{CanTake, kept_by}
+use Rattle.civl_body.specs.Walks.{IsWay, CanTake}
+use Rattle.civl_refine.specs.Ways.{kept_by}
 use Rattle.civl_refine.proofs.Assuming.{begin_stays, begun_stays}
 use Rattle.civl_refine.proofs.Taking.{take_stays, way_stays, ways_next, ways_weigh, ways_end}
 use Rattle.civl_refine.proofs.ways.with_ways.Goals as goal

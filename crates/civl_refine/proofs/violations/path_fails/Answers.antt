@@ -1,0 +1,28 @@
+use Rattle.std.proofs.Common.{◌∙◌, sym, subst, arith}
+use Rattle.civl_tree.specs.declared.program.Program.{Program}
+use Rattle.civl_conditions.specs.declared.condition.Condition.TheVariants.{Path}
+use Rattle.civl_conditions.specs.Violated.{violated}
+use Rattle.civl_states.specs.Formulas.{sorts_of}
+use Rattle.civl_refine.specs.Walked.{StartsAt, sorts_from}
+use Rattle.civl_refine.proofs.Violating.{formula_as, path_from_same, path_is, path_weighs}
+use Rattle.civl_refine.proofs.violations.path_fails.Goals as goal
+
+pub path_at-requires-clause-sorts : goal.path_at-requires-clause-sorts
+path_at-requires-clause-sorts c =
+    let s = c.start_at-start.result in
+    let at = subst (λ (p : Program). StartsAt p c.args.step c.args.number c.args.place s) c.program-program.ensures.same c.start_at-start.ensures.at in
+    c.requires.sorts ∙ sym (path_from_same c.args.src.now c.args.step c.args.number c.args.place s at c.args.part)
+
+pub returns-clause-says : goal.returns-clause-says
+returns-clause-says c =
+    let s = c.start_at-start.result in
+    let p = c.args.src.now in
+    let at = subst (λ (p : Program). StartsAt p c.args.step c.args.number c.args.place s) c.program-program.ensures.same c.start_at-start.ensures.at in
+    formula_as c.path_at.new.terms c.in_ok-id.id (sorts_from s) (sorts_of p (Path c.args.part c.args.step c.args.number c.args.place)) _ (violated p (Path c.args.part c.args.step c.args.number c.args.place)) c.in_ok-id.ensures.says
+    (path_from_same p c.args.step c.args.number c.args.place s at c.args.part) (path_is p c.args.step c.args.number c.args.place s at c.args.part)
+
+pub returns-clause-weighs : goal.returns-clause-weighs
+returns-clause-weighs c =
+    let s = c.start_at-start.result in
+    let at = subst (λ (p : Program). StartsAt p c.args.step c.args.number c.args.place s) c.program-program.ensures.same c.start_at-start.ensures.at in
+    omega (arith, c.in_ok-id.ensures.weighs, path_weighs c.args.src.now c.args.step c.args.number c.args.place s at c.args.part)
