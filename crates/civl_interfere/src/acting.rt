@@ -45,7 +45,7 @@ fn items_apart(
 
 /// What is assumed where an action begins beside other threads, and the terms of the action.
 #[derive(Drop)]
-pub(crate) struct Acting {
+pub struct Acting {
     pub holds: Id,
     pub apart: Id,
     pub made: Instance,
@@ -53,7 +53,11 @@ pub(crate) struct Acting {
 
 /// Whether the invariants of a step hold, whether what goes into an action and these words beside it are pairwise disjoint, and
 /// the terms of the action.
-pub(crate) fn act(
+///
+/// # Errors
+///
+/// For want of memory; the nodes before stay.
+pub fn act(
     alloc: Alloc,
     terms: &mut Terms,
     program: &Program,

@@ -9,5 +9,7 @@ mod starts;
 mod threads;
 mod violations;
 
+pub use acting::{Acting, act};
 pub use initials::initial;
+pub use starts::invariant_at;
 pub use violations::violation;

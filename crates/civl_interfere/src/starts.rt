@@ -25,8 +25,8 @@ use civl_terms::{Id, Memory, Terms};
 use civl_tree::{Expr, List, Program, Sort};
 use std::alloc::Global as Alloc;
 
-/// The invariant of a step that has this place among those of the step.
-fn invariant_at(program: &Program, step: u32, place: u32) -> Option<&Expr>
+/// The invariant of a step that has this place among those of the step, if there is one.
+pub fn invariant_at(program: &Program, step: u32, place: u32) -> Option<&Expr>
     ensures { option_copied result ≡ invariant_at program.now step place }
 {
     let mut left = place;
