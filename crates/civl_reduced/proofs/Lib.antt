@@ -1,2 +1,1 @@
-pub mod Safe
-pub mod Reducing
+mod Reducing

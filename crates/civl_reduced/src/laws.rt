@@ -1,16 +1,16 @@
 //! The laws. Each function computes nothing; its clauses are theorems.
-ghost use Rattle.civl_reduced.specs.Reduced.{OpenBlocksAreSafe, OpenBlocksReduce};
+ghost use Rattle.civl_reduced.specs.Reduced.{CheckedProgramsReduce};
 
 use civl_bounded::laws::open_blocks_are_bounded;
-use civl_reduces::laws::{reduces, stages_are_runs};
+use civl_inside::laws::inside;
+use civl_reduces::laws::reduces;
 
-/// In open blocks no thread fails; so, where the blocks that stand behind block runs are open as the conditions see it, a failing
-/// run of the layer's program gives a block run that ends failing or challenged.
-pub fn open_blocks_reduce()
-    ensures safe { OpenBlocksAreSafe }
-    ensures reduce { OpenBlocksReduce }
+/// In a program all of whose conditions hold, a failing interleaving of the program of a layer gives a block run that ends failing
+/// or challenged.
+pub fn checked_programs_reduce()
+    ensures { CheckedProgramsReduce }
 {
     reduces();
-    stages_are_runs();
+    inside();
     open_blocks_are_bounded();
 }
