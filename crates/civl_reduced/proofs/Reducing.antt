@@ -18,7 +18,7 @@ use Rattle.civl_staged.specs.Opened.{BlockIsOpen, StandsThere}
 use Rattle.civl_inside.specs.Inside.{StagesAreBeside, CheckedAreSafeInside}
 use Rattle.civl_measures.specs.Measures.{measure, IsNear}
 use Rattle.civl_bounded.specs.Bounded.{IsOpenThere, OpenInside, OpenBlocksAreBounded}
-use Rattle.civl_reduced.specs.Reduced.{CheckedProgramsReduce}
+use Rattle.civl_reduced.specs.Reduced.{CheckedEndInside, CheckedProgramsReduce}
 
 -- a block that is open beside a shadow, by the frame of its thread
 open_there : (program : Program) (layer : ℕ) (s : Shadowed) (t : ℕ) (o : BlockIsOpen program layer s t) → StandsThere o → (c : meaning.Config) → s.config ≡ c → (thread : Running) → slice_get c.threads t ≡ Some thread
@@ -36,6 +36,9 @@ open_inside stages program layer store k ms t c thread f g there framed =
     let b = stages program layer store ms (Some t) c k g in
     open_there program layer (shadowed program layer store (map plain_move ms)) t b.beside.0 b.beside.1 (plain_config c) b.config_is thread there f framed
 
+pub checked_end_inside : StagesAreBeside → OpenBlocksAreBounded → CheckedEndInside
+checked_end_inside stages bounded program layer store k = bounded program layer store (challenged program layer store) k (open_inside stages program layer store k)
+
 pub checked_programs_reduce : CheckedReduce → StagesAreBeside → CheckedAreSafeInside → OpenBlocksAreBounded → CheckedProgramsReduce
 checked_programs_reduce reduces stages safe bounded program layer store k =
-    reduces program layer store (challenged program layer store) k (safe program layer store k) (bounded program layer store (challenged program layer store) k (open_inside stages program layer store k))
+    reduces program layer store (challenged program layer store) k (safe program layer store k) (checked_end_inside stages bounded program layer store k)

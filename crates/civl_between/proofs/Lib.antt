@@ -1,0 +1,3 @@
+mod Safe
+mod Chaining
+mod Between
