@@ -1,0 +1,4 @@
+pub mod Beside
+pub mod Scanning
+pub mod Written
+pub mod Quiet

@@ -1,0 +1,173 @@
+// What is found of each condition, line by line.
+ghost use Rattle.std.specs.Prelude.{◌≡◌, ◌++◌, OnOk, IfOk};
+ghost use Rattle.civl_conditions.specs.Variables.{variables};
+ghost use Rattle.civl_reports.specs.Findings.{initial_line, value_line, value_lines, undecided_line, found_lines, findings_lines, count_line, survey_text};
+
+use crate::counting::{Kind, count};
+use crate::refusals::put_no_initial;
+use crate::writing::{put, put_number};
+use civl_bits::Value;
+use civl_cnf::Log;
+use civl_conditions::{Condition, Variable, listed, name, variables as variables_of};
+use civl_layers::Layered;
+use civl_models::put_value_text;
+use civl_tree::{List, Memory};
+use civl_verdicts::{Counter, Found, Survey};
+use std::alloc::Global;
+
+/// A line that says what the search for an initial store came to.
+fn put_initial(out: &mut Vec<u8>, budget: u32, initial: &Option<Log>) -> Result<(), Memory>
+    ensures { OnOk result (out.new.items ≡ out.old.items ++ initial_line budget initial.now) }
+{
+    match initial {
+        None => put(out, b"initial: found\n"),
+        Some(_) => {
+            put(out, b"initial")?;
+            put_undecided(out, budget)?;
+            Ok(())
+        }
+    }
+}
+
+/// The end of a line that names what isn't decided.
+fn put_undecided(out: &mut Vec<u8>, budget: u32) -> Result<(), Memory>
+    ensures { OnOk result (out.new.items ≡ out.old.items ++ undecided_line budget) }
+{
+    put(out, b": undecided after ")?;
+    put_number(out, budget as usize)?;
+    put(out, b"\n")?;
+    Ok(())
+}
+
+/// A line `variable = value`, with two blanks in front.
+fn put_value(out: &mut Vec<u8>, variable: &Variable, value: &Value) -> Result<(), Memory>
+    ensures { OnOk result (out.new.items ≡ out.old.items ++ value_line variable.now value.now) }
+{
+    put(out, b"  ")?;
+    put(out, variable.name.as_slice())?;
+    put(out, b" = ")?;
+    put_value_text(out, value)?;
+    put(out, b"\n")?;
+    Ok(())
+}
+
+/// A line for each variable, with its value.
+fn put_values(
+    out: &mut Vec<u8>,
+    variables: &List<Variable>,
+    values: &List<Value>,
+) -> Result<(), Memory>
+    ensures { OnOk result (out.new.items ≡ out.old.items ++ value_lines variables.now values.now) }
+{
+    for at in 0..variables.len().min(values.len()) {
+        put_value(out, variables.get(at), values.get(at))?;
+    }
+    Ok(())
+}
+
+/// The lines of values that violate a condition.
+fn put_counter(
+    alloc: Global,
+    out: &mut Vec<u8>,
+    src: &Layered,
+    condition: &Condition,
+    counter: &Counter,
+) -> Result<(), Memory>
+    ensures { OnOk result (out.new.items ≡ out.old.items ++ value_lines (variables src.now condition.now) counter.now.values) }
+{
+    let variables = variables_of(alloc, src, condition)?;
+    put_values(out, &variables, &counter.values)?;
+    Ok(())
+}
+
+/// The lines of a condition: what is found of it, and the values where it fails.
+fn put_found(
+    alloc: Global,
+    out: &mut Vec<u8>,
+    src: &Layered,
+    budget: u32,
+    condition: &Condition,
+    found: &Found,
+) -> Result<(), Memory>
+    ensures { OnOk result (out.new.items ≡ out.old.items ++ found_lines src.now budget condition.now found.now) }
+{
+    let name = name(alloc, src, condition)?;
+    put(out, name.as_slice())?;
+    match found {
+        Found::Holds => put(out, b": holds\n"),
+        Found::Fails(counter) => {
+            put(out, b": fails\n")?;
+            put_counter(alloc, out, src, condition, counter)?;
+            Ok(())
+        }
+        Found::Undecided(_) => put_undecided(out, budget),
+    }
+}
+
+/// The lines of all conditions, in their order.
+fn put_findings(
+    alloc: Global,
+    out: &mut Vec<u8>,
+    src: &Layered,
+    budget: u32,
+    conditions: &List<Condition>,
+    findings: &List<Found>,
+) -> Result<(), Memory>
+    ensures { OnOk result (out.new.items ≡ out.old.items ++ findings_lines src.now budget conditions.now findings.now) }
+{
+    for at in 0..conditions.len().min(findings.len()) {
+        put_found(
+            alloc,
+            out,
+            src,
+            budget,
+            conditions.get(at),
+            findings.get(at),
+        )?;
+    }
+    Ok(())
+}
+
+/// The last line: how many conditions hold, how many fail, and how many are undecided.
+fn put_count(out: &mut Vec<u8>, findings: &List<Found>) -> Result<(), Memory>
+    ensures { OnOk result (out.new.items ≡ out.old.items ++ count_line findings.now) }
+{
+    put_number(out, count(Kind::Holds, findings.as_slice()))?;
+    put(out, b" hold, ")?;
+    put_number(out, count(Kind::Fails, findings.as_slice()))?;
+    put(out, b" fail, ")?;
+    put_number(out, count(Kind::Undecided, findings.as_slice()))?;
+    put(out, b" undecided\n")?;
+    Ok(())
+}
+
+/// What is reported of a program and a survey of its conditions under a budget: what the search for an initial store came to; then
+/// for each condition, in the order of the list, what is found of it, and under a condition that fails a line for each of its
+/// variables; and last how many conditions hold, fail and are undecided. Where no store is initial, it is the refusal that says so.
+///
+/// # Errors
+///
+/// For want of memory.
+pub fn report_survey(
+    alloc: Global,
+    src: &Layered,
+    budget: u32,
+    survey: &Survey,
+) -> Result<Vec<u8>, Memory>
+    ensures { IfOk result (λ out. out.items ≡ survey_text src.now budget survey.now) }
+{
+    let mut out = Vec::new(alloc);
+    match survey {
+        Survey::NoInitial => {
+            put_no_initial(&mut out, src)?;
+            Ok(out)
+        }
+        Survey::Findings(initial, findings) => {
+            let conditions = listed(alloc, src)?;
+            put_initial(&mut out, budget, initial)?;
+            put_findings(alloc, &mut out, src, budget, &conditions, findings)?;
+            put_count(&mut out, findings)?;
+            Ok(out)
+        }
+    }
+}
