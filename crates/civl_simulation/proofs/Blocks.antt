@@ -33,7 +33,7 @@ use Rattle.civl_blocks.specs.Shadow.{Shadowed, merged, seen, shadowed_step, shad
 use Rattle.civl_meetings.specs.Meets.{behind, WasCalled, beside, FrameMeets, ThreadMeets, MeetsBeside}
 use Rattle.civl_meetings.proofs.Above.{called_instead}
 use Rattle.civl_meetings.proofs.Frames.{framed}
-use Rattle.civl_simulation.specs.Refined.{Sight, IsRefined, sight, sight_before, last_frame, BlockIsRefined}
+use Rattle.civl_refined.specs.Refined.{Sight, IsRefined, sight, sight_before, last_frame, BlockIsRefined}
 use Rattle.civl_simulation.proofs.Shadows.{shadowed_more, done_other}
 use Rattle.civl_simulation.proofs.Steps.{Made, made}
 use Rattle.civl_simulation.proofs.Along.{OthersSame, StandsIn, HasLeft, GoesTo, inside_step, behind_none, none_inside, opens, first_step}

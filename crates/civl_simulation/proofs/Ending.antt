@@ -33,7 +33,7 @@ use Rattle.civl_standing.specs.Blocks.{inside}
 use Rattle.civl_standing.specs.Reduces.{plain_config, layer_threads}
 use Rattle.civl_meetings.specs.Meets.{behind}
 use Rattle.civl_meetings.proofs.Above.{Instead}
-use Rattle.civl_simulation.specs.Refined.{Sight, Acts, IsRefined}
+use Rattle.civl_refined.specs.Refined.{Sight, Acts, IsRefined}
 use Rattle.civl_simulation.proofs.Pairs.{get_other, get_same}
 use Rattle.civl_simulation.proofs.Steps.{makes, Fires, calls_so}
 use Rattle.civl_simulation.proofs.Acting.{same_gate, fires_too}

@@ -26,7 +26,7 @@ use Rattle.civl_standing.specs.Reduces.{Challenged, plain_move, plain_config, la
 use Rattle.civl_blocks.specs.Cuts.{frame_in, frame_at}
 use Rattle.civl_blocks.specs.Shadow.{Shadowed, seen, shadowed_step, shadowed_from, shadowed_start, shadowed}
 use Rattle.civl_meetings.specs.Meets.{FrameMeets, ThreadMeets, MeetsBeside}
-use Rattle.civl_simulation.specs.Refined.{Sight, sight, sight_before, BlockIsRefined}
+use Rattle.civl_refined.specs.Refined.{Sight, sight, sight_before, BlockIsRefined}
 use Rattle.civl_simulation.proofs.Shadows.{shadowed_more, shadowed_append}
 use Rattle.civl_simulation.proofs.Steps.{Made, made}
 use Rattle.civl_simulation.proofs.Along.{OthersSame, StandsIn, GoesTo, inside_step, opens, first_step}

@@ -39,7 +39,8 @@ use Rattle.civl_blocks.specs.Cuts.{frame_in, frame_at}
 use Rattle.civl_blocks.specs.Shadow.{Shadowed, merged_values, merged, seen, shadowed_step, shadowed_from, shadowed_start, shadowed}
 use Rattle.civl_blocks.specs.Challenged.{challenged}
 use Rattle.civl_meetings.specs.Meets.{ThreadMeets, MeetsBeside, Meets}
-use Rattle.civl_simulation.specs.Refined.{BlockIsRefined, BlocksAreSound}
+use Rattle.civl_refined.specs.Refined.{BlockIsRefined}
+use Rattle.civl_simulation.specs.Sound.{BlocksAreSound}
 use Rattle.civl_simulation.specs.Followed.{LayerIsFollowed, CheckedLayersAreFollowed, LayersAreSound, IsAccepted, AcceptedPreserve}
 use Rattle.civl_simulation.proofs.Outside.{meets_same}
 use Rattle.civl_simulation.proofs.Failing.{challenged_fail, outside_fail}

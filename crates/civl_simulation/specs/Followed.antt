@@ -21,7 +21,7 @@ use Rattle.civl_standing.specs.Reduces.{plain_move, plain_config, layer_threads,
 use Rattle.civl_checked.specs.Checked.{AllHold, IsChecked}
 use Rattle.civl_blocks.specs.Challenged.{challenged}
 use Rattle.civl_meetings.specs.Meets.{Meets}
-use Rattle.civl_simulation.specs.Refined.{BlocksAreSound}
+use Rattle.civl_simulation.specs.Sound.{BlocksAreSound}
 
 -- block runs of a layer's program, from this store, are followed by runs of the program of the next layer
 abbrev pub LayerIsFollowed : Program → ℕ → Store → Type 0

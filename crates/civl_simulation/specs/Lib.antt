@@ -1,2 +1,2 @@
-pub mod Refined
+pub mod Sound
 pub mod Followed

@@ -1,7 +1,7 @@
 -- What blocks of a layer's procedures have to be, so that the program of the layer follows them: each is no step of it, or one of
 -- the refined action. (Refinement by blocks between yields: Hawblitzel, Petrank, Qadeer, Tasiran, CAV 2015; Kragl, Qadeer, CAV
 -- 2018; stuttering: Abadi, Lamport, The existence of refinement mappings, 1991.)
-use Rattle.std.specs.Prelude.{ℕ, ◌+◌, ◌≡◌, Bool, true, false, List, [], ◌∷◌, ◌++◌, map, Option, None, Some, slice_get, IsTrue, All}
+use Rattle.std.specs.Prelude.{ℕ, ◌+◌, ◌≡◌, Bool, true, false, List, [], Option, None, Some, IsTrue, All}
 use Rattle.civl_bits.specs.Value.{IsValue}
 use Rattle.civl_bits.specs.declared.value.Value.{Value}
 use Rattle.civl_tree.specs.declared.action.Action.{Action}
@@ -11,17 +11,11 @@ use Rattle.civl_firing.specs.declared.store.Store.{Store}
 use Rattle.civl_firing.specs.Stores.{IsStore}
 use Rattle.civl_firing.specs.Fired.{gate_holds, choices_fit, fires}
 use Rattle.civl_meaning.specs.declared.config.Activation.{Activation}
-use Rattle.civl_meaning.specs.declared.config.Running.{Running}
 use Rattle.civl_meaning.specs.Change.{outs_in}
 use Rattle.civl_footprints.specs.Agreement.{StoresAgree, exists_at}
 use Rattle.civl_conditions.specs.Assumed.{refined_action, inputs_of}
-use Rattle.civl_interleavings.specs.Runs.{Staged, Opens}
-use Rattle.civl_interleavings.specs.Threads.{Config, Move, fails_in}
-use Rattle.civl_exchanges.specs.Interleavings.{Chosen}
-use Rattle.civl_standing.specs.Reduces.{plain_move, layer_threads, layer_system, SafeInside, EndsInside}
 use Rattle.civl_blocks.specs.Cuts.{frame_at}
-use Rattle.civl_blocks.specs.Shadow.{Shadowed, shadowed, seen}
-use Rattle.civl_blocks.specs.Challenged.{challenged}
+use Rattle.civl_blocks.specs.Shadow.{Shadowed, seen}
 
 -- what the program of the layer sees of a thread in a procedure: the store, whether a commit was passed, and the outputs
 pub record Sight : Type 0 where
@@ -70,30 +64,3 @@ pub record BlockIsRefined (program : Program) (layer : ℕ) (from last to : Shad
   pub refined : (f : Proc × Activation) → last_frame (frame_at program (layer + 1) to.config.threads t) (frame_at program (layer + 1) last.config.threads t) ≡ Some f
       → IsRefined program (layer + 1) f.0 (inputs_of f.0 f.1.locals) (sight_before program layer from t (frame_at program (layer + 1) from.config.threads t)) (sight program layer to t f)
   pub exit : (f : Proc × Activation) → frame_at program (layer + 1) to.config.threads t ≡ None → frame_at program (layer + 1) last.config.threads t ≡ Some f → to.shadow.done t ≡ true
-
--- ---- along block runs
-
--- each block, or step outside the layer's procedures, behind a block run that isn't challenged
-abbrev pub BlocksAreRefined : Program → ℕ → Store → Type 0
-BlocksAreRefined program layer store =
-    (moves block : List (Move Chosen)) (last : Move Chosen) (from before to : Config Store Running)
-    → Staged (layer_system program layer store (challenged program layer store)) moves None from
-    → Opens (layer_system program layer store (challenged program layer store)) last.thread block from before
-    → (layer_system program layer store (challenged program layer store)).step before last ≡ Some to
-    → (layer_system program layer store (challenged program layer store)).inside to last.thread ≡ false
-    → BlockIsRefined program layer (shadowed program layer store (map plain_move moves)) (shadowed program layer store (map plain_move (moves ++ block)))
-    (shadowed program layer store (map plain_move (moves ++ (block ++ last ∷ [])))) last.thread
-
--- behind such a run a thread that stands in a procedure of the layer doesn't fail
-abbrev pub SafeBetween : Program → ℕ → Store → Type 0
-SafeBetween program layer store =
-    (moves : List (Move Chosen)) (config : Config Store Running) (t : ℕ) (f : Proc × Activation)
-    → Staged (layer_system program layer store (challenged program layer store)) moves None config
-    → frame_at program (layer + 1) config.threads t ≡ Some f → fails_in (layer_threads program layer store) config.store (slice_get config.threads t) ≡ false
-
--- all that is asked of the blocks of a layer's procedures, in runs from this store
-pub record BlocksAreSound (program : Program) (layer : ℕ) (store : Store) : Type 0 where
-  pub safe_inside : SafeInside program layer store (challenged program layer store)
-  pub ends_inside : EndsInside program layer store (challenged program layer store)
-  pub safe_between : SafeBetween program layer store
-  pub refined : BlocksAreRefined program layer store
