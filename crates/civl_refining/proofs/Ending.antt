@@ -26,7 +26,6 @@ use Rattle.civl_pauses.proofs.Apart.{run_is_kept, known}
 use Rattle.civl_staged.specs.Opened.{BlockIsOpen, StandsThere, IsReached}
 use Rattle.civl_staged.proofs.Ahead.{yield_ahead}
 use Rattle.civl_staged.proofs.Noting.{locals_stay}
-
 use Rattle.std.proofs.Common.{length}
 use Rattle.civl_tree.specs.declared.program.Proc.{Proc}
 use Rattle.civl_firing.specs.Stores.{IsStore}

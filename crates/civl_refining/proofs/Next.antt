@@ -44,7 +44,6 @@ use Rattle.civl_calm.proofs.Outside.{done_other}
 use Rattle.civl_staged.specs.Opened.{BlockIsOpen, StandsThere, stepped, IsReached}
 use Rattle.civl_staged.proofs.Noting.{bare, led_alike}
 use Rattle.civl_staged.proofs.Old.{is_old, led_old, merged_itself, merged_is_old}
-
 use Rattle.civl_staged.proofs.Next.{next_kept, done_own}
 use Rattle.civl_conditions.specs.Assumed.{inputs_of}
 use Rattle.civl_refined.specs.Refined.{Sight, IsRefined}

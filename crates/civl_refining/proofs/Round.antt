@@ -65,7 +65,6 @@ use Rattle.civl_staged.proofs.Noting.{locals_stay}
 use Rattle.civl_staged.proofs.Concluding.{sound}
 use Rattle.civl_staged.proofs.Forms.{no_yield, not_yield_loop, head_skips, back_outside}
 use Rattle.civl_staged.proofs.Stepping.{same_layer, set_same, top, h, stacked, is_topmost, changed, now}
-
 use Rattle.civl_conditions.specs.Assumed.{inputs_of}
 use Rattle.civl_staged.proofs.Round.{one_apart}
 use Rattle.civl_refined.specs.Refined.{Sight, IsRefined, sight}

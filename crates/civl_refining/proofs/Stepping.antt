@@ -56,7 +56,6 @@ use Rattle.civl_staged.specs.Opened.{BlockIsOpen, stepped, IsReached}
 use Rattle.civl_staged.proofs.Noting.{bare}
 use Rattle.civl_staged.proofs.Concluding.{sound}
 use Rattle.civl_staged.proofs.Forms.{IsOwn, own_step}
-
 use Rattle.civl_conditions.specs.Assumed.{inputs_of}
 use Rattle.civl_staged.proofs.Stepping.{set_same, framed_there, same_layer}
 use Rattle.civl_refined.specs.Refined.{Sight, IsRefined}
