@@ -1,0 +1,4 @@
+pub mod Aiming
+pub mod Ending
+pub mod Framing
+pub mod Arranged

@@ -1,0 +1,5 @@
+pub mod Others
+pub mod Kept
+pub mod Losing
+pub mod Kinds
+pub mod Making
