@@ -1,0 +1,4 @@
+pub mod Listed
+pub mod Asking
+pub mod Modes
+pub mod Making

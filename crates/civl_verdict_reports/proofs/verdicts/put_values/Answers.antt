@@ -1,0 +1,15 @@
+use Rattle.std.proofs.Common.{append-nil, arith}
+use Rattle.std.proofs.lemmas.Grind.{common_steps}
+use Rattle.civl_verdict_reports.specs.Verdicts.{value_line}
+use Rattle.civl_reports.proofs.Beside.{beside-drop, beside-past}
+use Rattle.civl_verdict_reports.proofs.verdicts.put_values.Goals as goal
+
+pub loop-at-preserved : goal.loop-at-preserved
+loop-at-preserved c =
+    let next = beside-drop value_line c.args.variables.now c.args.values.now c.loop-at.at c.get.result.now c.get-in-loop-at.result.now (omega arith) (omega arith) c.get.ensures c.get-in-loop-at.ensures in
+    grind (arith, common_steps, next)
+
+pub returns : goal.returns
+returns c =
+    let done = beside-past value_line c.args.variables.now c.args.values.now c.loop-at.at (omega arith) in
+    grind (arith, common_steps, append-nil, done)
