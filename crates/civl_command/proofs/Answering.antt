@@ -1,5 +1,5 @@
 -- Each input calls for some outcome under each command.
-use Rattle.std.proofs.Common.{◌≡◌, ℕ, ◌<◌, ◌≤◌, ◌⊎◌, inl, inr, Bool, true, false, List, length, refl, sym, ◌∙◌, Result, Ok, Err}
+use Rattle.std.proofs.Common.{◌≡◌, ℕ, ◌<◌, ◌≤◌, ◌⊎◌, inl, inr, Bool, true, false, List, ◌++◌, length, refl, sym, ◌∙◌, Result, Ok, Err}
 use Rattle.std.specs.Prelude.{Option, None, Some, IsTrue}
 use Rattle.std.proofs.lemmas.Bool.{true≢false, cases_lt}
 use Rattle.civl_tree.specs.declared.program.Program.{Program}
@@ -14,15 +14,23 @@ use Rattle.civl_script.specs.Schedules.{IsSchedule}
 use Rattle.civl_script.specs.declared.schedule.Schedule.{Schedule}
 use Rattle.civl_script.specs.declared.schedule.Schedule.TheVariants.{Fits, Wrong}
 use Rattle.civl_script.proofs.Deciding.{schedules_exist}
+use Rattle.civl_tree.specs.rules.Typing.{typing_rules}
+use Rattle.civl_layers.specs.LayerRules.{layer_rules}
+use Rattle.civl_verify.specs.Admitted.{admission_rules}
+use Rattle.civl_verify.proofs.Admitting.{keeps_first}
+use Rattle.civl_conditions.specs.declared.condition.Condition.{Condition as Formula}
+use Rattle.civl_conditions.specs.Weights.{heavy}
+use Rattle.civl_findings.proofs.Surveying.{each_program_has_a_survey}
+use Rattle.civl_words.specs.Words.{budget_of}
+use Rattle.civl_words.specs.declared.words.Command.{Command}
+use Rattle.civl_words.specs.declared.words.Command.TheVariants.{Check, Conditions, Fmt, RunLow, RunTop}
 use Rattle.civl_flag.specs.FlagForm.{is_flag_form}
 use Rattle.civl_flag.proofs.Deciding.{some_verdict}
 use Rattle.civl_command.specs.Rules.{static_refusal, IsLawful, IsTaken}
 use Rattle.civl_command.specs.Texts.{IsReading, IsScriptReading}
-use Rattle.civl_command.specs.Outcome.{Outcome, TooLong, Unread, Untaken, Broken, Judged, Printed, Misfit, Ran, Checks, Runs, ChecksRead, PrintsRead, RunsRead, Finds, FindsBy, CallsFor, limit}
+use Rattle.civl_command.specs.Outcome.{Outcome, TooLong, Unread, Untaken, Broken, Judged, Heavy, Surveyed, Printed, Misfit, Ran, Checks, Surveys, Runs, ChecksRead, SurveysRead, PrintsRead, RunsRead, Finds, FindsBy, CallsFor, limit}
 use Rattle.civl_command.specs.Laws.{EachInputIsAnswered}
 use Rattle.civl_command.specs.declared.reader.Fault.{Fault}
-use Rattle.civl_command.specs.declared.words.Command.{Command}
-use Rattle.civl_command.specs.declared.words.Command.TheVariants.{Check, Fmt, RunLow, RunTop}
 use Rattle.civl_command.proofs.Lawful.{taken_is_flag, text_numbered}
 use Rattle.civl_command.proofs.Reading.{some_reading, some_script_reading}
 
@@ -49,6 +57,21 @@ check_by program false numbered e = (Untaken, λ form. true≢false (sym form �
 some_check : (input : List ℕ) (reading : Result Program Fault) → length input ≤ limit → IsReading input reading → Has (ChecksRead reading)
 some_check input (Ok program) short read = check_by program (is_flag_form program) (text_numbered input program read.0 short) refl
 some_check input (Err fault) short read = (Unread fault, refl)
+
+-- what is found of its conditions
+survey_light : (budget : ℕ) (program : Program) (first : Option (Option Formula)) → IsLawful program → heavy program ≡ first → Has (Surveys budget program)
+survey_light budget program (Some first) rules e = (Heavy program first, (refl, rules, e))
+survey_light budget program None rules e =
+    let found = each_program_has_a_survey program budget (keeps_first typing_rules (layer_rules ++ admission_rules) program rules) in
+    (Surveyed program budget found.0, (refl, refl, record { rules = rules; light = e; right = found.1 }))
+
+survey_by : (budget : ℕ) (program : Program) (refusal : Option Refusal) → static_refusal program ≡ refusal → Has (Surveys budget program)
+survey_by budget program (Some refusal) e = (Broken refusal, e)
+survey_by budget program None e = survey_light budget program (heavy program) (lawful program e) refl
+
+some_survey : (budget : ℕ) (reading : Result Program Fault) → Has (SurveysRead budget reading)
+some_survey budget (Ok program) = survey_by budget program (static_refusal program) refl
+some_survey budget (Err fault) = (Unread fault, refl)
 
 some_print : (reading : Result Program Fault) → Has (PrintsRead reading)
 some_print (Ok program) = (Printed program, refl)
@@ -86,6 +109,10 @@ some_found : (command : Command) (input : List ℕ) → length input ≤ limit �
 some_found Check input short =
     let read = some_reading input in
     let found = some_check input read.0 short read.1 in
+    (found.0, record { short = short; reading = read.0; read = read.1; says = found.1 })
+some_found (Conditions told) input short =
+    let read = some_reading input in
+    let found = some_survey (budget_of told) read.0 in
     (found.0, record { short = short; reading = read.0; read = read.1; says = found.1 })
 some_found Fmt input short =
     let read = some_reading input in

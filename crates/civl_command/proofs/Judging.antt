@@ -1,11 +1,11 @@
 -- From what is found of a program or a script to what is found of its text, and from there to what was read.
 use Rattle.std.proofs.Common.{◌≡◌, ℕ, ◌≤◌, ◌⊎◌, inl, inr, List, length, refl, sym, subst, Result}
-use Rattle.civl_command.specs.Words.{words_of}
+use Rattle.civl_words.specs.Words.{AreWordsOf}
+use Rattle.civl_words.specs.declared.words.Command.{Command}
 use Rattle.civl_command.specs.Outcome.{Outcome, TooLong, Finds, FindsBy, status_of, report_of, limit}
 use Rattle.civl_command.specs.Judge.{ReadState, ReadsPast, ReadsText, WantsMemory, Answers, Judges}
 use Rattle.civl_command.specs.declared.reader.Fault.{Fault}
 use Rattle.civl_command.specs.declared.status.Status.{Status}
-use Rattle.civl_command.specs.declared.words.Command.{Command}
 
 module _ (status : Status) (report : List ℕ) where
   abbrev pub Gives : (Outcome → Type 0) → Type 0
@@ -27,7 +27,7 @@ module _ (status : Status) (report : List ℕ) where
   of_one says one h (inl a) = inl (record { outcome = a.outcome; says_so = subst says (sym a.says_so) h; status_is = a.status_is; report_is = a.report_is })
   of_one says one h (inr wants) = inr wants
 
-module _ (words : List (List ℕ)) (command : Command) (before after : ReadState) (report : List ℕ) (words_are : words ≡ words_of command) where
+module _ (words : List (List ℕ)) (command : Command) (before after : ReadState) (report : List ℕ) (words_are : AreWordsOf command words) where
   -- an input that was read past the limit
   pub long_judged : ReadsPast before after → report ≡ report_of TooLong → Judges words before after (status_of TooLong) report
   long_judged past is = inl (record { command = command; words_are = words_are; outcome = TooLong; reads = inl (refl, past); status_is = refl; report_is = is })

@@ -1,6 +1,7 @@
 -- What a lawful program is, and that a text spells a program whose parts have numbers.
 use Rattle.std.proofs.Common.{ℕ, ◌+◌, ◌<◌, ◌≤◌, ◌^◌, List, ◌++◌, length, arith}
-use Rattle.std.specs.Prelude.{Option}
+use Rattle.std.specs.Prelude.{Option, IsTrue}
+use Rattle.civl_tree.specs.SpellingDomain.{allows_program}
 use Rattle.civl_tree.specs.declared.program.Program.{Program}
 use Rattle.civl_tree.specs.declared.refusal.Refusal.{Refusal}
 use Rattle.civl_tree.specs.declared.refusal.Refused.{Refused}
@@ -34,6 +35,10 @@ taken_is_flag program taken numbered =
 
 pub text_numbered : (bytes : List ℕ) (program : Program) → SpellsProgram bytes program → length bytes ≤ limit → IsNumbered program
 text_numbered bytes program h short = text_numbers bytes h.spells.tokens program h.spells.has h.spells.spelled short
+
+-- a program that a text spells is one that a text can spell
+pub text_written : (bytes : List ℕ) (program : Program) → SpellsProgram bytes program → IsTrue (allows_program program)
+text_written bytes program h = h.spells.spelled.0
 
 pub script_numbered : (bytes : List ℕ) (script : Script) → SpellsScript bytes script → length bytes ≤ limit → IsNumbered script.program
 script_numbered bytes script h short = script_numbers bytes h.spells.tokens script h.spells.has h.spells.spelled short

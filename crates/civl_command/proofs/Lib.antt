@@ -6,3 +6,4 @@ pub mod Promising
 pub mod Reading
 pub mod Judging
 pub mod Replaying
+pub mod Surveying

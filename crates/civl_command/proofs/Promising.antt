@@ -1,7 +1,7 @@
 -- From what each status says of the source and the sink, whatever they tell, to what is promised where they tell their
 -- bytes.
-use Rattle.std.proofs.Common.{◌≡◌, ℕ, ◌<◌, ◌≤◌, ◌⊎◌, inl, inr, List, [], ◌++◌, length, length-append, append-nil, refl, sym, ap, ◌∙◌, subst, arith, Result, Ok, Err}
-use Rattle.std.specs.Prelude.{Option, None, Some, slice_index_or}
+use Rattle.std.proofs.Common.{◌≡◌, ℕ, ◌<◌, ◌≤◌, ◌⊎◌, inl, inr, List, [], ◌++◌, length, length-append, append-nil, refl, sym, ap, ap₂, ◌∙◌, subst, arith, Result, Ok, Err}
+use Rattle.std.specs.Prelude.{Option, None, Some}
 use Rattle.std.specs.Io.KnownBytes.{Appends, Consumes, IsAtEnd}
 use Rattle.civl_outside.specs.Count.{Rose, Stayed}
 use Rattle.civl_tree.specs.declared.program.Program.{Program}
@@ -9,22 +9,26 @@ use Rattle.civl_tree.specs.declared.script.Script.{Script}
 use Rattle.civl_meaning.specs.declared.config.Plain.{Plain}
 use Rattle.civl_meaning.specs.Layers.{lowest, topmost}
 use Rattle.civl_run.specs.declared.trace.Trace.{Trace}
+use Rattle.civl_verdicts.specs.declared.survey.Survey.{Survey}
+use Rattle.civl_verdicts.specs.declared.survey.Survey.TheVariants.{NoInitial as Nothing, Findings}
+use Rattle.civl_reports.proofs.Quiet.{never_accepts}
 use Rattle.civl_flag.specs.declared.condition.Counter.{Counter}
 use Rattle.civl_flag.specs.declared.condition.Verdict.TheVariants.{Accepted, Rejected as RejectedBy, NoInitial}
 use Rattle.civl_flag.proofs.Accepting.{accepted_is_preserved}
-use Rattle.civl_command.specs.Words.{words_of, AreTaken}
+use Rattle.civl_words.specs.Words.{AreWordsOf, AreTaken, budget_of}
+use Rattle.civl_words.specs.declared.words.Command.{Command}
+use Rattle.civl_words.specs.declared.words.Command.TheVariants.{Check, Conditions, Fmt, RunLow, RunTop}
+use Rattle.civl_words.proofs.Marks.{one_command}
 use Rattle.civl_command.specs.Texts.{IsReading, IsScriptReading, SpellsProgram}
-use Rattle.civl_command.specs.Outcome.{Outcome, TooLong, Unread, Untaken, Broken, Judged, Printed, Misfit, Ran, Checks, Runs, ChecksRead, PrintsRead, RunsRead, FindsBy, CallsFor, status_of, report_of, limit}
+use Rattle.civl_command.specs.Outcome.{Outcome, TooLong, Unread, Untaken, Broken, Judged, Heavy, Surveyed, Printed, Misfit, Ran, Checks, Surveys, Runs, ChecksRead, SurveysRead, PrintsRead, RunsRead, FindsBy, CallsFor, status_of, report_of, limit}
 use Rattle.civl_command.specs.Status.{code_of}
 use Rattle.civl_command.specs.Judge.{ReadState, WriteState, Reads, ReadsAll, JudgesInput, Fails, Judges, Explains}
-use Rattle.civl_command.specs.Promises.{Writes, ReadsAndWrites, Accepts, AcceptsRightly, Rejects, RejectsRightly, PrintsRightly, Replays, ReplaysRightly, RefusesRightly, Carries, AnswersAs, IsComplete}
+use Rattle.civl_command.specs.Promises.{Writes, ReadsAndWrites, Accepts, AcceptsRightly, Rejects, RejectsRightly, Tells, SurveysRightly, PrintsRightly, Replays, ReplaysRightly, RefusesRightly, Carries, AnswersAs, IsComplete}
 use Rattle.civl_command.specs.declared.reader.Fault.{Fault}
 use Rattle.civl_command.specs.declared.status.Status.{Status}
 use Rattle.civl_command.specs.declared.status.Status.TheVariants.{Done, Rejected, Undecided, Refused, ReadFault, WriteFault, Usage, Memory}
-use Rattle.civl_command.specs.declared.words.Command.{Command}
-use Rattle.civl_command.specs.declared.words.Command.TheVariants.{Check, Fmt, RunLow, RunTop}
 use Rattle.civl_command.proofs.Agreeing.{one_outcome}
-use Rattle.civl_command.proofs.Lawful.{taken_is_flag, text_numbered}
+use Rattle.civl_command.proofs.Lawful.{taken_is_flag, text_numbered, text_written}
 
 -- ---- the bytes that are told
 
@@ -64,6 +68,9 @@ outcome_code (Broken refusal) = omega arith
 outcome_code (Judged program (Accepted count)) = omega arith
 outcome_code (Judged program (RejectedBy counter)) = omega arith
 outcome_code (Judged program NoInitial) = omega arith
+outcome_code (Heavy program first) = omega arith
+outcome_code (Surveyed program budget Nothing) = omega arith
+outcome_code (Surveyed program budget (Findings initial findings)) = omega arith
 outcome_code (Printed program) = omega arith
 outcome_code (Misfit number) = omega arith
 outcome_code (Ran program trace) = omega arith
@@ -158,6 +165,8 @@ accepted_as input program (Judged judged (Accepted count)) short read says done 
 }
 accepted_as input program (Judged judged (RejectedBy counter)) short read says done = cc
 accepted_as input program (Judged judged NoInitial) short read says done = cc
+accepted_as input program (Heavy weighed first) short read says done = absurd says
+accepted_as input program (Surveyed told budget found) short read says done = absurd says
 accepted_as input program (Printed printed) short read says done = absurd says
 accepted_as input program (Misfit number) short read says done = absurd says
 accepted_as input program (Ran ran trace) short read says done = absurd says
@@ -185,6 +194,8 @@ rejected_as input program (Judged judged (RejectedBy counter)) read says is = re
   is = ap (λ (p : Program). Judged p (RejectedBy counter)) says.0;
 }
 rejected_as input program (Judged judged NoInitial) read says is = cc
+rejected_as input program (Heavy weighed first) read says is = absurd says
+rejected_as input program (Surveyed told budget found) read says is = absurd says
 rejected_as input program (Printed printed) read says is = absurd says
 rejected_as input program (Misfit number) read says is = absurd says
 rejected_as input program (Ran ran trace) read says is = absurd says
@@ -200,6 +211,8 @@ run_not_rejected plain_of script (Unread fault) says is = says
 run_not_rejected plain_of script Untaken says is = says
 run_not_rejected plain_of script (Broken refusal) says is = rejected_not_refused is
 run_not_rejected plain_of script (Judged judged verdict) says is = says
+run_not_rejected plain_of script (Heavy weighed first) says is = says
+run_not_rejected plain_of script (Surveyed told budget found) says is = says
 run_not_rejected plain_of script (Printed printed) says is = says
 run_not_rejected plain_of script (Misfit number) says is = rejected_not_refused is
 run_not_rejected plain_of script (Ran ran trace) says is = cc
@@ -213,8 +226,27 @@ print_read_not_rejected : (reading : Result Program Fault) (outcome : Outcome) �
 print_read_not_rejected (Ok program) outcome says is = let e : Rejected ≡ Done = is ∙ ap status_of says in cc
 print_read_not_rejected (Err fault) outcome says is = rejected_not_refused (fault_refused outcome fault Rejected says is)
 
+-- nor does `conditions`
+survey_not_rejected : (budget : ℕ) (program : Program) (outcome : Outcome) → Surveys budget program outcome → Rejected ≡ status_of outcome → ⊥
+survey_not_rejected budget program TooLong says is = says
+survey_not_rejected budget program (Unread fault) says is = says
+survey_not_rejected budget program Untaken says is = says
+survey_not_rejected budget program (Broken refusal) says is = rejected_not_refused is
+survey_not_rejected budget program (Judged judged verdict) says is = says
+survey_not_rejected budget program (Heavy weighed first) says is = rejected_not_refused is
+survey_not_rejected budget program (Surveyed judged told Nothing) says is = rejected_not_refused is
+survey_not_rejected budget program (Surveyed judged told (Findings initial findings)) says is = cc
+survey_not_rejected budget program (Printed printed) says is = says
+survey_not_rejected budget program (Misfit number) says is = says
+survey_not_rejected budget program (Ran ran trace) says is = says
+
+survey_read_not_rejected : (budget : ℕ) (reading : Result Program Fault) (outcome : Outcome) → SurveysRead budget reading outcome → Rejected ≡ status_of outcome → ⊥
+survey_read_not_rejected budget (Ok program) outcome says is = survey_not_rejected budget program outcome says is
+survey_read_not_rejected budget (Err fault) outcome says is = rejected_not_refused (fault_refused outcome fault Rejected says is)
+
 rejected_found : (command : Command) (input : List ℕ) (outcome : Outcome) → FindsBy command input outcome → Rejected ≡ status_of outcome → IsRejected input outcome
 rejected_found Check input outcome found is = rejected_read input found.reading outcome found.read found.says is
+rejected_found (Conditions told) input outcome found is = absurd (survey_read_not_rejected (budget_of told) found.reading outcome found.says is)
 rejected_found Fmt input outcome found is = absurd (print_read_not_rejected found.reading outcome found.says is)
 rejected_found RunLow input outcome found is = absurd (run_read_not_rejected lowest found.reading outcome found.says is)
 rejected_found RunTop input outcome found is = absurd (run_read_not_rejected topmost found.reading outcome found.says is)
@@ -240,6 +272,8 @@ replayed_as plain_of input script (Unread fault) read says done = absurd says
 replayed_as plain_of input script Untaken read says done = absurd says
 replayed_as plain_of input script (Broken refusal) read says done = absurd (done_not_refused done)
 replayed_as plain_of input script (Judged judged verdict) read says done = absurd says
+replayed_as plain_of input script (Heavy weighed first) read says done = absurd says
+replayed_as plain_of input script (Surveyed told budget found) read says done = absurd says
 replayed_as plain_of input script (Printed printed) read says done = absurd says
 replayed_as plain_of input script (Misfit number) read says done = absurd (done_not_refused done)
 replayed_as plain_of input script (Ran ran trace) read says done = record {
@@ -253,32 +287,32 @@ replayed_read : (plain_of : Program → Plain) (input : List ℕ) (reading : Res
 replayed_read plain_of input (Ok script) outcome read says done = replayed_as plain_of input script outcome read says done
 replayed_read plain_of input (Err fault) outcome read says done = absurd (done_not_refused (fault_refused outcome fault Done says done))
 
--- the first byte of the second word
-second : List (List ℕ) → ℕ
-second words = slice_index_or (slice_index_or words 1 []) 0 0
+record IsTold (input : List ℕ) (budget : ℕ) (outcome : Outcome) : Type 0 where
+  program : Program
+  survey : Survey
+  tells : Tells input budget program survey
+  is : outcome ≡ Surveyed program budget survey
 
-low_not_top : words_of RunLow ≡ words_of RunTop → ⊥
-unfolding second
-low_not_top e = let bytes : 108 ≡ 116 = ap second e in absurd (omega (arith, bytes))
+told_as : (input : List ℕ) (budget : ℕ) (program : Program) (outcome : Outcome) → IsReading input (Ok program) → Surveys budget program outcome → Done ≡ status_of outcome → IsTold input budget outcome
+told_as input budget program TooLong read says done = absurd says
+told_as input budget program (Unread fault) read says done = absurd says
+told_as input budget program Untaken read says done = absurd says
+told_as input budget program (Broken refusal) read says done = absurd (done_not_refused done)
+told_as input budget program (Judged judged verdict) read says done = absurd says
+told_as input budget program (Heavy weighed first) read says done = absurd (done_not_refused done)
+told_as input budget program (Surveyed judged told survey) read says done = record {
+  program = program;
+  survey = survey;
+  tells = record { spells = read.0; surveyed = says.2; never_accepts = never_accepts program budget survey (text_written input program read.0) };
+  is = ap₂ (λ (p : Program) (n : ℕ). Surveyed p n survey) says.0 says.1;
+}
+told_as input budget program (Printed printed) read says done = absurd says
+told_as input budget program (Misfit number) read says done = absurd says
+told_as input budget program (Ran ran trace) read says done = absurd says
 
--- no two commands have one list of words
-one_command : (words : List (List ℕ)) (first second : Command) → words ≡ words_of first → words ≡ words_of second → first ≡ second
-one_command words Check Check a b = refl
-one_command words Check Fmt a b = let e = sym a ∙ b in absurd cc
-one_command words Check RunLow a b = let e = sym a ∙ b in absurd cc
-one_command words Check RunTop a b = let e = sym a ∙ b in absurd cc
-one_command words Fmt Check a b = let e = sym a ∙ b in absurd cc
-one_command words Fmt Fmt a b = refl
-one_command words Fmt RunLow a b = let e = sym a ∙ b in absurd cc
-one_command words Fmt RunTop a b = let e = sym a ∙ b in absurd cc
-one_command words RunLow Check a b = let e = sym a ∙ b in absurd cc
-one_command words RunLow Fmt a b = let e = sym a ∙ b in absurd cc
-one_command words RunLow RunLow a b = refl
-one_command words RunLow RunTop a b = absurd (low_not_top (sym a ∙ b))
-one_command words RunTop Check a b = let e = sym a ∙ b in absurd cc
-one_command words RunTop Fmt a b = let e = sym a ∙ b in absurd cc
-one_command words RunTop RunLow a b = absurd (low_not_top (sym b ∙ a))
-one_command words RunTop RunTop a b = refl
+told_read : (input : List ℕ) (budget : ℕ) (reading : Result Program Fault) (outcome : Outcome) → IsReading input reading → SurveysRead budget reading outcome → Done ≡ status_of outcome → IsTold input budget outcome
+told_read input budget (Ok program) outcome read says done = told_as input budget program outcome read says done
+told_read input budget (Err fault) outcome read says done = absurd (done_not_refused (fault_refused outcome fault Done says done))
 
 -- a count that stayed didn't rise
 not_both : (before now : ℕ) → Stayed before now → Rose before now → ⊥
@@ -309,36 +343,43 @@ module _ (words : List (List ℕ)) (before after : ReadState) (sink sink_after :
 
   -- where the report was written whole, and no failure has this status
   judged_by : (status : Status) → (status ≡ WriteFault → ⊥) → (status ≡ Refused → ⊥) → ((report : List ℕ) → Fails words before after status report → ⊥) → Explains words before after sink sink_after status
-      → (input : List ℕ) → before.left ≡ Some input → (command : Command) × (words ≡ words_of command) × Judgement command input status
+      → (input : List ℕ) → before.left ≡ Some input → (command : Command) × AreWordsOf command words × Judgement command input status
   judged_by status no_fault some no_failure (inl (report, inl h, grown)) input told = (h.command, h.words_are, judgement status report input some told grown h)
   judged_by status no_fault some no_failure (inl (report, inr f, grown)) input told = absurd (no_failure report f)
   judged_by status no_fault some no_failure (inr h) input told = absurd (no_fault h.0)
 
-  done_by : Explains words before after sink sink_after Done → (input : List ℕ) → before.left ≡ Some input → (command : Command) × (words ≡ words_of command) × Judgement command input Done
+  done_by : Explains words before after sink sink_after Done → (input : List ℕ) → before.left ≡ Some input → (command : Command) × AreWordsOf command words × Judgement command input Done
   done_by e input told = judged_by Done (λ i. cc) done_not_refused (λ report f. f) e input told
 
-  pub accepts_by : Explains words before after sink sink_after Done → words ≡ words_of Check → AcceptsRightly before after sink sink_after
+  pub accepts_by : Explains words before after sink sink_after Done → AreWordsOf Check words → AcceptsRightly before after sink sink_after
   accepts_by e check input told =
       let h = done_by e input told in
       let found : Judgement Check input Done = subst (λ (c : Command). Judgement c input Done) (one_command words h.0 Check h.1 check) h.2 in
       let a = accepted_read input found.finds.reading found.outcome found.finds.short found.finds.read found.finds.says found.status_is in
       (a.program, a.count, a.accepts, subst (λ (o : Outcome). ReadsAndWrites after sink sink_after (report_of o)) a.is found.does)
 
-  pub prints_by : Explains words before after sink sink_after Done → words ≡ words_of Fmt → PrintsRightly before after sink sink_after
+  pub surveys_by : (told : Option ℕ) → Explains words before after sink sink_after Done → AreWordsOf (Conditions told) words → SurveysRightly (budget_of told) before after sink sink_after
+  surveys_by told e conditions input is =
+      let h = done_by e input is in
+      let found : Judgement (Conditions told) input Done = subst (λ (c : Command). Judgement c input Done) (one_command words h.0 (Conditions told) h.1 conditions) h.2 in
+      let t = told_read input (budget_of told) found.finds.reading found.outcome found.finds.read found.finds.says found.status_is in
+      (t.program, t.survey, t.tells, subst (λ (o : Outcome). ReadsAndWrites after sink sink_after (report_of o)) t.is found.does)
+
+  pub prints_by : Explains words before after sink sink_after Done → AreWordsOf Fmt words → PrintsRightly before after sink sink_after
   prints_by e fmt input told =
       let h = done_by e input told in
       let found : Judgement Fmt input Done = subst (λ (c : Command). Judgement c input Done) (one_command words h.0 Fmt h.1 fmt) h.2 in
       let p = printed_read input found.finds.reading found.outcome found.finds.read found.finds.says found.status_is in
       (p.program, p.spells, subst (λ (o : Outcome). ReadsAndWrites after sink sink_after (report_of o)) p.is found.does)
 
-  pub low_by : Explains words before after sink sink_after Done → words ≡ words_of RunLow → ReplaysRightly lowest before after sink sink_after
+  pub low_by : Explains words before after sink sink_after Done → AreWordsOf RunLow words → ReplaysRightly lowest before after sink sink_after
   low_by e low input told =
       let h = done_by e input told in
       let found : Judgement RunLow input Done = subst (λ (c : Command). Judgement c input Done) (one_command words h.0 RunLow h.1 low) h.2 in
       let r = replayed_read lowest input found.finds.reading found.outcome found.finds.read found.finds.says found.status_is in
       (r.script, r.trace, r.replays, subst (λ (o : Outcome). ReadsAndWrites after sink sink_after (report_of o)) r.is found.does)
 
-  pub top_by : Explains words before after sink sink_after Done → words ≡ words_of RunTop → ReplaysRightly topmost before after sink sink_after
+  pub top_by : Explains words before after sink sink_after Done → AreWordsOf RunTop words → ReplaysRightly topmost before after sink sink_after
   top_by e top input told =
       let h = done_by e input told in
       let found : Judgement RunTop input Done = subst (λ (c : Command). Judgement c input Done) (one_command words h.0 RunTop h.1 top) h.2 in
@@ -363,17 +404,17 @@ module _ (words : List (List ℕ)) (before after : ReadState) (sink sink_after :
   refuses_by (inl (report, inr f, grown)) input told = absurd f
   refuses_by (inr h) input told = let is = h.0 in absurd cc
 
-  module _ (command : Command) (input : List ℕ) (outcome : Outcome) (words_are : words ≡ words_of command) (told : before.left ≡ Some input) (calls : CallsFor command input outcome) (stayed : Stayed before.faults after.faults) where
+  module _ (command : Command) (input : List ℕ) (outcome : Outcome) (words_are : AreWordsOf command words) (told : before.left ≡ Some input) (calls : CallsFor command input outcome) (stayed : Stayed before.faults after.faults) where
     judged : (status : Status) (report : List ℕ) → Appends sink.bytes sink_after.bytes report → JudgesInput words before after status report → AnswersAs command input after sink sink_after status outcome ⊎ (status ≡ Memory)
     judged status report grown h =
         let reads = subst (λ (c : Command). Reads c before after h.outcome) (one_command words h.command command h.words_are words_are) h.reads in
         let found = called command before after sink sink_after input report told grown h.outcome reads in
         let agree = one_outcome command input h.outcome outcome found calls in
         inl (record {
-          status_is = h.status_is ∙ agree.status;
           found = h.outcome;
           calls = found;
-          heading = agree.heading;
+          status_is = h.status_is;
+          alike = agree;
           carries = carried command before after sink sink_after input report told grown h.outcome reads h.report_is;
         })
 

@@ -3,13 +3,13 @@ use Rattle.std.specs.Prelude.{◌≡◌, ℕ, ◌+◌, ◌⊎◌, List, [], leng
 use Rattle.std.specs.Io.KnownBytes.{Appends, Consumes, IsAtEnd}
 use Rattle.civl_outside.specs.Count.{Rose}
 use Rattle.civl_outside.specs.Sent.{AppendsPart}
-use Rattle.civl_command.specs.Words.{words_of, AreTaken}
+use Rattle.civl_words.specs.Words.{AreWordsOf, AreTaken}
+use Rattle.civl_words.specs.declared.words.Command.{Command}
 use Rattle.civl_command.specs.Outcome.{Outcome, TooLong, FindsBy, status_of, report_of, limit}
 use Rattle.civl_command.specs.Report.{line, bytes_of}
 use Rattle.civl_command.specs.declared.judge.Judged.{Judged}
 use Rattle.civl_command.specs.declared.status.Status.{Status}
 use Rattle.civl_command.specs.declared.status.Status.TheVariants.{ReadFault, WriteFault, Usage, Memory}
-use Rattle.civl_command.specs.declared.words.Command.{Command}
 
 -- a source before or after a call: the bytes still to come, where it tells them, and how often it failed
 pub record ReadState : Type 0 where
@@ -67,7 +67,7 @@ IsJudged says judged = Answers says judged.status (bytes_of judged.report) ⊎ W
 -- the words are a command's, and the status and the report are those of an outcome for which the input calls under it
 pub record JudgesInput (words : List (List ℕ)) (before after : ReadState) (status : Status) (report : List ℕ) : Type 0 where
   pub command : Command
-  pub words_are : words ≡ words_of command
+  pub words_are : AreWordsOf command words
   pub outcome : Outcome
   pub reads : Reads command before after outcome
   pub status_is : status ≡ status_of outcome

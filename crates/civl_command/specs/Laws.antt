@@ -1,12 +1,8 @@
 -- What follows from the definitions: under each command each input has one answer.
-use Rattle.std.specs.Prelude.{◌≡◌, ℕ, List}
-use Rattle.civl_command.specs.Outcome.{Outcome, CallsFor, status_of, heading_of}
-use Rattle.civl_command.specs.declared.words.Command.{Command}
-
--- two outcomes have one status, and their reports are the same but for the values that violate a condition
-pub record AreAlike (first second : Outcome) : Type 0 where
-  pub status : status_of first ≡ status_of second
-  pub heading : heading_of first ≡ heading_of second
+use Rattle.std.specs.Prelude.{ℕ, List}
+use Rattle.civl_words.specs.declared.words.Command.{Command}
+use Rattle.civl_command.specs.Outcome.{Outcome, CallsFor}
+use Rattle.civl_command.specs.Alike.{AreAlike}
 
 -- each list of numbers as the input calls for some outcome
 abbrev pub EachInputIsAnswered : Type 0

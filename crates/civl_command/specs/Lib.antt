@@ -1,11 +1,11 @@
 pub mod Status
-pub mod Words
 pub mod Report
 pub mod Texts
 pub mod Reader
 pub mod Rules
 pub mod Replay
 pub mod Outcome
+pub mod Alike
 pub mod Judge
 pub mod Promises
 pub mod Laws

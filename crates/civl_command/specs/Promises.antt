@@ -1,23 +1,27 @@
 -- What `command` promises where the source tells the bytes still to come and the sink those that it took.
-use Rattle.std.specs.Prelude.{◌≡◌, ◌≢◌, ℕ, ◌⊎◌, List, [], ◌++◌, Some}
+use Rattle.std.specs.Prelude.{◌≡◌, ◌≢◌, ℕ, ◌⊎◌, List, [], ◌++◌, codes, Some}
 use Rattle.civl_outside.specs.Count.{Stayed}
 use Rattle.civl_tree.specs.declared.program.Program.{Program}
 use Rattle.civl_tree.specs.declared.script.Script.{Script}
 use Rattle.civl_meaning.specs.declared.config.Plain.{Plain}
 use Rattle.civl_meaning.specs.Preserves.{Preserves}
 use Rattle.civl_run.specs.declared.trace.Trace.{Trace}
+use Rattle.civl_verdicts.specs.declared.survey.Survey.{Survey}
+use Rattle.civl_reports.specs.Lines.{HasLineThatBegins}
+use Rattle.civl_reports.specs.Findings.{survey_text}
+use Rattle.civl_words.specs.Words.{AreWordsOf}
+use Rattle.civl_words.specs.declared.words.Command.{Command}
 use Rattle.civl_flag.specs.Verdicts.{IsRight}
 use Rattle.civl_flag.specs.declared.condition.Counter.{Counter}
 use Rattle.civl_flag.specs.declared.condition.Verdict.TheVariants.{Accepted, Rejected as RejectedBy}
-use Rattle.civl_command.specs.Words.{words_of}
 use Rattle.civl_command.specs.Rules.{IsLawful, IsTaken}
 use Rattle.civl_command.specs.Texts.{SpellsProgram, SpellsScript}
-use Rattle.civl_command.specs.Outcome.{Outcome, TooLong, RunsBy, CallsFor, printed_text, status_of, report_of, heading_of}
+use Rattle.civl_command.specs.Outcome.{Outcome, TooLong, IsSurveyed, RunsBy, CallsFor, printed_text, status_of, report_of}
+use Rattle.civl_command.specs.Alike.{AreAlike}
 use Rattle.civl_command.specs.Judge.{ReadState, WriteState}
 use Rattle.civl_command.specs.Report.{accepted_text, rejected_text, run_text}
 use Rattle.civl_command.specs.declared.status.Status.{Status}
 use Rattle.civl_command.specs.declared.status.Status.TheVariants.{Refused, Memory}
-use Rattle.civl_command.specs.declared.words.Command.{Command}
 
 -- what was written grew by the report
 abbrev pub Writes : WriteState → WriteState → List ℕ → Type 0
@@ -56,6 +60,19 @@ RejectsRightly before after sink sink_after =
     (input : List ℕ) → before.left ≡ Some input →
     (program : Program) × (counter : Counter) × Rejects input program counter × ReadsAndWrites after sink sink_after (rejected_text program counter)
 
+-- The input spells exactly one program, which breaks no static rule and no formula of which weighs too much; this is found of its
+-- conditions under the budget; and no line of the report on it begins with `accepted`.
+pub record Tells (input : List ℕ) (budget : ℕ) (program : Program) (survey : Survey) : Type 0 where
+  pub spells : SpellsProgram input program
+  pub surveyed : IsSurveyed program budget survey
+  pub never_accepts : HasLineThatBegins (codes "accepted") (survey_text program budget survey) → ⊥
+
+-- Done under `conditions`: that is so of the input, and the report says it.
+abbrev pub SurveysRightly : ℕ → ReadState → ReadState → WriteState → WriteState → Type 0
+SurveysRightly budget before after sink sink_after =
+    (input : List ℕ) → before.left ≡ Some input →
+    (program : Program) × (survey : Survey) × Tells input budget program survey × ReadsAndWrites after sink sink_after (survey_text program budget survey)
+
 -- Done under `fmt`: the input spells exactly one program, and what was written grew by its canonical text.
 abbrev pub PrintsRightly : ReadState → ReadState → WriteState → WriteState → Type 0
 PrintsRightly before after sink sink_after =
@@ -84,22 +101,22 @@ pub record Carries (after : ReadState) (sink sink_after : WriteState) (outcome :
 abbrev pub RefusesRightly : List (List ℕ) → ReadState → ReadState → WriteState → WriteState → Type 0
 RefusesRightly words before after sink sink_after =
     (input : List ℕ) → before.left ≡ Some input →
-    (command : Command) × (words ≡ words_of command)
+    (command : Command) × AreWordsOf command words
     × (outcome : Outcome) × CallsFor command input outcome × (status_of outcome ≡ Refused) × Carries after sink sink_after outcome
 
--- the status is that of the outcome, and the report is that of an outcome for which the input calls; only in the values that
--- violate a condition may the two differ
+-- the status and the report are those of an outcome for which the input calls, and which is alike the given one: the two have one
+-- status and one report but for the values that violate a condition, or are surveys that don't speak against each other
 pub record AnswersAs (command : Command) (input : List ℕ) (after : ReadState) (sink sink_after : WriteState) (status : Status) (outcome : Outcome) : Type 0 where
-  pub status_is : status ≡ status_of outcome
   pub found : Outcome
   pub calls : CallsFor command input found
-  pub heading : heading_of found ≡ heading_of outcome
+  pub status_is : status ≡ status_of found
+  pub alike : AreAlike found outcome
   pub carries : Carries after sink sink_after found
 
 -- Where the words are a command's and nothing failed or stalled, the answer is the one that the input calls for, but for want
 -- of memory.
 abbrev pub IsComplete : List (List ℕ) → ReadState → ReadState → WriteState → WriteState → Status → Type 0
 IsComplete words before after sink sink_after status =
-    (command : Command) (input : List ℕ) (outcome : Outcome) → words ≡ words_of command → before.left ≡ Some input → CallsFor command input outcome →
+    (command : Command) (input : List ℕ) (outcome : Outcome) → AreWordsOf command words → before.left ≡ Some input → CallsFor command input outcome →
     Stayed before.faults after.faults → Stayed sink.faults sink_after.faults → Stayed sink.stalls sink_after.stalls →
     AnswersAs command input after sink sink_after status outcome ⊎ (status ≡ Memory)

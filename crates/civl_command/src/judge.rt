@@ -1,13 +1,13 @@
 // What the words and the input call for.
-ghost use Rattle.std.specs.Prelude.{◌≡◌, ◌≤◌, length, map, string_bytes, IsTrue};
+ghost use Rattle.std.specs.Prelude.{◌≡◌, ◌≤◌, ℕ, length, map, string_bytes, IsTrue, Option};
 ghost use Rattle.civl_tree.specs.Numbered.{IsNumbered};
+ghost use Rattle.civl_words.specs.Words.{AreWordsOf, AreTaken};
 ghost use Rattle.civl_flag.specs.FlagForm.{is_flag_form};
 ghost use Rattle.civl_command.specs.Rules.{IsLawful};
 ghost use Rattle.civl_command.specs.Texts.{IsReading, IsScriptReading};
 ghost use Rattle.civl_command.specs.Replay.{plain_for};
 ghost use Rattle.civl_command.specs.Outcome.{Unread, Untaken, Broken, Printed, Checks, ChecksRead, PrintsRead, RunsRead, Finds, FindsBy, verdict_status, limit};
 ghost use Rattle.civl_command.specs.Judge.{reading, IsJudged, Judges};
-ghost use Rattle.civl_command.specs.Words.{AreTaken};
 ghost use Rattle.civl_command.specs.Report.{bytes_of};
 
 use crate::admission::admitted;
@@ -15,13 +15,15 @@ use crate::reader::{Fault, Text, read_program, read_script};
 use crate::replay::{End, judge_script};
 use crate::report::{report_fault, report_refusal, report_verdict};
 use crate::status::Status;
-use crate::words::{Command, command_of};
+use crate::survey::survey_text;
 use civl_flag::{Verdict, decide, is_flag_form};
 use civl_layers::{Layered, program};
 use civl_outside::{Source, Whole, read_whole};
+use civl_portfolio::Prover;
 use civl_printer::print;
 use civl_tree::{Program, Refusal, Refused};
 use civl_verify::source;
+use civl_words::{Command, budget_of, command_of};
 use std::alloc::Global;
 
 /// The most bytes that an input may have.
@@ -137,7 +139,7 @@ fn check_program(alloc: Global, program: Program) -> Judged
 }
 
 /// What is written of the first fault of a text.
-fn judge_fault(alloc: Global, fault: Fault) -> Judged
+pub(crate) fn judge_fault(alloc: Global, fault: Fault) -> Judged
     ensures { IsJudged (λ outcome. outcome ≡ Unread fault) result }
 {
     let Ok(report) = report_fault(alloc, fault) else {
@@ -199,12 +201,19 @@ fn run_text(alloc: Global, end: End, bytes: &[u8]) -> Judged
 }
 
 /// What a command finds of a text, which is no longer than an input may be.
-fn judge_text(alloc: Global, command: Command, bytes: &[u8]) -> Judged
+fn judge_text(
+    alloc: Global,
+    command: Command,
+    bytes: &[u8],
+    provers: &mut Vec<Box<dyn Prover>>,
+) -> Judged
     requires { length bytes.now ≤ limit }
-    ensures { IsJudged (FindsBy command bytes.now) result }
+    ensures judged { IsJudged (FindsBy command bytes.now) result }
+    ensures unasked { ((told : Option ℕ) → command ≡ Command.Conditions told → ⊥) → provers.new ≡ provers.old }
 {
     match command {
         Command::Check => check_text(alloc, bytes),
+        Command::Conditions(told) => survey_text(alloc, budget_of(told), bytes, provers),
         Command::Fmt => print_text(alloc, bytes),
         Command::RunLow => run_text(alloc, End::Low, bytes),
         Command::RunTop => run_text(alloc, End::Top, bytes),
@@ -213,12 +222,18 @@ fn judge_text(alloc: Global, command: Command, bytes: &[u8]) -> Judged
 
 /// What the words and the input call for. The input is read where the words are a command's, and then to its end or
 /// to one byte past the limit.
-pub(crate) fn judge<S: Source>(alloc: Global, words: &Vec<String>, source: &mut S) -> Judged
+pub(crate) fn judge<S: Source>(
+    alloc: Global,
+    words: &Vec<String>,
+    source: &mut S,
+    provers: &mut Vec<Box<dyn Prover>>,
+) -> Judged
     ensures judges { Judges (map string_bytes words.now.items)
         (reading (S.left source.old) (S.faults source.old))
         (reading (S.left source.new) (S.faults source.new))
         result.status (bytes_of result.report) }
     ensures unread { (AreTaken (map string_bytes words.now.items) → ⊥) → source.new ≡ source.old }
+    ensures unasked { ((told : Option ℕ) → AreWordsOf (Command.Conditions told) (map string_bytes words.now.items) → ⊥) → provers.new ≡ provers.old }
 {
     let Some(command) = command_of(words) else {
         return Judged {
@@ -227,7 +242,7 @@ pub(crate) fn judge<S: Source>(alloc: Global, words: &Vec<String>, source: &mut 
         };
     };
     match read_whole(alloc, source, LIMIT) {
-        Whole::Bytes(bytes) => judge_text(alloc, command, bytes.as_slice()),
+        Whole::Bytes(bytes) => judge_text(alloc, command, bytes.as_slice(), provers),
         Whole::Long => Judged {
             status: Status::Refused,
             report: Report::Fixed(b"refused E01 over 1048576 bytes\n"),

@@ -1,14 +1,15 @@
 // The top call.
-ghost use Rattle.std.specs.Prelude.{◌≡◌, ◌⊎◌, map, string_bytes};
+ghost use Rattle.std.specs.Prelude.{◌≡◌, ◌⊎◌, ℕ, map, string_bytes, Option};
 ghost use Rattle.civl_meaning.specs.Layers.{lowest, topmost};
-ghost use Rattle.civl_command.specs.Words.{words_of, AreTaken};
+ghost use Rattle.civl_words.specs.Words.{AreWordsOf, AreTaken, budget_of};
 ghost use Rattle.civl_command.specs.Judge.{reading, writing, Explains};
-ghost use Rattle.civl_command.specs.Promises.{AcceptsRightly, PrintsRightly, ReplaysRightly, RejectsRightly, RefusesRightly, IsComplete};
+ghost use Rattle.civl_command.specs.Promises.{AcceptsRightly, SurveysRightly, PrintsRightly, ReplaysRightly, RejectsRightly, RefusesRightly, IsComplete};
 
 use crate::judge::judge;
 use crate::status::Status;
-use crate::words::Command;
 use civl_outside::{Sent, Sink, Source, write_all};
+use civl_portfolio::Prover;
+use civl_words::Command;
 use std::alloc::Global;
 
 /// Judges the words and the input, and writes the report.
@@ -17,6 +18,7 @@ fn respond<S: Source, K: Sink>(
     words: &Vec<String>,
     source: &mut S,
     sink: &mut K,
+    provers: &mut Vec<Box<dyn Prover>>,
 ) -> Status
     ensures explains { Explains (map string_bytes words.now.items)
         (reading (S.left source.old) (S.faults source.old))
@@ -26,8 +28,9 @@ fn respond<S: Source, K: Sink>(
         result }
     ensures unread { (AreTaken (map string_bytes words.now.items) → ⊥) → source.new ≡ source.old }
     ensures unwritten { (result ≡ Status.ReadFault) ⊎ (result ≡ Status.Memory) → sink.new ≡ sink.old }
+    ensures unasked { ((told : Option ℕ) → AreWordsOf (Command.Conditions told) (map string_bytes words.now.items) → ⊥) → provers.new ≡ provers.old }
 {
-    let judged = judge(alloc, words, source);
+    let judged = judge(alloc, words, source, provers);
     match write_all(sink, judged.report.as_slice()) {
         Sent::All => judged.status,
         Sent::Failed => Status::WriteFault,
@@ -38,17 +41,20 @@ fn respond<S: Source, K: Sink>(
 /// Does what the words after the program's name say: reads the input from the source, and writes one report to the
 /// sink.
 ///
-/// The words are `check`, `fmt`, `run low` or `run top`. Under `check` the program that the input spells is judged, under `fmt`
-/// its canonical text is written, and under `run` the schedule of a script is replayed on its lowest or its topmost program.
-/// The whole input is read before anything is written, up to 1,048,576 bytes and one more, and the report is made whole before
-/// its first byte is written.
+/// The words are `check`, `conditions`, `conditions --budget N`, `fmt`, `run low` or `run top`. Under `check` the program that the
+/// input spells is judged, under `conditions` it is told of each of its conditions whether it holds, under `fmt` its canonical text
+/// is written, and under `run` the schedule of a script is replayed on its lowest or its topmost program. N is a decimal number of at
+/// most 10,000,000 without leading zeros: so many clauses each search may learn, and 200,000 where the words don't say. The whole
+/// input is read before anything is written, up to 1,048,576 bytes and one more, and the report is made whole before its first byte
+/// is written. The provers are asked under `conditions` alone, in their order, and none is believed without its certificate; those
+/// that gave a false one are dropped.
 ///
 /// # Answers
 ///
-/// - [`Status::Done`]: the program is accepted, it was printed, or the schedule was replayed.
+/// - [`Status::Done`]: the program is accepted, its conditions were told, it was printed, or the schedule was replayed.
 /// - [`Status::Rejected`]: a condition of the program doesn't hold.
 /// - [`Status::Refused`]: the input is too long, or is no program or script; its program breaks a static rule, or `check` doesn't
-///   take it; no store is initial, or what a script says doesn't fit its program.
+///   take it; a formula weighs too much, no store is initial, or what a script says doesn't fit its program.
 /// - [`Status::Usage`]: the words are no command. Nothing is read, and the line on usage is written.
 /// - [`Status::ReadFault`]: the source failed. Nothing is written.
 /// - [`Status::WriteFault`]: the sink failed, or took nothing more. A first part of the report is written.
@@ -60,6 +66,7 @@ pub fn command<S: Source, K: Sink>(
     words: &Vec<String>,
     source: &mut S,
     sink: &mut K,
+    provers: &mut Vec<Box<dyn Prover>>,
 ) -> Status
     // What each status says of the words, of what was read and of what was written.
     ensures explains { Explains (map string_bytes words.now.items)
@@ -69,29 +76,35 @@ pub fn command<S: Source, K: Sink>(
         (writing (K.written sink.new) (K.faults sink.new) (K.stalls sink.new))
         result }
 
-    // Words that are no command leave the source as it is, even where the usage line can't be written; and a failed read and
-    // want of memory leave the sink.
+    // Words that are no command leave the source as it is, even where the usage line can't be written; a failed read and want of
+    // memory leave the sink; and words other than those of `conditions` leave the provers.
     ensures unread { (AreTaken (map string_bytes words.now.items) → ⊥) → source.new ≡ source.old }
     ensures unread_usage { result ≡ Status.Usage → source.new ≡ source.old }
     ensures unwritten { (result ≡ Status.ReadFault) ⊎ (result ≡ Status.Memory) → sink.new ≡ sink.old }
+    ensures unasked { ((told : Option ℕ) → AreWordsOf (Command.Conditions told) (map string_bytes words.now.items) → ⊥) → provers.new ≡ provers.old }
 
     // Where the source tells its bytes: what the statuses on a text say of the whole input.
-    ensures accepted { result ≡ Status.Done → map string_bytes words.now.items ≡ words_of Command.Check → AcceptsRightly
+    ensures accepted { result ≡ Status.Done → AreWordsOf Command.Check (map string_bytes words.now.items) → AcceptsRightly
         (reading (S.left source.old) (S.faults source.old))
         (reading (S.left source.new) (S.faults source.new))
         (writing (K.written sink.old) (K.faults sink.old) (K.stalls sink.old))
         (writing (K.written sink.new) (K.faults sink.new) (K.stalls sink.new)) }
-    ensures printed { result ≡ Status.Done → map string_bytes words.now.items ≡ words_of Command.Fmt → PrintsRightly
+    ensures surveyed { (told : Option ℕ) → result ≡ Status.Done → AreWordsOf (Command.Conditions told) (map string_bytes words.now.items) → SurveysRightly (budget_of told)
         (reading (S.left source.old) (S.faults source.old))
         (reading (S.left source.new) (S.faults source.new))
         (writing (K.written sink.old) (K.faults sink.old) (K.stalls sink.old))
         (writing (K.written sink.new) (K.faults sink.new) (K.stalls sink.new)) }
-    ensures low { result ≡ Status.Done → map string_bytes words.now.items ≡ words_of Command.RunLow → ReplaysRightly lowest
+    ensures printed { result ≡ Status.Done → AreWordsOf Command.Fmt (map string_bytes words.now.items) → PrintsRightly
         (reading (S.left source.old) (S.faults source.old))
         (reading (S.left source.new) (S.faults source.new))
         (writing (K.written sink.old) (K.faults sink.old) (K.stalls sink.old))
         (writing (K.written sink.new) (K.faults sink.new) (K.stalls sink.new)) }
-    ensures top { result ≡ Status.Done → map string_bytes words.now.items ≡ words_of Command.RunTop → ReplaysRightly topmost
+    ensures low { result ≡ Status.Done → AreWordsOf Command.RunLow (map string_bytes words.now.items) → ReplaysRightly lowest
+        (reading (S.left source.old) (S.faults source.old))
+        (reading (S.left source.new) (S.faults source.new))
+        (writing (K.written sink.old) (K.faults sink.old) (K.stalls sink.old))
+        (writing (K.written sink.new) (K.faults sink.new) (K.stalls sink.new)) }
+    ensures top { result ≡ Status.Done → AreWordsOf Command.RunTop (map string_bytes words.now.items) → ReplaysRightly topmost
         (reading (S.left source.old) (S.faults source.old))
         (reading (S.left source.new) (S.faults source.new))
         (writing (K.written sink.old) (K.faults sink.old) (K.stalls sink.old))
@@ -115,5 +128,5 @@ pub fn command<S: Source, K: Sink>(
         (writing (K.written sink.new) (K.faults sink.new) (K.stalls sink.new))
         result }
 {
-    respond(alloc, words, source, sink)
+    respond(alloc, words, source, sink, provers)
 }

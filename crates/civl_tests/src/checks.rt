@@ -21,7 +21,14 @@ check --budget
 check --budget 1
 check x
 Check
-conditions
+conditions x
+conditions --budget
+conditions --budget 10000001
+conditions --budget 007
+conditions --budget -1
+conditions --budget +1
+conditions --budget 1 1
+conditions --budget=1
 fmt fmt
 run
 run middle
@@ -45,7 +52,7 @@ fn unused(alloc: Global, lines: &str) -> Result<usize, Fail> {
 
 #[test]
 fn words_that_are_no_command(rt: HostRuntime) -> Result<(), Fail> {
-    assert_eq!(rt; unused(rt.alloc(), WORDS)?, 10);
+    assert_eq!(rt; unused(rt.alloc(), WORDS)?, 17);
     Ok(())
 }
 

@@ -3,6 +3,7 @@
 use crate::texts::{FLAG, words};
 use civl_command::{Status, command};
 use civl_outside::{MemorySink, MemorySource, PlainSink, PlainSource};
+use civl_portfolio::Prover;
 use std::alloc::Global;
 use std::test::Fail;
 
@@ -14,7 +15,8 @@ fn where_read_fails(alloc: Global, call: u64) -> Result<(Status, Vec<u8>), Fail>
     let text = FLAG.as_bytes().to_vec(alloc)?;
     let mut source = MemorySource::new(text, 16, [call].to_vec(alloc)?);
     let mut sink = PlainSink::new(alloc, 100)?;
-    let status = command(alloc, &words, &mut source, &mut sink);
+    let mut provers: Vec<Box<dyn Prover>> = Vec::new(alloc);
+    let status = command(alloc, &words, &mut source, &mut sink, &mut provers);
     Ok((status, sink.bytes().to_vec(alloc)?))
 }
 
@@ -23,7 +25,8 @@ fn where_write_fails(alloc: Global, call: u64) -> Result<(Status, Vec<u8>), Fail
     let words = words(alloc, &["check"])?;
     let mut source = PlainSource::new(FLAG.as_bytes().to_vec(alloc)?);
     let mut sink = MemorySink::new(alloc, 100, [call].to_vec(alloc)?)?;
-    let status = command(alloc, &words, &mut source, &mut sink);
+    let mut provers: Vec<Box<dyn Prover>> = Vec::new(alloc);
+    let status = command(alloc, &words, &mut source, &mut sink, &mut provers);
     Ok((status, sink.bytes().to_vec(alloc)?))
 }
 
@@ -32,7 +35,8 @@ fn where_room_is(alloc: Global, room: usize) -> Result<(Status, Vec<u8>), Fail> 
     let words = words(alloc, &["check"])?;
     let mut source = PlainSource::new(FLAG.as_bytes().to_vec(alloc)?);
     let mut sink = PlainSink::new(alloc, room)?;
-    let status = command(alloc, &words, &mut source, &mut sink);
+    let mut provers: Vec<Box<dyn Prover>> = Vec::new(alloc);
+    let status = command(alloc, &words, &mut source, &mut sink, &mut provers);
     Ok((status, sink.bytes().to_vec(alloc)?))
 }
 

@@ -26,6 +26,10 @@ mod rules;
 #[cfg(test)]
 mod schedules;
 #[cfg(test)]
+mod spinlocks;
+#[cfg(test)]
+mod surveys;
+#[cfg(test)]
 mod terms;
 #[cfg(test)]
 mod texts;

@@ -2,6 +2,7 @@
 
 use civl_command::{Status, command};
 use civl_outside::{PlainSink, PlainSource};
+use civl_portfolio::Prover;
 use std::alloc::{AllocError, Global};
 use std::test::Fail;
 
@@ -47,7 +48,8 @@ pub(crate) fn run(alloc: Global, all: &[&str], input: Vec<u8>) -> Result<(Status
     let words = words(alloc, all)?;
     let mut source = PlainSource::new(input);
     let mut sink = PlainSink::new(alloc, 10_000)?;
-    let status = command(alloc, &words, &mut source, &mut sink);
+    let mut provers: Vec<Box<dyn Prover>> = Vec::new(alloc);
+    let status = command(alloc, &words, &mut source, &mut sink, &mut provers);
     Ok((status, sink.bytes().to_vec(alloc)?))
 }
 
