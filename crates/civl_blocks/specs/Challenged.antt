@@ -15,7 +15,7 @@ use Rattle.civl_meaning.specs.Layers.{program_at}
 use Rattle.civl_conditions.specs.Assumed.{refined_action, inputs_of}
 use Rattle.civl_exchanges.specs.Doing.{Doing, doing}
 use Rattle.civl_exchanges.specs.Doing as does
-use Rattle.civl_standing.specs.Blocks.{framed_in, frame_of_layer, at_yield, rest_of}
+use Rattle.civl_blocks.specs.Blocks.{framed_in, frame_of_layer, at_yield, rest_of}
 use Rattle.civl_blocks.specs.Shadow.{Shadowed, seen, shadowed}
 
 -- the gate of the action that the procedure refines holds in this store, with the procedure's parameters as inputs

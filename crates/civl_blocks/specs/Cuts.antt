@@ -8,7 +8,7 @@ use Rattle.civl_tree.specs.declared.stmt.Stmt.TheOpen as stmt
 use Rattle.civl_meaning.specs.declared.config.Activation.{Activation}
 use Rattle.civl_meaning.specs.declared.config.Running.{Running}
 use Rattle.civl_meaning.specs.Rest.{Rest}
-use Rattle.civl_standing.specs.Blocks.{frame_of_layer}
+use Rattle.civl_blocks.specs.Blocks.{frame_of_layer}
 
 -- the topmost frame of the thread with this number, with its procedure, where that is of this layer
 abbrev pub frame_in : Program → ℕ → Option Running → Option (Proc × Activation)

@@ -1,4 +1,11 @@
+pub mod Blocks
+pub mod Ahead
+pub mod Stands
+pub mod Turns
+pub mod Reduces
 pub mod Cuts
 pub mod Shadow
 pub mod Challenged
+pub mod Merged
+pub mod Steady
 pub mod examples

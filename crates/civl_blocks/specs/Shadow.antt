@@ -17,7 +17,7 @@ use Rattle.civl_meaning.specs.Step.{start, step_of}
 use Rattle.civl_meaning.specs.Layers.{program_at}
 use Rattle.civl_paths.specs.Paths.{Course, Progress, committed, introduced}
 use Rattle.civl_paths.specs.Runs.{led}
-use Rattle.civl_standing.specs.Blocks.{at_yield, rest_of}
+use Rattle.civl_blocks.specs.Blocks.{at_yield, rest_of}
 use Rattle.civl_blocks.specs.Cuts.{frame_at, settled}
 
 pub record Shadow : Type 0 where

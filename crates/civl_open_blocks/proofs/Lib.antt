@@ -1,7 +1,4 @@
-pub mod Introducing
-pub mod Inputs
-pub mod Choices
-pub mod Going
-pub mod Opening
-pub mod Ending
-pub mod Cuts
+pub mod Following
+pub mod Ends
+pub mod Rounds
+pub mod Open

@@ -1,1 +1,4 @@
+pub mod Following
+pub mod Ends
+pub mod Rounds
 pub mod Open

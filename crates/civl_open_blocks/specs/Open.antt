@@ -41,8 +41,8 @@ use Rattle.civl_conditions.specs.Variables.{passed_choices}
 use Rattle.civl_conditions.specs.Values.{Begun}
 use Rattle.civl_conditions.specs.Assumed.{inputs_of, owned}
 use Rattle.civl_conditions.specs.Violated.{Holds}
-use Rattle.civl_block_ends.specs.Ends.{IsAssumed, Concludes}
-use Rattle.civl_following.specs.Following.{layer_head, cut_ahead, led_here, StandsAlike, Follows, frame_at, frame_does}
+use Rattle.civl_open_blocks.specs.Ends.{IsAssumed, Concludes}
+use Rattle.civl_open_blocks.specs.Following.{layer_head, cut_ahead, led_here, StandsAlike, Follows, frame_at, frame_does}
 
 -- ---- programs and threads
 

@@ -17,10 +17,10 @@ use Rattle.civl_yields.specs.YieldRules.{yield_rules}
 use Rattle.civl_interleavings.specs.Simulation.{Simulates}
 use Rattle.civl_interleavings.specs.Threads.{Config, Move, stepping_of}
 use Rattle.civl_exchanges.specs.Interleavings.{Chosen}
-use Rattle.civl_standing.specs.Reduces.{plain_move, plain_config, layer_threads, layer_system}
+use Rattle.civl_blocks.specs.Reduces.{plain_move, plain_config, layer_threads, layer_system}
 use Rattle.civl_checked.specs.Checked.{AllHold, IsChecked}
 use Rattle.civl_blocks.specs.Challenged.{challenged}
-use Rattle.civl_meetings.specs.Meets.{Meets}
+use Rattle.civl_simulation.specs.Meets.{Meets}
 use Rattle.civl_simulation.specs.Sound.{BlocksAreSound}
 
 -- block runs of a layer's program, from this store, are followed by runs of the program of the next layer

@@ -1,2 +1,10 @@
+pub mod Alike
+pub mod Meets
+pub mod Refined
+pub mod Joined
 pub mod Sound
 pub mod Followed
+pub mod Between
+pub mod Carried
+pub mod Preserved
+pub mod examples

@@ -9,11 +9,11 @@ use Rattle.civl_meaning.specs.declared.config.Running.{Running}
 use Rattle.civl_interleavings.specs.Runs.{Staged, Opens}
 use Rattle.civl_interleavings.specs.Threads.{Config, Move, fails_in}
 use Rattle.civl_exchanges.specs.Interleavings.{Chosen}
-use Rattle.civl_standing.specs.Reduces.{plain_move, layer_threads, layer_system, SafeInside, EndsInside}
+use Rattle.civl_blocks.specs.Reduces.{plain_move, layer_threads, layer_system, SafeInside, EndsInside}
 use Rattle.civl_blocks.specs.Cuts.{frame_at}
 use Rattle.civl_blocks.specs.Shadow.{shadowed}
 use Rattle.civl_blocks.specs.Challenged.{challenged}
-use Rattle.civl_refined.specs.Refined.{BlockIsRefined}
+use Rattle.civl_simulation.specs.Refined.{BlockIsRefined}
 
 -- each block, or step outside the layer's procedures, behind a block run that isn't challenged
 abbrev pub BlocksAreRefined : Program → ℕ → Store → Type 0

@@ -1,1 +1,10 @@
+pub mod Reduction
+pub mod Stages
+pub mod Pausing
+pub mod Calm
 pub mod Opened
+pub mod Chains
+pub mod Inside
+pub mod Measures
+pub mod Bounded
+pub mod Reduced

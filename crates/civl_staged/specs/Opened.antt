@@ -23,14 +23,14 @@ use Rattle.civl_conditions.specs.Values.{Begun}
 use Rattle.civl_conditions.specs.Permissions.{held_at, of_held}
 use Rattle.civl_conditions.specs.Assumed.{owned}
 use Rattle.civl_checked.specs.Checked.{IsChecked}
-use Rattle.civl_standing.specs.Blocks.{at_yield, frame_of_layer, rest_of}
-use Rattle.civl_following.specs.Following.{led_here}
+use Rattle.civl_blocks.specs.Blocks.{at_yield, frame_of_layer, rest_of}
+use Rattle.civl_open_blocks.specs.Following.{led_here}
 use Rattle.civl_open_blocks.specs.Open.{IsOpen}
 use Rattle.civl_blocks.specs.Cuts.{frame_at}
 use Rattle.civl_blocks.specs.Shadow.{Shadowed, seen, after_step, before_step}
 use Rattle.civl_blocks.specs.Challenged.{is_challenged}
-use Rattle.civl_pauses.specs.Pausing.{StandsAt}
-use Rattle.civl_calm.specs.Calm.{IsCalm, AllIsCalm}
+use Rattle.civl_staged.specs.Pausing.{StandsAt}
+use Rattle.civl_staged.specs.Calm.{IsCalm, AllIsCalm}
 
 -- The block of a thread is open: its topmost frame follows a path, whose state is the frame's in the store with the shadow's
 -- values. All others were calm at the block's beginning, and hold nothing that was owned where the path begins.

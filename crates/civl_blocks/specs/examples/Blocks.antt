@@ -117,3 +117,7 @@ ChallengedAtABlock =
     × Beside (stmt.Commit ∷ pause ∷ set ∷ []) (true, false) entered (true, false, true, false)
     × Beside (set ∷ pause ∷ []) (true, false) entered (true, false, false, false)
     × Beside (set ∷ pause ∷ []) (true, false) acted (true, false, false, true)
+
+-- it is the shadow's value that tells, which an intro set, and not the configuration's
+abbrev pub ChallengedByTheShadow : Type 0
+ChallengedByTheShadow = Beside (copy ∷ pause ∷ set ∷ []) (true, false) entered (true, true, false, false) × Beside (copy ∷ pause ∷ set ∷ []) (false, true) entered (false, false, false, true)

@@ -1,5 +1,5 @@
-use Rattle.civl_open_blocks.proofs.Opening.{blocks_open_at_entries, blocks_open_behind_yields, blocks_open_in_loops}
-use Rattle.civl_open_blocks.proofs.Choices.{choices_are_there}
+use Rattle.civl_open_blocks.proofs.Open.Opening.{blocks_open_at_entries, blocks_open_behind_yields, blocks_open_in_loops}
+use Rattle.civl_open_blocks.proofs.Open.Choices.{choices_are_there}
 use Rattle.civl_open_blocks.proofs.laws.blocks_open.Goals as goal
 
 pub returns-clause-entries : goal.returns-clause-entries

@@ -1,5 +1,5 @@
-use Rattle.civl_open_blocks.proofs.Ending.{open_blocks_conclude, open_blocks_go_round}
-use Rattle.civl_open_blocks.proofs.Cuts.{cuts_ahead_are_cuts}
+use Rattle.civl_open_blocks.proofs.Open.Ending.{open_blocks_conclude, open_blocks_go_round}
+use Rattle.civl_open_blocks.proofs.Open.Cuts.{cuts_ahead_are_cuts}
 use Rattle.civl_open_blocks.proofs.laws.open_blocks_end.Goals as goal
 
 pub returns-clause-conclude : goal.returns-clause-conclude

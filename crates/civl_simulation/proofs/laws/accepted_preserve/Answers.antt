@@ -1,4 +1,4 @@
-use Rattle.civl_simulation.proofs.Simulating.{accepted_preserve}
+use Rattle.civl_simulation.proofs.Followed.Simulating.{accepted_preserve}
 use Rattle.civl_simulation.proofs.laws.accepted_preserve.Goals as goal
 
 pub returns : goal.returns

@@ -1,4 +1,4 @@
-use Rattle.civl_simulation.proofs.Simulating.{layers_followed}
+use Rattle.civl_simulation.proofs.Followed.Simulating.{layers_followed}
 use Rattle.civl_simulation.proofs.laws.layers_are_followed.Goals as goal
 
 pub returns : goal.returns

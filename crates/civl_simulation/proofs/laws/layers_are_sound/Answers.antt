@@ -1,4 +1,4 @@
-use Rattle.civl_simulation.proofs.Simulating.{layers_sound}
+use Rattle.civl_simulation.proofs.Followed.Simulating.{layers_sound}
 use Rattle.civl_simulation.proofs.laws.layers_are_sound.Goals as goal
 
 pub returns : goal.returns

@@ -1,6 +1,6 @@
-use Rattle.civl_staged.proofs.Concluding.{open_blocks_end}
-use Rattle.civl_staged.proofs.Round.{open_blocks_step}
-use Rattle.civl_staged.proofs.Called.{calls_open_blocks}
+use Rattle.civl_staged.proofs.Opened.Concluding.{open_blocks_end}
+use Rattle.civl_staged.proofs.Opened.Round.{open_blocks_step}
+use Rattle.civl_staged.proofs.Opened.Called.{calls_open_blocks}
 use Rattle.civl_staged.proofs.laws.staged.Goals as goal
 
 pub returns-clause-call : goal.returns-clause-call

@@ -21,3 +21,10 @@ returns-clause-block c = (
   (simp (of_expr, of_stmt), simp (of_expr, of_stmt), simp (of_expr, of_stmt)),
   (simp (of_expr, of_stmt), simp (of_expr, of_stmt), simp (of_expr, of_stmt)),
 )
+
+pub returns-clause-shadow : goal.returns-clause-shadow
+unfolding gate_holds fires fired rest_inside with_rest rest_among
+returns-clause-shadow c = (
+  (simp (of_expr, of_stmt), simp (of_expr, of_stmt), simp (of_expr, of_stmt)),
+  (simp (of_expr, of_stmt), simp (of_expr, of_stmt), simp (of_expr, of_stmt)),
+)

@@ -1,3 +1,0 @@
-mod Safe
-mod Chaining
-mod Between

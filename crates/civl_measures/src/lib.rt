@@ -1,4 +1,0 @@
-//! Open blocks end: each step makes a measure smaller.
-#![tactic(auto)]
-
-pub mod laws;

@@ -1,3 +1,0 @@
-pub mod Phasing
-pub mod Reducing
-pub mod Stages

@@ -1,0 +1,13 @@
+pub mod Shadows
+pub mod Pairs
+pub mod Steps
+pub mod Acting
+pub mod Known
+pub mod Outside
+pub mod Fitting
+pub mod Along
+pub mod Ending
+pub mod Failing
+pub mod Blocks
+pub mod Following
+pub mod Simulating

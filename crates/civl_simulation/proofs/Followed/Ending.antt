@@ -1,0 +1,123 @@
+-- A block that is refined is followed by no step, or by one of the refined action.
+use Rattle.std.proofs.Common.{◌≡◌, ◌≢◌, ℕ, ◌+◌, ◌≤◌, Bool, true, false, List, [], ◌∷◌, ◌++◌, refl, sym, ap, ◌∙◌, subst, Option, None, Some, slice_get, slice_set}
+use Rattle.std.specs.Prelude.{if◌then◌else◌}
+use Rattle.std.proofs.lemmas.Bool.{false≢true, true≢false}
+use Rattle.std.proofs.lemmas.List.{append-nil}
+use Rattle.std.proofs.lemmas.Option.{none-some, same_Some}
+use Rattle.civl_bits.specs.declared.value.Value.{Value}
+use Rattle.civl_tree.specs.declared.action.Action.{Action}
+use Rattle.civl_tree.specs.declared.program.Proc.{Proc}
+use Rattle.civl_tree.specs.declared.program.Program.{Program}
+use Rattle.civl_firing.specs.declared.store.Store.{Store}
+use Rattle.civl_firing.specs.Fired.{gate_holds, choices_fit, fires}
+use Rattle.civl_meaning.specs.declared.config.Plain.{Plain}
+use Rattle.civl_meaning.specs.declared.config.Activation.{Activation}
+use Rattle.civl_meaning.specs.declared.config.Config as meaning
+use Rattle.civl_meaning.specs.declared.config.Running.{Running}
+use Rattle.civl_meaning.specs.declared.config.Change.TheVariants as change
+use Rattle.civl_meaning.specs.Change.{with_results}
+use Rattle.civl_meaning.specs.Config.{IsOf}
+use Rattle.civl_meaning.specs.Layers.{program_at}
+use Rattle.civl_meaning.specs.Step.{thread_after}
+use Rattle.civl_footprints.specs.Agreement.{StoresAgree, exists_at}
+use Rattle.civl_footprints.proofs.Keeping.{agree_back, agree_then}
+use Rattle.civl_conditions.specs.Assumed.{inputs_of}
+use Rattle.civl_interleavings.specs.Runs.{RunsTo}
+use Rattle.civl_interleavings.specs.Threads.{Threads, Config, Move, stepping_of, outcome, config_with, step_of}
+use Rattle.civl_exchanges.specs.Doing.{Doing, doing}
+use Rattle.civl_exchanges.specs.Doing as does
+use Rattle.civl_exchanges.specs.Interleavings.{Chosen, Call, whole, as_config}
+use Rattle.civl_permissions.specs.Apart.{SpawnsStandInRoots}
+use Rattle.civl_checked.specs.Checked.{IsChecked}
+use Rattle.civl_blocks.specs.Blocks.{inside}
+use Rattle.civl_blocks.specs.Reduces.{plain_config, layer_threads}
+use Rattle.civl_simulation.specs.Meets.{behind}
+use Rattle.civl_simulation.proofs.Meets.Above.{Instead}
+use Rattle.civl_simulation.specs.Refined.{Sight, Acts, IsRefined}
+use Rattle.civl_simulation.proofs.Followed.Pairs.{get_other, get_same}
+use Rattle.civl_simulation.proofs.Followed.Steps.{makes, Fires, calls_so}
+use Rattle.civl_simulation.proofs.Followed.Acting.{same_gate, fires_too}
+use Rattle.civl_simulation.proofs.Followed.Known.{Known, does_known}
+use Rattle.civl_simulation.proofs.Followed.Along.{OthersSame}
+use Rattle.civl_simulation.proofs.Followed.Outside.{of_next, calls_there, within_upper}
+
+module _ (program : Program) (layer : ℕ) (store : Store) (k : IsChecked program layer store) (roots : SpawnsStandInRoots program) where
+  abbrev upper : Plain
+  upper = program_at program (layer + 1)
+
+  abbrev Q : Threads Store Running Call Chosen (List Value)
+  Q = layer_threads program (layer + 1) store
+
+  -- the caller before the call, or behind the refined action's
+  abbrev pub stands_beside : Running → Sight → Running
+  stands_beside caller sight = if sight.done then behind caller (doing upper caller) sight.outs else caller
+
+  -- a run of the upper program from x, behind which the caller stands so and the stores agree
+  pub record Followed (x : meaning.Config) (t : ℕ) (caller : Running) (after : Sight) : Type 0 where
+    pub moves : List (Move Chosen)
+    pub end : Config Store Running
+    pub runs : RunsTo (stepping_of Q) moves (as_config x) end
+    pub of_upper : IsOf upper (plain_config end)
+    pub near : StoresAgree (exists_at (layer + 1)) program.globals after.store end.store
+    pub others : OthersSame t x.threads end.threads
+    pub there : slice_get end.threads t ≡ Some (stands_beside caller after)
+
+  module _ (x : meaning.Config) (of_upper : IsOf upper x) (t : ℕ) (caller : Running) (before after : Sight) (high : slice_get x.threads t ≡ Some (stands_beside caller before)) (near : StoresAgree (exists_at (layer + 1)) program.globals before.store x.store)
+      (f : Proc × Activation) (inst : Instead program layer f caller) (r : IsRefined program (layer + 1) f.0 (inputs_of f.0 f.1.locals) before after) where
+    -- no step
+    waits : after.done ≡ before.done → stands_beside caller before ≡ stands_beside caller after → Followed x t caller after
+    waits e same = record {
+      moves = [];
+      end = as_config x;
+      runs = refl;
+      of_upper = of_upper;
+      near = agree_then (exists_at (layer + 1)) program.globals after.store.values before.store.values x.store.values (agree_back (exists_at (layer + 1)) program.globals before.store.values after.store.values (r.same e)) near;
+      others = λ u n. refl;
+      there = high ∙ ap (λ (q : Running). Some q) same;
+    }
+
+    -- the step of the action
+    acts_so : (slice_get x.threads t ≡ Some caller) → Acts program (layer + 1) f.0 (inputs_of f.0 f.1.locals) before after → after.done ≡ true → Followed x t caller after
+    acts_so at a d =
+        let inputs = inputs_of f.0 f.1.locals in
+        let same : a.action ≡ inst.action = same_Some a.action inst.action (sym a.refined ∙ inst.refined) in
+        let calls : doing upper caller ≡ does.Calls inst.names inst.locals inst.results inst.next a.action inputs = inst.calls ∙ ap (λ (c : Action). does.Calls inst.names inst.locals inst.results inst.next c inputs) (sym same) in
+        let known : Known program (does.Calls inst.names inst.locals inst.results inst.next a.action inputs) = subst (Known program) calls (does_known upper caller) in
+        let there = calls_there program layer store k roots (layer + 1) (within_upper program layer store k roots) x of_upper t caller at inst.names inst.locals inst.results inst.next a.action inputs calls in
+        let gate = sym (same_gate program layer k.layered known.0 a.action known.1 there before.store x.store near inputs) ∙ a.gate in
+        let too = fires_too program layer k.layered known.0 a.action known.1 there before.store x.store near inputs a.chosen a.to after.outs a.fires in
+        let chosen : Chosen = (a.chosen, a.values) in
+        let fired : Fires upper x.store chosen a.action inputs = record { gate = gate; fit = a.fit; to = too.to_store; outs = after.outs; fires = too.fires } in
+        let new : Running = thread_after caller (change.Goes (with_results inst.names inst.locals inst.results after.outs) inst.next) in
+        let comes = calls_so upper store (inside program (layer + 1)) caller x.store chosen inst.names inst.locals inst.results inst.next a.action inputs fired in
+        let move : Move Chosen = record { thread = t; chosen = chosen } in
+        let end : Config Store Running = config_with (as_config x) t (too.to_store, new, []) in
+        let step = goes move chosen calls at too.to_store new comes in
+        record {
+          moves = move ∷ [];
+          end = end;
+          runs = (end, step, refl);
+          of_upper = of_next program layer store k roots (layer + 1) (as_config x) move end step of_upper;
+          near = agree_then (exists_at (layer + 1)) program.globals after.store.values a.to.values too.to_store.values (agree_back (exists_at (layer + 1)) program.globals a.to.values after.store.values a.globals) too.agree;
+          others = λ u n. ap (λ (l : List Running). slice_get l u) (append-nil (slice_set x.threads t new)) ∙ get_other x.threads t u new n;
+          there =
+              ap (λ (l : List Running). slice_get l t) (append-nil (slice_set x.threads t new)) ∙ (get_same x.threads t new caller at
+              ∙ ap (λ (q : Running). Some q) (ap (λ (D : Doing). behind caller D after.outs) (sym calls) ∙ ap (λ (b : Bool). if b then behind caller (doing upper caller) after.outs else caller) (sym d)));
+        }
+      where
+        goes : (move : Move Chosen) (chosen : Chosen) → {D : Doing} → doing upper caller ≡ D → slice_get x.threads t ≡ Some caller → (to : Store) (new : Running) → outcome Q (whole caller D) x.store chosen ≡ Some (to, new, [])
+            → step_of Q (as_config x) (record { thread = t; chosen = chosen }) ≡ Some (config_with (as_config x) t (to, new, []))
+        goes move chosen e there to new comes =
+            makes upper store (inside program (layer + 1)) (as_config x) (record { thread = t; chosen = chosen }) caller (to, new, []) there (ap (λ (E : Doing). outcome Q (whole caller E) x.store chosen) e ∙ comes)
+
+    pub followed : Followed x t caller after
+    followed = go before.done after.done refl refl
+      where
+        go : (b a : Bool) → before.done ≡ b → after.done ≡ a → Followed x t caller after
+        go false false e d = waits (d ∙ sym e) (ap (λ (c : Bool). if c then behind caller (doing upper caller) before.outs else caller) e ∙ sym (ap (λ (c : Bool). if c then behind caller (doing upper caller) after.outs else caller) d))
+        go true true e d =
+            waits (d ∙ sym e)
+            (ap (λ (c : Bool). if c then behind caller (doing upper caller) before.outs else caller) e
+            ∙ (ap (λ (vs : List Value). behind caller (doing upper caller) vs) (sym (r.outs e)) ∙ sym (ap (λ (c : Bool). if c then behind caller (doing upper caller) after.outs else caller) d)))
+        go true false e d = absurd (false≢true (sym d ∙ r.stays e))
+        go false true e d = acts_so (high ∙ ap (λ (q : Running). Some q) (ap (λ (c : Bool). if c then behind caller (doing upper caller) before.outs else caller) e)) (r.acts e d) d

@@ -1,0 +1,13 @@
+use Rattle.civl_simulation.proofs.Refined.Joining.{nothing_refined, refined_join}
+use Rattle.civl_simulation.proofs.Refined.Concluding.{conclusions_refine}
+use Rattle.civl_simulation.proofs.Carried.Entering.{calls_carry}
+use Rattle.civl_simulation.proofs.Carried.Round.{carried_step}
+use Rattle.civl_simulation.proofs.Carried.Yielding.{yields_carry}
+use Rattle.civl_simulation.proofs.Carried.Blocks.{checked_are_refined}
+use Rattle.civl_simulation.proofs.laws.refined.Goals as goal
+
+pub returns : goal.returns
+returns c =
+    let keep = c.checked.ensures.permissions in
+    let roots = c.checked.ensures.roots in
+    checked_are_refined keep roots c.stages_are_runs.ensures c.inside.ensures.beside (calls_carry keep) (carried_step conclusions_refine refined_join keep roots) (yields_carry conclusions_refine refined_join nothing_refined keep roots) conclusions_refine refined_join

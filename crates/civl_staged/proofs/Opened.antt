@@ -1,0 +1,10 @@
+pub mod Ahead
+pub mod Noting
+pub mod Concluding
+pub mod Old
+pub mod Next
+pub mod Forms
+pub mod Stepping
+pub mod Round
+pub mod Entering
+pub mod Called

@@ -1,0 +1,3 @@
+pub mod Phasing
+pub mod Reducing
+pub mod Running
