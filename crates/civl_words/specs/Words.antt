@@ -14,7 +14,8 @@ budget_of (Some budget) = budget
 
 -- the words are those of a command
 abbrev pub AreWordsOf : Command → List (List ℕ) → Type 0
-AreWordsOf Check words = words ≡ codes "check" ∷ []
+AreWordsOf (Check None) words = words ≡ codes "check" ∷ []
+AreWordsOf (Check (Some budget)) words = (budget ≤ most_budget) × (words ≡ codes "check" ∷ codes "--budget" ∷ decimal budget ∷ [])
 AreWordsOf (Conditions None) words = words ≡ codes "conditions" ∷ []
 AreWordsOf (Conditions (Some budget)) words = (budget ≤ most_budget) × (words ≡ codes "conditions" ∷ codes "--budget" ∷ decimal budget ∷ [])
 AreWordsOf Fmt words = words ≡ codes "fmt" ∷ []

@@ -13,8 +13,8 @@ const USUAL_BUDGET: u32 = 200_000;
 /// A command that is built.
 #[derive(Clone, Copy)]
 pub enum Command {
-    /// `check`: the verdict on a program.
-    Check,
+    /// `check`: the verdict on a program; and `check --budget N`, where each search may learn so many clauses.
+    Check(Option<u32>),
     /// `conditions`: what is found of each condition of a program; and `conditions --budget N`, where each search may learn so many
     /// clauses.
     Conditions(Option<u32>),
@@ -108,7 +108,7 @@ fn of_one(word: &str) -> Option<Command>
     ensures { FindsCommand (word.now ∷ []) result }
 {
     if is_check(word) {
-        return Some(Command::Check);
+        return Some(Command::Check(None));
     }
     if is_conditions(word) {
         return Some(Command::Conditions(None));
@@ -139,13 +139,17 @@ fn of_two(first: &str, second: &str) -> Option<Command>
 fn of_three(first: &str, second: &str, third: &str) -> Option<Command>
     ensures { FindsCommand (first.now ∷ second.now ∷ third.now ∷ []) result }
 {
-    if !is_conditions(first) || !is_budget(second) {
+    if !is_budget(second) {
         return None;
     }
-    match budget_in(third) {
-        Some(budget) => Some(Command::Conditions(Some(budget))),
-        None => None,
+    let budget = budget_in(third)?;
+    if is_check(first) {
+        return Some(Command::Check(Some(budget)));
     }
+    if is_conditions(first) {
+        return Some(Command::Conditions(Some(budget)));
+    }
+    None
 }
 
 /// The command that the words are those of.
