@@ -1,11 +1,12 @@
 -- Each input calls for some outcome under each command.
-use Rattle.std.proofs.Common.{◌≡◌, ℕ, ◌<◌, ◌≤◌, ◌⊎◌, inl, inr, Bool, true, false, List, ◌++◌, length, refl, sym, ◌∙◌, Result, Ok, Err}
-use Rattle.std.specs.Prelude.{Option, None, Some, IsTrue}
-use Rattle.std.proofs.lemmas.Bool.{true≢false, cases_lt}
+use Rattle.std.proofs.Common.{◌≡◌, ℕ, ◌<◌, ◌≤◌, ◌⊎◌, inl, inr, List, ◌++◌, length, refl, Result, Ok, Err}
+use Rattle.std.specs.Prelude.{Option, None, Some}
+use Rattle.std.proofs.lemmas.Bool.{cases_lt}
 use Rattle.civl_tree.specs.declared.program.Program.{Program}
 use Rattle.civl_tree.specs.declared.refusal.Refusal.{Refusal}
 use Rattle.civl_tree.specs.declared.script.Script.{Script}
-use Rattle.civl_tree.specs.Numbered.{IsNumbered}
+use Rattle.civl_tree.specs.rules.Rules.{Keeps}
+use Rattle.civl_tree.specs.rules.Typing.{typing_rules}
 use Rattle.civl_tree.proofs.First.{none_first}
 use Rattle.civl_meaning.specs.declared.config.Plain.{Plain}
 use Rattle.civl_meaning.specs.Layers.{lowest, topmost}
@@ -14,24 +15,21 @@ use Rattle.civl_script.specs.Schedules.{IsSchedule}
 use Rattle.civl_script.specs.declared.schedule.Schedule.{Schedule}
 use Rattle.civl_script.specs.declared.schedule.Schedule.TheVariants.{Fits, Wrong}
 use Rattle.civl_script.proofs.Deciding.{schedules_exist}
-use Rattle.civl_tree.specs.rules.Typing.{typing_rules}
 use Rattle.civl_layers.specs.LayerRules.{layer_rules}
 use Rattle.civl_verify.specs.Admitted.{admission_rules}
 use Rattle.civl_verify.proofs.Admitting.{keeps_first}
-use Rattle.civl_conditions.specs.declared.condition.Condition.{Condition as Formula}
+use Rattle.civl_conditions.specs.declared.condition.Condition.{Condition}
 use Rattle.civl_conditions.specs.Weights.{heavy}
 use Rattle.civl_findings.proofs.Surveying.{each_program_has_a_survey}
+use Rattle.civl_judgements.proofs.Judging.{each_program_has_a_verdict}
 use Rattle.civl_words.specs.Words.{budget_of}
 use Rattle.civl_words.specs.declared.words.Command.{Command}
 use Rattle.civl_words.specs.declared.words.Command.TheVariants.{Check, Conditions, Fmt, RunLow, RunTop}
-use Rattle.civl_flag.specs.FlagForm.{is_flag_form}
-use Rattle.civl_flag.proofs.Deciding.{some_verdict}
-use Rattle.civl_command.specs.Rules.{static_refusal, IsLawful, IsTaken}
+use Rattle.civl_command.specs.Rules.{static_refusal, IsLawful}
 use Rattle.civl_command.specs.Texts.{IsReading, IsScriptReading}
-use Rattle.civl_command.specs.Outcome.{Outcome, TooLong, Unread, Untaken, Broken, Judged, Heavy, Surveyed, Printed, Misfit, Ran, Checks, Surveys, Runs, ChecksRead, SurveysRead, PrintsRead, RunsRead, Finds, FindsBy, CallsFor, limit}
+use Rattle.civl_command.specs.Outcome.{Outcome, TooLong, Unread, Broken, Judged, Heavy, Surveyed, Printed, Misfit, Ran, Checks, Surveys, Prints, Runs, OfRead, Finds, FindsBy, CallsFor, limit}
 use Rattle.civl_command.specs.Laws.{EachInputIsAnswered}
 use Rattle.civl_command.specs.declared.reader.Fault.{Fault}
-use Rattle.civl_command.proofs.Lawful.{taken_is_flag, text_numbered}
 use Rattle.civl_command.proofs.Reading.{some_reading, some_script_reading}
 
 -- an outcome of which this is so
@@ -43,83 +41,78 @@ Has Says = (outcome : Outcome) × Says outcome
 lawful : (program : Program) → static_refusal program ≡ None → IsLawful program
 lawful program e = none_first _ e
 
-check_lawful : (program : Program) → IsNumbered program → IsTaken program → Has (Checks program)
-check_lawful program numbered taken = let found = some_verdict program (taken_is_flag program taken numbered) in (Judged program found.0, (refl, taken, found.1))
+typed : (program : Program) → IsLawful program → Keeps typing_rules program
+typed program rules = keeps_first typing_rules (layer_rules ++ admission_rules) program rules
 
-check_form : (program : Program) (refusal : Option Refusal) → IsNumbered program → IsTrue (is_flag_form program) → static_refusal program ≡ refusal → Has (Checks program)
-check_form program (Some refusal) numbered form e = (Broken refusal, (form, e))
-check_form program None numbered form e = check_lawful program numbered (record { form = form; rules = lawful program e })
+module _ (budget : ℕ) (program : Program) where
+  check_light : (first : Option (Option Condition)) → IsLawful program → heavy program ≡ first → Has (Checks budget program)
+  check_light (Some first) rules e = (Heavy program first, (refl, rules, e))
+  check_light None rules e =
+      let found = each_program_has_a_verdict program budget (typed program rules) in
+      (Judged program budget found.0, (refl, refl, record { rules = rules; light = e }, found.1))
 
-check_by : (program : Program) (form : Bool) → IsNumbered program → is_flag_form program ≡ form → Has (Checks program)
-check_by program true numbered e = check_form program (static_refusal program) numbered e refl
-check_by program false numbered e = (Untaken, λ form. true≢false (sym form ∙ e))
+  check_by : (refusal : Option Refusal) → static_refusal program ≡ refusal → Has (Checks budget program)
+  check_by (Some refusal) e = (Broken refusal, e)
+  check_by None e = check_light (heavy program) (lawful program e) refl
 
-some_check : (input : List ℕ) (reading : Result Program Fault) → length input ≤ limit → IsReading input reading → Has (ChecksRead reading)
-some_check input (Ok program) short read = check_by program (is_flag_form program) (text_numbered input program read.0 short) refl
-some_check input (Err fault) short read = (Unread fault, refl)
+  some_check : Has (Checks budget program)
+  some_check = check_by (static_refusal program) refl
 
--- what is found of its conditions
-survey_light : (budget : ℕ) (program : Program) (first : Option (Option Formula)) → IsLawful program → heavy program ≡ first → Has (Surveys budget program)
-survey_light budget program (Some first) rules e = (Heavy program first, (refl, rules, e))
-survey_light budget program None rules e =
-    let found = each_program_has_a_survey program budget (keeps_first typing_rules (layer_rules ++ admission_rules) program rules) in
-    (Surveyed program budget found.0, (refl, refl, record { rules = rules; light = e; right = found.1 }))
+  survey_light : (first : Option (Option Condition)) → IsLawful program → heavy program ≡ first → Has (Surveys budget program)
+  survey_light (Some first) rules e = (Heavy program first, (refl, rules, e))
+  survey_light None rules e =
+      let found = each_program_has_a_survey program budget (typed program rules) in
+      (Surveyed program budget found.0, (refl, refl, record { rules = rules; light = e }, found.1))
 
-survey_by : (budget : ℕ) (program : Program) (refusal : Option Refusal) → static_refusal program ≡ refusal → Has (Surveys budget program)
-survey_by budget program (Some refusal) e = (Broken refusal, e)
-survey_by budget program None e = survey_light budget program (heavy program) (lawful program e) refl
+  survey_by : (refusal : Option Refusal) → static_refusal program ≡ refusal → Has (Surveys budget program)
+  survey_by (Some refusal) e = (Broken refusal, e)
+  survey_by None e = survey_light (heavy program) (lawful program e) refl
 
-some_survey : (budget : ℕ) (reading : Result Program Fault) → Has (SurveysRead budget reading)
-some_survey budget (Ok program) = survey_by budget program (static_refusal program) refl
-some_survey budget (Err fault) = (Unread fault, refl)
+  some_survey : Has (Surveys budget program)
+  some_survey = survey_by (static_refusal program) refl
 
-some_print : (reading : Result Program Fault) → Has (PrintsRead reading)
-some_print (Ok program) = (Printed program, refl)
-some_print (Err fault) = (Unread fault, refl)
+some_print : (program : Program) → Has (Prints program)
+some_print program = (Printed program, refl)
 
 -- ---- a script
 
-module _ (plain_of : Program → Plain) where
-  run_lawful : (script : Script) (schedule : Schedule) → IsLawful script.program → IsSchedule script.program.globals script.store script.moves schedule → Has (Runs plain_of script)
-  run_lawful script (Fits store moves) rules fits = (
+module _ (plain_of : Program → Plain) (script : Script) where
+  run_lawful : (schedule : Schedule) → IsLawful script.program → IsSchedule script.program.globals script.store script.moves schedule → Has (Runs plain_of script)
+  run_lawful (Fits store moves) rules fits = (
     Ran script.program (trace_of (plain_of script.program) store moves),
     (refl, rules, record { store = store; moves = moves; fits = fits; trace_is = refl }),
   )
-  run_lawful script (Wrong number) rules wrong = (Misfit number, (rules, wrong))
+  run_lawful (Wrong number) rules wrong = (Misfit number, (rules, wrong))
 
-  run_by : (script : Script) (refusal : Option Refusal) → static_refusal script.program ≡ refusal → Has (Runs plain_of script)
-  run_by script (Some refusal) e = (Broken refusal, e)
-  run_by script None e =
+  run_by : (refusal : Option Refusal) → static_refusal script.program ≡ refusal → Has (Runs plain_of script)
+  run_by (Some refusal) e = (Broken refusal, e)
+  run_by None e =
       let found = schedules_exist script.program.globals script.store script.moves in
-      run_lawful script found.0 (lawful script.program e) found.1
+      run_lawful found.0 (lawful script.program e) found.1
 
-  some_run : (reading : Result Script Fault) → Has (RunsRead plain_of reading)
-  some_run (Ok script) = run_by script (static_refusal script.program) refl
-  some_run (Err fault) = (Unread fault, refl)
-
-  run_found : (input : List ℕ) → length input ≤ limit → Has (Finds IsScriptReading (RunsRead plain_of) input)
-  run_found input short =
-      let read = some_script_reading input in
-      let found = some_run read.0 in
-      (found.0, record { short = short; reading = read.0; read = read.1; says = found.1 })
+  some_run : Has (Runs plain_of script)
+  some_run = run_by (static_refusal script.program) refl
 
 -- ---- an input
 
+module _ {A : Type 0} (IsRead : List ℕ → Result A Fault → Type 0) (Says : A → Outcome → Type 0)
+    (read : (input : List ℕ) → (x : Result A Fault) × IsRead input x) (some : (value : A) → Has (Says value)) where
+  some_of : (reading : Result A Fault) → Has (OfRead Says reading)
+  some_of (Ok value) = some value
+  some_of (Err fault) = (Unread fault, refl)
+
+  some_find : (input : List ℕ) → length input ≤ limit → Has (Finds IsRead Says input)
+  some_find input short =
+      let reading = read input in
+      let found = some_of reading.0 in
+      (found.0, record { short = short; reading = reading.0; read = reading.1; says = found.1 })
+
 some_found : (command : Command) (input : List ℕ) → length input ≤ limit → Has (FindsBy command input)
-some_found Check input short =
-    let read = some_reading input in
-    let found = some_check input read.0 short read.1 in
-    (found.0, record { short = short; reading = read.0; read = read.1; says = found.1 })
-some_found (Conditions told) input short =
-    let read = some_reading input in
-    let found = some_survey (budget_of told) read.0 in
-    (found.0, record { short = short; reading = read.0; read = read.1; says = found.1 })
-some_found Fmt input short =
-    let read = some_reading input in
-    let found = some_print read.0 in
-    (found.0, record { short = short; reading = read.0; read = read.1; says = found.1 })
-some_found RunLow input short = run_found lowest input short
-some_found RunTop input short = run_found topmost input short
+some_found (Check told) input short = some_find IsReading (Checks (budget_of told)) some_reading (some_check (budget_of told)) input short
+some_found (Conditions told) input short = some_find IsReading (Surveys (budget_of told)) some_reading (some_survey (budget_of told)) input short
+some_found Fmt input short = some_find IsReading Prints some_reading some_print input short
+some_found RunLow input short = some_find IsScriptReading (Runs lowest) some_script_reading (some_run lowest) input short
+some_found RunTop input short = some_find IsScriptReading (Runs topmost) some_script_reading (some_run topmost) input short
 
 called : (command : Command) (input : List ℕ) → (limit < length input) ⊎ (length input ≤ limit) → Has (CallsFor command input)
 called command input (inl long) = (TooLong, inl (refl, long))

@@ -14,24 +14,11 @@ use Rattle.civl_types.specs.Checked.{IsCause}
 use Rattle.civl_layers.specs.LayerRules.{layer_rules}
 use Rattle.civl_layers.specs.Layered.{IsAt}
 use Rattle.civl_verify.specs.Admitted.{admission_rules}
-use Rattle.civl_verify.proofs.Admitting.{keeps_both, keeps_first, keeps_second, cause_of_first, cause_of_second}
-use Rattle.civl_flag.specs.Verdicts.{IsFlagProgram}
-use Rattle.civl_command.specs.Rules.{static_refusal, IsLawful, IsTaken}
+use Rattle.civl_verify.proofs.Admitting.{keeps_both, cause_of_first, cause_of_second}
+use Rattle.civl_command.specs.Rules.{static_refusal, IsLawful}
 use Rattle.civl_script.proofs.Counting.{text_numbers, script_numbers, script_counts}
 use Rattle.civl_command.specs.Texts.{SpellsProgram, SpellsScript}
 use Rattle.civl_command.specs.Outcome.{limit}
-
-pub taken_is_flag : (program : Program) → IsTaken program → IsNumbered program → IsFlagProgram program
-taken_is_flag program taken numbered =
-    let rest = keeps_second typing_rules (layer_rules ++ admission_rules) program taken.rules in
-    record {
-      form = taken.form;
-      rules = record {
-        rules = keeps_first typing_rules (layer_rules ++ admission_rules) program taken.rules;
-        layers = keeps_first layer_rules admission_rules program rest;
-        numbered = numbered;
-      };
-    }
 
 pub text_numbered : (bytes : List ℕ) (program : Program) → SpellsProgram bytes program → length bytes ≤ limit → IsNumbered program
 text_numbered bytes program h short = text_numbers bytes h.spells.tokens program h.spells.has h.spells.spelled short

@@ -1,9 +1,10 @@
 pub mod Lawful
-pub mod Agreeing
-pub mod Answering
-pub mod Values
-pub mod Promising
 pub mod Reading
 pub mod Judging
 pub mod Replaying
-pub mod Surveying
+pub mod Deciding
+pub mod Ways
+pub mod Agreeing
+pub mod Answering
+pub mod Accepting
+pub mod Promising

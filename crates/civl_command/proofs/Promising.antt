@@ -1,6 +1,6 @@
 -- From what each status says of the source and the sink, whatever they tell, to what is promised where they tell their
 -- bytes.
-use Rattle.std.proofs.Common.{◌≡◌, ℕ, ◌<◌, ◌≤◌, ◌⊎◌, inl, inr, List, [], ◌++◌, length, length-append, append-nil, refl, sym, ap, ap₂, ◌∙◌, subst, arith, Result, Ok, Err}
+use Rattle.std.proofs.Common.{◌≡◌, ◌≢◌, ℕ, ◌<◌, ◌≤◌, ◌⊎◌, inl, inr, List, [], ◌++◌, length, length-append, append-nil, refl, sym, ap, ap₂, ◌∙◌, subst, arith, Result, Ok, Err}
 use Rattle.std.specs.Prelude.{Option, None, Some}
 use Rattle.std.specs.Io.KnownBytes.{Appends, Consumes, IsAtEnd}
 use Rattle.civl_outside.specs.Count.{Rose, Stayed}
@@ -9,26 +9,35 @@ use Rattle.civl_tree.specs.declared.script.Script.{Script}
 use Rattle.civl_meaning.specs.declared.config.Plain.{Plain}
 use Rattle.civl_meaning.specs.Layers.{lowest, topmost}
 use Rattle.civl_run.specs.declared.trace.Trace.{Trace}
+use Rattle.civl_cnf.specs.Literal.{Literal}
+use Rattle.civl_conditions.specs.declared.condition.Condition.{Condition}
 use Rattle.civl_verdicts.specs.declared.survey.Survey.{Survey}
-use Rattle.civl_verdicts.specs.declared.survey.Survey.TheVariants.{NoInitial as Nothing, Findings}
+use Rattle.civl_verdicts.specs.declared.survey.Survey.TheVariants as survey
+use Rattle.civl_verdicts.specs.declared.verdict.Counter.{Counter}
+use Rattle.civl_verdicts.specs.declared.verdict.Verdict.{Verdict}
+use Rattle.civl_verdicts.specs.declared.verdict.Verdict.TheVariants as verdict
+use Rattle.civl_verdicts.specs.Surveys.{IsSurvey}
+use Rattle.civl_verdicts.specs.Verdicts.{IsVerdict}
 use Rattle.civl_reports.proofs.Quiet.{never_accepts}
-use Rattle.civl_flag.specs.declared.condition.Counter.{Counter}
-use Rattle.civl_flag.specs.declared.condition.Verdict.TheVariants.{Accepted, Rejected as RejectedBy, NoInitial}
-use Rattle.civl_flag.proofs.Accepting.{accepted_is_preserved}
+use Rattle.civl_verdict_reports.specs.Verdicts.{accepted_text, rejected_text, undecided_text}
+use Rattle.civl_preserves.specs.Preserved.{AcceptedProgramsPreserve}
 use Rattle.civl_words.specs.Words.{AreWordsOf, AreTaken, budget_of}
 use Rattle.civl_words.specs.declared.words.Command.{Command}
 use Rattle.civl_words.specs.declared.words.Command.TheVariants.{Check, Conditions, Fmt, RunLow, RunTop}
 use Rattle.civl_words.proofs.Marks.{one_command}
-use Rattle.civl_command.specs.Texts.{IsReading, IsScriptReading, SpellsProgram}
-use Rattle.civl_command.specs.Outcome.{Outcome, TooLong, Unread, Untaken, Broken, Judged, Heavy, Surveyed, Printed, Misfit, Ran, Checks, Surveys, Runs, ChecksRead, SurveysRead, PrintsRead, RunsRead, FindsBy, CallsFor, status_of, report_of, limit}
+use Rattle.civl_command.specs.Texts.{IsReading, IsScriptReading}
+use Rattle.civl_command.specs.Outcome.{Outcome, TooLong, Unread, Broken, Judged, Heavy, Surveyed, Printed, Misfit, Ran, Checks, Surveys, Prints, Runs, OfRead, Finds, FindsBy, CallsFor, verdict_status, survey_status, status_of, report_of, limit}
 use Rattle.civl_command.specs.Status.{code_of}
 use Rattle.civl_command.specs.Judge.{ReadState, WriteState, Reads, ReadsAll, JudgesInput, Fails, Judges, Explains}
-use Rattle.civl_command.specs.Promises.{Writes, ReadsAndWrites, Accepts, AcceptsRightly, Rejects, RejectsRightly, Tells, SurveysRightly, PrintsRightly, Replays, ReplaysRightly, RefusesRightly, Carries, AnswersAs, IsComplete}
+use Rattle.civl_command.specs.Report.{run_text}
+use Rattle.civl_command.specs.Promises.{Writes, ReadsAndWrites, SpellsTaken, Accepts, AcceptsRightly, Rejects, RejectsRightly, LeavesOpen, LeavesOpenRightly, Tells, SurveysRightly, PrintsRightly, Replays, ReplaysRightly, RefusesRightly, Carries, AnswersAs, IsComplete}
 use Rattle.civl_command.specs.declared.reader.Fault.{Fault}
 use Rattle.civl_command.specs.declared.status.Status.{Status}
 use Rattle.civl_command.specs.declared.status.Status.TheVariants.{Done, Rejected, Undecided, Refused, ReadFault, WriteFault, Usage, Memory}
 use Rattle.civl_command.proofs.Agreeing.{one_outcome}
-use Rattle.civl_command.proofs.Lawful.{taken_is_flag, text_numbered, text_written}
+use Rattle.civl_command.proofs.Lawful.{text_written}
+use Rattle.civl_command.proofs.Accepting.{preserved}
+use Rattle.civl_command.proofs.Ways.{Ways, IsDecided, check_way, survey_way, RunWays, IsRun, run_way}
 
 -- ---- the bytes that are told
 
@@ -59,18 +68,24 @@ all_found command before after input outcome told reads =
 
 -- ---- what the ends keep
 
+verdict_code : (v : Verdict) → code_of (verdict_status v) ≤ 3
+verdict_code (verdict.Accepted count) = omega arith
+verdict_code (verdict.Rejected counter) = omega arith
+verdict_code (verdict.Undecided formula log) = omega arith
+verdict_code verdict.NoInitial = omega arith
+
+survey_code : (s : Survey) → code_of (survey_status s) ≤ 3
+survey_code survey.NoInitial = omega arith
+survey_code (survey.Findings initial findings) = omega arith
+
 -- no outcome fails
 outcome_code : (outcome : Outcome) → code_of (status_of outcome) ≤ 3
 outcome_code TooLong = omega arith
 outcome_code (Unread fault) = omega arith
-outcome_code Untaken = omega arith
 outcome_code (Broken refusal) = omega arith
-outcome_code (Judged program (Accepted count)) = omega arith
-outcome_code (Judged program (RejectedBy counter)) = omega arith
-outcome_code (Judged program NoInitial) = omega arith
 outcome_code (Heavy program first) = omega arith
-outcome_code (Surveyed program budget Nothing) = omega arith
-outcome_code (Surveyed program budget (Findings initial findings)) = omega arith
+outcome_code (Judged program budget v) = verdict_code v
+outcome_code (Surveyed program budget s) = survey_code s
 outcome_code (Printed program) = omega arith
 outcome_code (Misfit number) = omega arith
 outcome_code (Ran program trace) = omega arith
@@ -135,184 +150,199 @@ done_not_refused e = cc
 rejected_not_refused : Rejected ≡ Refused → ⊥
 rejected_not_refused e = cc
 
--- a fault is refused
-fault_refused : (outcome : Outcome) (fault : Fault) (status : Status) → outcome ≡ Unread fault → status ≡ status_of outcome → status ≡ Refused
-fault_refused outcome fault status unread is = is ∙ ap status_of unread
+undecided_not_refused : Undecided ≡ Refused → ⊥
+undecided_not_refused e = cc
 
--- ---- what is accepted, rejected, printed and replayed
+-- ---- what is found of a text that isn't refused
+
+record IsSpelled {A : Type 0} (IsRead : List ℕ → Result A Fault → Type 0) (Says : A → Outcome → Type 0) (input : List ℕ) (outcome : Outcome) : Type 0 where
+  value : A
+  read : IsRead input (Ok value)
+  says : Says value outcome
+
+module _ {A : Type 0} (IsRead : List ℕ → Result A Fault → Type 0) (Says : A → Outcome → Type 0) (input : List ℕ) (outcome : Outcome) (status : Status) (some : status ≡ Refused → ⊥) (is : status ≡ status_of outcome) where
+  spelled_as : (reading : Result A Fault) → IsRead input reading → OfRead Says reading outcome → IsSpelled IsRead Says input outcome
+  spelled_as (Ok value) read says = record { value = value; read = read; says = says }
+  spelled_as (Err fault) read says = absurd (some (is ∙ ap status_of says))
+
+  spelled : Finds IsRead Says input outcome → IsSpelled IsRead Says input outcome
+  spelled found = spelled_as found.reading found.read found.says
+
+-- and is neither refused nor heavy
+decided : {D : Type 0} (tell : D → Outcome) (IsRight : D → Type 0) (program : Program) (outcome : Outcome) (status : Status) → (status ≡ Refused → ⊥) → status ≡ status_of outcome
+    → Ways tell IsRight program outcome → IsDecided tell IsRight program outcome
+decided tell IsRight program outcome status some is (inl a) = absurd (some (is ∙ ap status_of a.is))
+decided tell IsRight program outcome status some is (inr (inl a)) = absurd (some (is ∙ ap status_of a.is))
+decided tell IsRight program outcome status some is (inr (inr a)) = a
+
+-- a verdict
+record HasVerdict (input : List ℕ) (budget : ℕ) (outcome : Outcome) (status : Status) : Type 0 where
+  program : Program
+  given : SpellsTaken input program
+  verdict_ : Verdict
+  right : IsVerdict program budget verdict_
+  is : outcome ≡ Judged program budget verdict_
+  status_is : status ≡ verdict_status verdict_
+
+checked : (input : List ℕ) (budget : ℕ) (outcome : Outcome) (status : Status) → (status ≡ Refused → ⊥) → status ≡ status_of outcome → Finds IsReading (Checks budget) input outcome → HasVerdict input budget outcome status
+checked input budget outcome status some is found =
+    let s = spelled IsReading (Checks budget) input outcome status some is found in
+    let d = decided (Judged s.value budget) (IsVerdict s.value budget) s.value outcome status some is (check_way budget s.value outcome s.says) in
+    record {
+      program = s.value;
+      given = record { spells = s.read.0; taken = d.taken };
+      verdict_ = d.decided;
+      right = d.right;
+      is = d.is;
+      status_is = is ∙ ap status_of d.is;
+    }
+
+-- ---- what is accepted, rejected and left open
 
 record IsAccepted (input : List ℕ) (outcome : Outcome) : Type 0 where
   program : Program
   count : ℕ
   accepts : Accepts input program count
-  is : outcome ≡ Judged program (Accepted count)
+  report_is : report_of outcome ≡ accepted_text count
 
-accepted_as : (input : List ℕ) (program : Program) (outcome : Outcome) → length input ≤ limit → IsReading input (Ok program) → Checks program outcome → Done ≡ status_of outcome → IsAccepted input outcome
-accepted_as input program TooLong short read says done = absurd says
-accepted_as input program (Unread fault) short read says done = absurd says
-accepted_as input program Untaken short read says done = absurd (done_not_refused done)
-accepted_as input program (Broken refusal) short read says done = absurd (done_not_refused done)
-accepted_as input program (Judged judged (Accepted count)) short read says done = record {
-  program = program;
-  count = count;
-  accepts = record {
-    spells = read.0;
-    taken = says.1;
-    preserves = accepted_is_preserved program (taken_is_flag program says.1 (text_numbered input program read.0 short)) says.2.0 says.2.1;
-    right = says.2;
-  };
-  is = ap (λ (p : Program). Judged p (Accepted count)) says.0;
-}
-accepted_as input program (Judged judged (RejectedBy counter)) short read says done = cc
-accepted_as input program (Judged judged NoInitial) short read says done = cc
-accepted_as input program (Heavy weighed first) short read says done = absurd says
-accepted_as input program (Surveyed told budget found) short read says done = absurd says
-accepted_as input program (Printed printed) short read says done = absurd says
-accepted_as input program (Misfit number) short read says done = absurd says
-accepted_as input program (Ran ran trace) short read says done = absurd says
-
-accepted_read : (input : List ℕ) (reading : Result Program Fault) (outcome : Outcome) → length input ≤ limit → IsReading input reading → ChecksRead reading outcome → Done ≡ status_of outcome → IsAccepted input outcome
-accepted_read input (Ok program) outcome short read says done = accepted_as input program outcome short read says done
-accepted_read input (Err fault) outcome short read says done = absurd (done_not_refused (fault_refused outcome fault Done says done))
+accepted : AcceptedProgramsPreserve → (input : List ℕ) (budget : ℕ) (outcome : Outcome) → length input ≤ limit → HasVerdict input budget outcome Done → IsAccepted input outcome
+accepted law input budget outcome short h = by h.verdict_ h.right h.is h.status_is
+  where
+    by : (v : Verdict) → IsVerdict h.program budget v → outcome ≡ Judged h.program budget v → Done ≡ verdict_status v → IsAccepted input outcome
+    by (verdict.Accepted count) right is same = record {
+      program = h.program;
+      count = count;
+      accepts = record {
+        spelled = h.given;
+        preserves = preserved law input h.program short h.given.spells h.given.taken.rules right.1 right.0;
+        hold = right.1;
+        count_is = right.2;
+      };
+      report_is = ap report_of is;
+    }
+    by (verdict.Rejected counter) right is same = cc
+    by (verdict.Undecided formula log) right is same = cc
+    by verdict.NoInitial right is same = cc
 
 record IsRejected (input : List ℕ) (outcome : Outcome) : Type 0 where
   program : Program
   counter : Counter
   rejects : Rejects input program counter
-  is : outcome ≡ Judged program (RejectedBy counter)
+  report_is : report_of outcome ≡ rejected_text program counter
 
-rejected_as : (input : List ℕ) (program : Program) (outcome : Outcome) → IsReading input (Ok program) → Checks program outcome → Rejected ≡ status_of outcome → IsRejected input outcome
-rejected_as input program TooLong read says is = absurd says
-rejected_as input program (Unread fault) read says is = absurd says
-rejected_as input program Untaken read says is = absurd (rejected_not_refused is)
-rejected_as input program (Broken refusal) read says is = absurd (rejected_not_refused is)
-rejected_as input program (Judged judged (Accepted count)) read says is = cc
-rejected_as input program (Judged judged (RejectedBy counter)) read says is = record {
-  program = program;
-  counter = counter;
-  rejects = record { spells = read.0; taken = says.1; right = says.2 };
-  is = ap (λ (p : Program). Judged p (RejectedBy counter)) says.0;
-}
-rejected_as input program (Judged judged NoInitial) read says is = cc
-rejected_as input program (Heavy weighed first) read says is = absurd says
-rejected_as input program (Surveyed told budget found) read says is = absurd says
-rejected_as input program (Printed printed) read says is = absurd says
-rejected_as input program (Misfit number) read says is = absurd says
-rejected_as input program (Ran ran trace) read says is = absurd says
+rejected : (input : List ℕ) (budget : ℕ) (outcome : Outcome) → HasVerdict input budget outcome Rejected → IsRejected input outcome
+rejected input budget outcome h = by h.verdict_ h.right h.is h.status_is
+  where
+    by : (v : Verdict) → IsVerdict h.program budget v → outcome ≡ Judged h.program budget v → Rejected ≡ verdict_status v → IsRejected input outcome
+    by (verdict.Accepted count) right is same = cc
+    by (verdict.Rejected counter) right is same = record {
+      program = h.program;
+      counter = counter;
+      rejects = record { spelled = h.given; place = right.0.0; reached = right.0.1; violates = right.1 };
+      report_is = ap report_of is;
+    }
+    by (verdict.Undecided formula log) right is same = cc
+    by verdict.NoInitial right is same = cc
 
-rejected_read : (input : List ℕ) (reading : Result Program Fault) (outcome : Outcome) → IsReading input reading → ChecksRead reading outcome → Rejected ≡ status_of outcome → IsRejected input outcome
-rejected_read input (Ok program) outcome read says is = rejected_as input program outcome read says is
-rejected_read input (Err fault) outcome read says is = absurd (rejected_not_refused (fault_refused outcome fault Rejected says is))
-
--- a run rejects nothing
-run_not_rejected : (plain_of : Program → Plain) (script : Script) (outcome : Outcome) → Runs plain_of script outcome → Rejected ≡ status_of outcome → ⊥
-run_not_rejected plain_of script TooLong says is = says
-run_not_rejected plain_of script (Unread fault) says is = says
-run_not_rejected plain_of script Untaken says is = says
-run_not_rejected plain_of script (Broken refusal) says is = rejected_not_refused is
-run_not_rejected plain_of script (Judged judged verdict) says is = says
-run_not_rejected plain_of script (Heavy weighed first) says is = says
-run_not_rejected plain_of script (Surveyed told budget found) says is = says
-run_not_rejected plain_of script (Printed printed) says is = says
-run_not_rejected plain_of script (Misfit number) says is = rejected_not_refused is
-run_not_rejected plain_of script (Ran ran trace) says is = cc
-
-run_read_not_rejected : (plain_of : Program → Plain) (reading : Result Script Fault) (outcome : Outcome) → RunsRead plain_of reading outcome → Rejected ≡ status_of outcome → ⊥
-run_read_not_rejected plain_of (Ok script) outcome says is = run_not_rejected plain_of script outcome says is
-run_read_not_rejected plain_of (Err fault) outcome says is = rejected_not_refused (fault_refused outcome fault Rejected says is)
-
--- nor does `fmt`
-print_read_not_rejected : (reading : Result Program Fault) (outcome : Outcome) → PrintsRead reading outcome → Rejected ≡ status_of outcome → ⊥
-print_read_not_rejected (Ok program) outcome says is = let e : Rejected ≡ Done = is ∙ ap status_of says in cc
-print_read_not_rejected (Err fault) outcome says is = rejected_not_refused (fault_refused outcome fault Rejected says is)
-
--- nor does `conditions`
-survey_not_rejected : (budget : ℕ) (program : Program) (outcome : Outcome) → Surveys budget program outcome → Rejected ≡ status_of outcome → ⊥
-survey_not_rejected budget program TooLong says is = says
-survey_not_rejected budget program (Unread fault) says is = says
-survey_not_rejected budget program Untaken says is = says
-survey_not_rejected budget program (Broken refusal) says is = rejected_not_refused is
-survey_not_rejected budget program (Judged judged verdict) says is = says
-survey_not_rejected budget program (Heavy weighed first) says is = rejected_not_refused is
-survey_not_rejected budget program (Surveyed judged told Nothing) says is = rejected_not_refused is
-survey_not_rejected budget program (Surveyed judged told (Findings initial findings)) says is = cc
-survey_not_rejected budget program (Printed printed) says is = says
-survey_not_rejected budget program (Misfit number) says is = says
-survey_not_rejected budget program (Ran ran trace) says is = says
-
-survey_read_not_rejected : (budget : ℕ) (reading : Result Program Fault) (outcome : Outcome) → SurveysRead budget reading outcome → Rejected ≡ status_of outcome → ⊥
-survey_read_not_rejected budget (Ok program) outcome says is = survey_not_rejected budget program outcome says is
-survey_read_not_rejected budget (Err fault) outcome says is = rejected_not_refused (fault_refused outcome fault Rejected says is)
-
-rejected_found : (command : Command) (input : List ℕ) (outcome : Outcome) → FindsBy command input outcome → Rejected ≡ status_of outcome → IsRejected input outcome
-rejected_found Check input outcome found is = rejected_read input found.reading outcome found.read found.says is
-rejected_found (Conditions told) input outcome found is = absurd (survey_read_not_rejected (budget_of told) found.reading outcome found.says is)
-rejected_found Fmt input outcome found is = absurd (print_read_not_rejected found.reading outcome found.says is)
-rejected_found RunLow input outcome found is = absurd (run_read_not_rejected lowest found.reading outcome found.says is)
-rejected_found RunTop input outcome found is = absurd (run_read_not_rejected topmost found.reading outcome found.says is)
-
-record IsPrinted (input : List ℕ) (outcome : Outcome) : Type 0 where
+record IsOpen (input : List ℕ) (budget : ℕ) (outcome : Outcome) : Type 0 where
   program : Program
-  spells : SpellsProgram input program
-  is : outcome ≡ Printed program
+  formula : Option Condition
+  log : List (List Literal)
+  leaves : LeavesOpen input budget program formula log
+  report_is : report_of outcome ≡ undecided_text program formula budget
 
-printed_read : (input : List ℕ) (reading : Result Program Fault) (outcome : Outcome) → IsReading input reading → PrintsRead reading outcome → Done ≡ status_of outcome → IsPrinted input outcome
-printed_read input (Ok program) outcome read says done = record { program = program; spells = read.0; is = says }
-printed_read input (Err fault) outcome read says done = absurd (done_not_refused (fault_refused outcome fault Done says done))
+left_open : (input : List ℕ) (budget : ℕ) (outcome : Outcome) → HasVerdict input budget outcome Undecided → IsOpen input budget outcome
+left_open input budget outcome h = by h.verdict_ h.right h.is h.status_is
+  where
+    by : (v : Verdict) → IsVerdict h.program budget v → outcome ≡ Judged h.program budget v → Undecided ≡ verdict_status v → IsOpen input budget outcome
+    by (verdict.Accepted count) right is same = cc
+    by (verdict.Rejected counter) right is same = cc
+    by (verdict.Undecided formula log) right is same = record {
+      program = h.program;
+      formula = formula;
+      log = log;
+      leaves = record { spelled = h.given; open = right };
+      report_is = ap report_of is;
+    }
+    by verdict.NoInitial right is same = cc
 
-record IsReplayed (plain_of : Program → Plain) (input : List ℕ) (outcome : Outcome) : Type 0 where
-  script : Script
-  trace : Trace
-  replays : Replays plain_of input script trace
-  is : outcome ≡ Ran script.program trace
+-- ---- every other command does what it says, or refuses
 
-replayed_as : (plain_of : Program → Plain) (input : List ℕ) (script : Script) (outcome : Outcome) → IsScriptReading input (Ok script) → Runs plain_of script outcome → Done ≡ status_of outcome → IsReplayed plain_of input outcome
-replayed_as plain_of input script TooLong read says done = absurd says
-replayed_as plain_of input script (Unread fault) read says done = absurd says
-replayed_as plain_of input script Untaken read says done = absurd says
-replayed_as plain_of input script (Broken refusal) read says done = absurd (done_not_refused done)
-replayed_as plain_of input script (Judged judged verdict) read says done = absurd says
-replayed_as plain_of input script (Heavy weighed first) read says done = absurd says
-replayed_as plain_of input script (Surveyed told budget found) read says done = absurd says
-replayed_as plain_of input script (Printed printed) read says done = absurd says
-replayed_as plain_of input script (Misfit number) read says done = absurd (done_not_refused done)
-replayed_as plain_of input script (Ran ran trace) read says done = record {
-  script = script;
-  trace = trace;
-  replays = record { spells = read.0; rules = says.1; runs = says.2 };
-  is = ap (λ (p : Program). Ran p trace) says.0;
-}
+abbrev IsPlain : Outcome → Type 0
+IsPlain outcome = (Done ≡ status_of outcome) ⊎ (Refused ≡ status_of outcome)
 
-replayed_read : (plain_of : Program → Plain) (input : List ℕ) (reading : Result Script Fault) (outcome : Outcome) → IsScriptReading input reading → RunsRead plain_of reading outcome → Done ≡ status_of outcome → IsReplayed plain_of input outcome
-replayed_read plain_of input (Ok script) outcome read says done = replayed_as plain_of input script outcome read says done
-replayed_read plain_of input (Err fault) outcome read says done = absurd (done_not_refused (fault_refused outcome fault Done says done))
+survey_plain : (s : Survey) → (Done ≡ survey_status s) ⊎ (Refused ≡ survey_status s)
+survey_plain survey.NoInitial = inr refl
+survey_plain (survey.Findings initial findings) = inl refl
+
+way_plain : {D : Type 0} (tell : D → Outcome) (IsRight : D → Type 0) (program : Program) (outcome : Outcome) → ((d : D) → IsPlain (tell d)) → Ways tell IsRight program outcome → IsPlain outcome
+way_plain tell IsRight program outcome plain (inl a) = inr (sym (ap status_of a.is))
+way_plain tell IsRight program outcome plain (inr (inl a)) = inr (sym (ap status_of a.is))
+way_plain tell IsRight program outcome plain (inr (inr a)) = subst IsPlain (sym a.is) (plain a.decided)
+
+run_plain : (plain_of : Program → Plain) (script : Script) (outcome : Outcome) → RunWays plain_of script outcome → IsPlain outcome
+run_plain plain_of script outcome (inl a) = inr (sym (ap status_of a.is))
+run_plain plain_of script outcome (inr (inl a)) = inr (sym (ap status_of a.is))
+run_plain plain_of script outcome (inr (inr a)) = inl (sym (ap status_of a.is))
+
+module _ {A : Type 0} (IsRead : List ℕ → Result A Fault → Type 0) (Says : A → Outcome → Type 0) (input : List ℕ) (outcome : Outcome) (plain : (value : A) → Says value outcome → IsPlain outcome) where
+  read_plain : (reading : Result A Fault) → OfRead Says reading outcome → IsPlain outcome
+  read_plain (Ok value) says = plain value says
+  read_plain (Err fault) says = inr (sym (ap status_of says))
+
+  find_plain : Finds IsRead Says input outcome → IsPlain outcome
+  find_plain found = read_plain found.reading found.says
+
+-- so what isn't plain is found under `check`
+record IsOfCheck (command : Command) (input : List ℕ) (outcome : Outcome) : Type 0 where
+  told : Option ℕ
+  command_is : command ≡ Check told
+  finds : Finds IsReading (Checks (budget_of told)) input outcome
+
+of_check : (command : Command) (input : List ℕ) (outcome : Outcome) → (IsPlain outcome → ⊥) → FindsBy command input outcome → IsOfCheck command input outcome
+of_check (Check told) input outcome other found = record { told = told; command_is = refl; finds = found }
+of_check (Conditions told) input outcome other found =
+    absurd (other (find_plain IsReading (Surveys (budget_of told)) input outcome
+        (λ program says. way_plain (Surveyed program (budget_of told)) _ program outcome survey_plain (survey_way (budget_of told) program outcome says)) found))
+of_check Fmt input outcome other found = absurd (other (find_plain IsReading Prints input outcome (λ program says. inl (sym (ap status_of says))) found))
+of_check RunLow input outcome other found = absurd (other (find_plain IsScriptReading (Runs lowest) input outcome (λ script says. run_plain lowest script outcome (run_way lowest script outcome says)) found))
+of_check RunTop input outcome other found = absurd (other (find_plain IsScriptReading (Runs topmost) input outcome (λ script says. run_plain topmost script outcome (run_way topmost script outcome says)) found))
+
+rejected_other : (outcome : Outcome) → Rejected ≡ status_of outcome → IsPlain outcome → ⊥
+rejected_other outcome is (inl done) = let e : Rejected ≡ Done = is ∙ sym done in cc
+rejected_other outcome is (inr refused) = let e : Rejected ≡ Refused = is ∙ sym refused in cc
+
+undecided_other : (outcome : Outcome) → Undecided ≡ status_of outcome → IsPlain outcome → ⊥
+undecided_other outcome is (inl done) = let e : Undecided ≡ Done = is ∙ sym done in cc
+undecided_other outcome is (inr refused) = let e : Undecided ≡ Refused = is ∙ sym refused in cc
+
+-- ---- what is told and replayed
 
 record IsTold (input : List ℕ) (budget : ℕ) (outcome : Outcome) : Type 0 where
   program : Program
-  survey : Survey
-  tells : Tells input budget program survey
-  is : outcome ≡ Surveyed program budget survey
+  found : Survey
+  tells : Tells input budget program found
+  is : outcome ≡ Surveyed program budget found
 
-told_as : (input : List ℕ) (budget : ℕ) (program : Program) (outcome : Outcome) → IsReading input (Ok program) → Surveys budget program outcome → Done ≡ status_of outcome → IsTold input budget outcome
-told_as input budget program TooLong read says done = absurd says
-told_as input budget program (Unread fault) read says done = absurd says
-told_as input budget program Untaken read says done = absurd says
-told_as input budget program (Broken refusal) read says done = absurd (done_not_refused done)
-told_as input budget program (Judged judged verdict) read says done = absurd says
-told_as input budget program (Heavy weighed first) read says done = absurd (done_not_refused done)
-told_as input budget program (Surveyed judged told survey) read says done = record {
-  program = program;
-  survey = survey;
-  tells = record { spells = read.0; surveyed = says.2; never_accepts = never_accepts program budget survey (text_written input program read.0) };
-  is = ap₂ (λ (p : Program) (n : ℕ). Surveyed p n survey) says.0 says.1;
-}
-told_as input budget program (Printed printed) read says done = absurd says
-told_as input budget program (Misfit number) read says done = absurd says
-told_as input budget program (Ran ran trace) read says done = absurd says
+told_of : (input : List ℕ) (budget : ℕ) (outcome : Outcome) → Done ≡ status_of outcome → Finds IsReading (Surveys budget) input outcome → IsTold input budget outcome
+told_of input budget outcome is found =
+    let s = spelled IsReading (Surveys budget) input outcome Done done_not_refused is found in
+    let d = decided (Surveyed s.value budget) (IsSurvey s.value budget) s.value outcome Done done_not_refused is (survey_way budget s.value outcome s.says) in
+    record {
+      program = s.value;
+      found = d.decided;
+      tells = record {
+        spelled = record { spells = s.read.0; taken = d.taken };
+        found = d.right;
+        never_accepts = never_accepts s.value budget d.decided (text_written input s.value s.read.0);
+      };
+      is = d.is;
+    }
 
-told_read : (input : List ℕ) (budget : ℕ) (reading : Result Program Fault) (outcome : Outcome) → IsReading input reading → SurveysRead budget reading outcome → Done ≡ status_of outcome → IsTold input budget outcome
-told_read input budget (Ok program) outcome read says done = told_as input budget program outcome read says done
-told_read input budget (Err fault) outcome read says done = absurd (done_not_refused (fault_refused outcome fault Done says done))
+replayed : (plain_of : Program → Plain) (script : Script) (outcome : Outcome) → Done ≡ status_of outcome → RunWays plain_of script outcome → IsRun plain_of script outcome
+replayed plain_of script outcome is (inl a) = absurd (done_not_refused (is ∙ ap status_of a.is))
+replayed plain_of script outcome is (inr (inl a)) = absurd (done_not_refused (is ∙ ap status_of a.is))
+replayed plain_of script outcome is (inr (inr a)) = a
 
 -- a count that stayed didn't rise
 not_both : (before now : ℕ) → Stayed before now → Rose before now → ⊥
@@ -348,49 +378,77 @@ module _ (words : List (List ℕ)) (before after : ReadState) (sink sink_after :
   judged_by status no_fault some no_failure (inl (report, inr f, grown)) input told = absurd (no_failure report f)
   judged_by status no_fault some no_failure (inr h) input told = absurd (no_fault h.0)
 
-  done_by : Explains words before after sink sink_after Done → (input : List ℕ) → before.left ≡ Some input → (command : Command) × AreWordsOf command words × Judgement command input Done
-  done_by e input told = judged_by Done (λ i. cc) done_not_refused (λ report f. f) e input told
+  done_by : (wanted : Command) → Explains words before after sink sink_after Done → AreWordsOf wanted words → (input : List ℕ) → before.left ≡ Some input → Judgement wanted input Done
+  done_by wanted e words_are input told =
+      let h = judged_by Done (λ i. cc) done_not_refused (λ report f. f) e input told in
+      subst (λ (c : Command). Judgement c input Done) (one_command words h.0 wanted h.1 words_are) h.2
 
-  pub accepts_by : Explains words before after sink sink_after Done → AreWordsOf Check words → AcceptsRightly before after sink sink_after
-  accepts_by e check input told =
-      let h = done_by e input told in
-      let found : Judgement Check input Done = subst (λ (c : Command). Judgement c input Done) (one_command words h.0 Check h.1 check) h.2 in
-      let a = accepted_read input found.finds.reading found.outcome found.finds.short found.finds.read found.finds.says found.status_is in
-      (a.program, a.count, a.accepts, subst (λ (o : Outcome). ReadsAndWrites after sink sink_after (report_of o)) a.is found.does)
+  -- the report in other words
+  written_as : (input report : List ℕ) (outcome : Outcome) → report_of outcome ≡ report → ReadsAndWrites after sink sink_after (report_of outcome) → ReadsAndWrites after sink sink_after report
+  written_as input report outcome is does = subst (λ (r : List ℕ). ReadsAndWrites after sink sink_after r) is does
+
+  pub accepts_by : AcceptedProgramsPreserve → (told : Option ℕ) → Explains words before after sink sink_after Done → AreWordsOf (Check told) words → AcceptsRightly before after sink sink_after
+  accepts_by law told e check input is =
+      let found = done_by (Check told) e check input is in
+      let h = checked input (budget_of told) found.outcome Done done_not_refused found.status_is found.finds in
+      let a = accepted law input (budget_of told) found.outcome found.finds.short h in
+      (a.program, a.count, a.accepts, written_as input (accepted_text a.count) found.outcome a.report_is found.does)
 
   pub surveys_by : (told : Option ℕ) → Explains words before after sink sink_after Done → AreWordsOf (Conditions told) words → SurveysRightly (budget_of told) before after sink sink_after
   surveys_by told e conditions input is =
-      let h = done_by e input is in
-      let found : Judgement (Conditions told) input Done = subst (λ (c : Command). Judgement c input Done) (one_command words h.0 (Conditions told) h.1 conditions) h.2 in
-      let t = told_read input (budget_of told) found.finds.reading found.outcome found.finds.read found.finds.says found.status_is in
-      (t.program, t.survey, t.tells, subst (λ (o : Outcome). ReadsAndWrites after sink sink_after (report_of o)) t.is found.does)
+      let found = done_by (Conditions told) e conditions input is in
+      let t = told_of input (budget_of told) found.outcome found.status_is found.finds in
+      (t.program, t.found, t.tells, written_as input _ found.outcome (ap report_of t.is) found.does)
 
   pub prints_by : Explains words before after sink sink_after Done → AreWordsOf Fmt words → PrintsRightly before after sink sink_after
   prints_by e fmt input told =
-      let h = done_by e input told in
-      let found : Judgement Fmt input Done = subst (λ (c : Command). Judgement c input Done) (one_command words h.0 Fmt h.1 fmt) h.2 in
-      let p = printed_read input found.finds.reading found.outcome found.finds.read found.finds.says found.status_is in
-      (p.program, p.spells, subst (λ (o : Outcome). ReadsAndWrites after sink sink_after (report_of o)) p.is found.does)
+      let found = done_by Fmt e fmt input told in
+      let p = spelled IsReading Prints input found.outcome Done done_not_refused found.status_is found.finds in
+      (p.value, p.read.0, written_as input _ found.outcome (ap report_of p.says) found.does)
+
+  replays_by : (plain_of : Program → Plain) (input : List ℕ) (outcome : Outcome) → Done ≡ status_of outcome → Finds IsScriptReading (Runs plain_of) input outcome → ReadsAndWrites after sink sink_after (report_of outcome)
+      → (script : Script) × (trace : Trace) × Replays plain_of input script trace × ReadsAndWrites after sink sink_after (run_text script.program trace)
+  replays_by plain_of input outcome is finds does =
+      let s = spelled IsScriptReading (Runs plain_of) input outcome Done done_not_refused is finds in
+      let r = replayed plain_of s.value outcome is (run_way plain_of s.value outcome s.says) in
+      (s.value, r.trace, record { spells = s.read.0; rules = r.rules; runs = r.runs }, written_as input _ outcome (ap report_of r.is) does)
 
   pub low_by : Explains words before after sink sink_after Done → AreWordsOf RunLow words → ReplaysRightly lowest before after sink sink_after
-  low_by e low input told =
-      let h = done_by e input told in
-      let found : Judgement RunLow input Done = subst (λ (c : Command). Judgement c input Done) (one_command words h.0 RunLow h.1 low) h.2 in
-      let r = replayed_read lowest input found.finds.reading found.outcome found.finds.read found.finds.says found.status_is in
-      (r.script, r.trace, r.replays, subst (λ (o : Outcome). ReadsAndWrites after sink sink_after (report_of o)) r.is found.does)
+  low_by e low input told = let found = done_by RunLow e low input told in replays_by lowest input found.outcome found.status_is found.finds found.does
 
   pub top_by : Explains words before after sink sink_after Done → AreWordsOf RunTop words → ReplaysRightly topmost before after sink sink_after
-  top_by e top input told =
-      let h = done_by e input told in
-      let found : Judgement RunTop input Done = subst (λ (c : Command). Judgement c input Done) (one_command words h.0 RunTop h.1 top) h.2 in
-      let r = replayed_read topmost input found.finds.reading found.outcome found.finds.read found.finds.says found.status_is in
-      (r.script, r.trace, r.replays, subst (λ (o : Outcome). ReadsAndWrites after sink sink_after (report_of o)) r.is found.does)
+  top_by e top input told = let found = done_by RunTop e top input told in replays_by topmost input found.outcome found.status_is found.finds found.does
 
-  pub rejects_by : Explains words before after sink sink_after Rejected → RejectsRightly before after sink sink_after
+  pub rejects_by : Explains words before after sink sink_after Rejected → RejectsRightly words before after sink sink_after
   rejects_by e input told =
       let h = judged_by Rejected (λ i. cc) rejected_not_refused (λ report f. f) e input told in
-      let r = rejected_found h.0 input h.2.outcome h.2.finds h.2.status_is in
-      (r.program, r.counter, r.rejects, subst (λ (o : Outcome). ReadsAndWrites after sink sink_after (report_of o)) r.is h.2.does)
+      let c = of_check h.0 input h.2.outcome (rejected_other h.2.outcome h.2.status_is) h.2.finds in
+      let v = checked input (budget_of c.told) h.2.outcome Rejected rejected_not_refused h.2.status_is c.finds in
+      let r = rejected input (budget_of c.told) h.2.outcome v in
+      (
+        c.told,
+        subst (λ (command : Command). AreWordsOf command words) c.command_is h.1,
+        r.program,
+        r.counter,
+        r.rejects,
+        written_as input (rejected_text r.program r.counter) h.2.outcome r.report_is h.2.does,
+      )
+
+  pub leaves_open_by : Explains words before after sink sink_after Undecided → LeavesOpenRightly words before after sink sink_after
+  leaves_open_by e input told =
+      let h = judged_by Undecided (λ i. cc) undecided_not_refused (λ report f. f) e input told in
+      let c = of_check h.0 input h.2.outcome (undecided_other h.2.outcome h.2.status_is) h.2.finds in
+      let v = checked input (budget_of c.told) h.2.outcome Undecided undecided_not_refused h.2.status_is c.finds in
+      let o = left_open input (budget_of c.told) h.2.outcome v in
+      (
+        c.told,
+        subst (λ (command : Command). AreWordsOf command words) c.command_is h.1,
+        o.program,
+        o.formula,
+        o.log,
+        o.leaves,
+        written_as input (undecided_text o.program o.formula (budget_of c.told)) h.2.outcome o.report_is h.2.does,
+      )
 
   pub refuses_by : Explains words before after sink sink_after Refused → RefusesRightly words before after sink sink_after
   refuses_by (inl (report, inl h, grown)) input told = (

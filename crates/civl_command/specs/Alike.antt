@@ -1,14 +1,11 @@
 -- What two outcomes for which one input calls have in common.
 use Rattle.std.specs.Prelude.{◌≡◌}
 use Rattle.civl_findings.specs.Agreement.{SurveysAgree}
-use Rattle.civl_command.specs.Outcome.{Outcome, Surveyed, status_of, heading_of}
+use Rattle.civl_judgements.specs.Agreement.{VerdictsAgree}
+use Rattle.civl_command.specs.Outcome.{Outcome, Judged, Surveyed}
 
--- their status, and their reports but for the values that violate a condition
-pub record AreOne (first second : Outcome) : Type 0 where
-  pub status : status_of first ≡ status_of second
-  pub heading : heading_of first ≡ heading_of second
-
--- two surveys don't speak against each other, and all others are one
+-- two verdicts don't speak against each other, nor do two surveys, and all others are one
 abbrev pub AreAlike : Outcome → Outcome → Type 0
+AreAlike (Judged program budget verdict) (Judged other limit found) = VerdictsAgree program verdict found
 AreAlike (Surveyed program budget survey) (Surveyed other limit found) = SurveysAgree survey found
-AreAlike first second = AreOne first second
+AreAlike first second = first ≡ second

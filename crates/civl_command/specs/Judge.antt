@@ -3,11 +3,12 @@ use Rattle.std.specs.Prelude.{◌≡◌, ℕ, ◌+◌, ◌⊎◌, List, [], leng
 use Rattle.std.specs.Io.KnownBytes.{Appends, Consumes, IsAtEnd}
 use Rattle.civl_outside.specs.Count.{Rose}
 use Rattle.civl_outside.specs.Sent.{AppendsPart}
+use Rattle.civl_reports.specs.Lines.{line}
 use Rattle.civl_words.specs.Words.{AreWordsOf, AreTaken}
 use Rattle.civl_words.specs.declared.words.Command.{Command}
 use Rattle.civl_command.specs.Outcome.{Outcome, TooLong, FindsBy, status_of, report_of, limit}
-use Rattle.civl_command.specs.Report.{line, bytes_of}
-use Rattle.civl_command.specs.declared.judge.Judged.{Judged}
+use Rattle.civl_command.specs.Report.{bytes_of}
+use Rattle.civl_command.specs.declared.judged.Judged.{Judged}
 use Rattle.civl_command.specs.declared.status.Status.{Status}
 use Rattle.civl_command.specs.declared.status.Status.TheVariants.{ReadFault, WriteFault, Usage, Memory}
 

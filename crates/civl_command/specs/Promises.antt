@@ -1,25 +1,31 @@
 -- What `command` promises where the source tells the bytes still to come and the sink those that it took.
-use Rattle.std.specs.Prelude.{◌≡◌, ◌≢◌, ℕ, ◌⊎◌, List, [], ◌++◌, codes, Some}
+use Rattle.std.specs.Prelude.{◌≡◌, ◌≢◌, ℕ, ◌⊎◌, List, [], ◌++◌, length, codes, Option, Some}
 use Rattle.civl_outside.specs.Count.{Stayed}
 use Rattle.civl_tree.specs.declared.program.Program.{Program}
 use Rattle.civl_tree.specs.declared.script.Script.{Script}
 use Rattle.civl_meaning.specs.declared.config.Plain.{Plain}
 use Rattle.civl_meaning.specs.Preserves.{Preserves}
 use Rattle.civl_run.specs.declared.trace.Trace.{Trace}
+use Rattle.civl_cnf.specs.Literal.{Literal}
+use Rattle.civl_conditions.specs.declared.condition.Condition.{Condition}
+use Rattle.civl_conditions.specs.Listed.{conditions}
+use Rattle.civl_conditions.specs.Violated.{Violates}
 use Rattle.civl_verdicts.specs.declared.survey.Survey.{Survey}
+use Rattle.civl_verdicts.specs.declared.verdict.Counter.{Counter}
+use Rattle.civl_verdicts.specs.Surveys.{IsSurvey}
+use Rattle.civl_verdicts.specs.Verdicts.{IsReached, AllHold, IsUndecided}
 use Rattle.civl_reports.specs.Lines.{HasLineThatBegins}
 use Rattle.civl_reports.specs.Findings.{survey_text}
-use Rattle.civl_words.specs.Words.{AreWordsOf}
+use Rattle.civl_verdict_reports.specs.Verdicts.{accepted_text, rejected_text, undecided_text}
+use Rattle.civl_words.specs.Words.{AreWordsOf, budget_of}
 use Rattle.civl_words.specs.declared.words.Command.{Command}
-use Rattle.civl_flag.specs.Verdicts.{IsRight}
-use Rattle.civl_flag.specs.declared.condition.Counter.{Counter}
-use Rattle.civl_flag.specs.declared.condition.Verdict.TheVariants.{Accepted, Rejected as RejectedBy}
+use Rattle.civl_words.specs.declared.words.Command.TheVariants.{Check}
 use Rattle.civl_command.specs.Rules.{IsLawful, IsTaken}
 use Rattle.civl_command.specs.Texts.{SpellsProgram, SpellsScript}
-use Rattle.civl_command.specs.Outcome.{Outcome, TooLong, IsSurveyed, RunsBy, CallsFor, printed_text, status_of, report_of}
+use Rattle.civl_command.specs.Outcome.{Outcome, TooLong, RunsBy, CallsFor, printed_text, status_of, report_of}
 use Rattle.civl_command.specs.Alike.{AreAlike}
 use Rattle.civl_command.specs.Judge.{ReadState, WriteState}
-use Rattle.civl_command.specs.Report.{accepted_text, rejected_text, run_text}
+use Rattle.civl_command.specs.Report.{run_text}
 use Rattle.civl_command.specs.declared.status.Status.{Status}
 use Rattle.civl_command.specs.declared.status.Status.TheVariants.{Refused, Memory}
 
@@ -32,14 +38,19 @@ pub record ReadsAndWrites (after : ReadState) (sink sink_after : WriteState) (re
   pub read : after.left ≡ Some []
   pub written : Writes sink sink_after report
 
--- The input spells exactly one program, which has the flag form and breaks no static rule; some store is initial, and from
--- each initial store from which some interleaving of the lowest program fails, some interleaving of the topmost program
--- fails; all conditions hold, and there are so many.
-pub record Accepts (input : List ℕ) (program : Program) (count : ℕ) : Type 0 where
+-- The input spells exactly one program, which breaks no static rule and no formula of which weighs too much.
+pub record SpellsTaken (input : List ℕ) (program : Program) : Type 0 where
   pub spells : SpellsProgram input program
   pub taken : IsTaken program
+
+-- The program that the input spells preserves failures: it has an initial store, and from each initial store from which some
+-- interleaving of its lowest program fails, some interleaving of its topmost program fails. All its conditions hold, and there are so
+-- many.
+pub record Accepts (input : List ℕ) (program : Program) (count : ℕ) : Type 0 where
+  pub spelled : SpellsTaken input program
   pub preserves : Preserves program
-  pub right : IsRight program (Accepted count)
+  pub hold : AllHold program
+  pub count_is : count ≡ length (conditions program)
 
 -- Done under `check`: that is so of the input, and the report says it.
 abbrev pub AcceptsRightly : ReadState → ReadState → WriteState → WriteState → Type 0
@@ -47,24 +58,41 @@ AcceptsRightly before after sink sink_after =
     (input : List ℕ) → before.left ≡ Some input →
     (program : Program) × (count : ℕ) × Accepts input program count × ReadsAndWrites after sink sink_after (accepted_text count)
 
--- The input spells exactly one program, which has the flag form and breaks no static rule; some store is initial; the
--- condition is the first that doesn't hold, and the values violate it.
+-- Some store is initial in the program that the input spells. The condition has this place in its list, and each condition before it
+-- holds; it doesn't hold itself, since these values violate it, one of the right sort for each of its variables.
 pub record Rejects (input : List ℕ) (program : Program) (counter : Counter) : Type 0 where
-  pub spells : SpellsProgram input program
-  pub taken : IsTaken program
-  pub right : IsRight program (RejectedBy counter)
+  pub spelled : SpellsTaken input program
+  pub place : ℕ
+  pub reached : IsReached program counter.condition place
+  pub violates : Violates program counter.condition counter.values
 
--- Rejected: that is so of the input, and the report says it.
-abbrev pub RejectsRightly : ReadState → ReadState → WriteState → WriteState → Type 0
-RejectsRightly before after sink sink_after =
+-- Rejected: the words are those of `check`, that is so of the input, and the report says it.
+abbrev pub RejectsRightly : List (List ℕ) → ReadState → ReadState → WriteState → WriteState → Type 0
+RejectsRightly words before after sink sink_after =
     (input : List ℕ) → before.left ≡ Some input →
-    (program : Program) × (counter : Counter) × Rejects input program counter × ReadsAndWrites after sink sink_after (rejected_text program counter)
+    (told : Option ℕ) × AreWordsOf (Check told) words
+    × (program : Program) × (counter : Counter) × Rejects input program counter × ReadsAndWrites after sink sink_after (rejected_text program counter)
 
--- The input spells exactly one program, which breaks no static rule and no formula of which weighs too much; this is found of its
--- conditions under the budget; and no line of the report on it begins with `accepted`.
+-- The search for an initial store of the program that the input spells, or for values that violate this condition, spent the budget on
+-- the clauses of this log, and the formula that it decides is wide. Before a condition some store was found initial, and each condition
+-- before it holds.
+pub record LeavesOpen (input : List ℕ) (budget : ℕ) (program : Program) (formula : Option Condition) (log : List (List Literal)) : Type 0 where
+  pub spelled : SpellsTaken input program
+  pub open : IsUndecided program budget formula log
+
+-- Undecided: the words are those of `check`, that is so of the input under their budget, and the report says it.
+abbrev pub LeavesOpenRightly : List (List ℕ) → ReadState → ReadState → WriteState → WriteState → Type 0
+LeavesOpenRightly words before after sink sink_after =
+    (input : List ℕ) → before.left ≡ Some input →
+    (told : Option ℕ) × AreWordsOf (Check told) words
+    × (program : Program) × (formula : Option Condition) × (log : List (List Literal))
+    × LeavesOpen input (budget_of told) program formula log × ReadsAndWrites after sink sink_after (undecided_text program formula (budget_of told))
+
+-- This is found of the conditions of the program that the input spells, under the budget; and no line of the report on it begins with
+-- `accepted`.
 pub record Tells (input : List ℕ) (budget : ℕ) (program : Program) (survey : Survey) : Type 0 where
-  pub spells : SpellsProgram input program
-  pub surveyed : IsSurveyed program budget survey
+  pub spelled : SpellsTaken input program
+  pub found : IsSurvey program budget survey
   pub never_accepts : HasLineThatBegins (codes "accepted") (survey_text program budget survey) → ⊥
 
 -- Done under `conditions`: that is so of the input, and the report says it.
@@ -104,8 +132,8 @@ RefusesRightly words before after sink sink_after =
     (command : Command) × AreWordsOf command words
     × (outcome : Outcome) × CallsFor command input outcome × (status_of outcome ≡ Refused) × Carries after sink sink_after outcome
 
--- the status and the report are those of an outcome for which the input calls, and which is alike the given one: the two have one
--- status and one report but for the values that violate a condition, or are surveys that don't speak against each other
+-- the status and the report are those of an outcome for which the input calls, and which is alike the given one: the two are verdicts
+-- or surveys that don't speak against each other, or they are one
 pub record AnswersAs (command : Command) (input : List ℕ) (after : ReadState) (sink sink_after : WriteState) (status : Status) (outcome : Outcome) : Type 0 where
   pub found : Outcome
   pub calls : CallsFor command input found

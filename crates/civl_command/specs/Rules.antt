@@ -1,10 +1,10 @@
--- What the static rules say of a program, and the programs that `check` takes.
-use Rattle.std.specs.Prelude.{Option, IsTrue}
+-- What the static rules and the limit on weights say of a program.
+use Rattle.std.specs.Prelude.{◌≡◌, Option, None}
 use Rattle.civl_tree.specs.declared.program.Program.{Program}
 use Rattle.civl_tree.specs.declared.refusal.Refusal.{Refusal}
 use Rattle.civl_tree.specs.rules.Rules.{refusal_by, Keeps}
+use Rattle.civl_conditions.specs.Weights.{heavy}
 use Rattle.civl_verify.specs.Admitted.{static_rules}
-use Rattle.civl_flag.specs.FlagForm.{is_flag_form}
 
 -- the first static rule that a program breaks, with its place
 abbrev pub static_refusal : Program → Option Refusal
@@ -14,7 +14,7 @@ static_refusal program = refusal_by static_rules program
 abbrev pub IsLawful : Program → Type 0
 IsLawful program = Keeps static_rules program
 
--- The program has the flag form and breaks no static rule.
+-- The program breaks no static rule, and no formula of it weighs too much: its conditions are decided.
 pub record IsTaken (program : Program) : Type 0 where
-  pub form : IsTrue (is_flag_form program)
   pub rules : IsLawful program
+  pub light : heavy program ≡ None

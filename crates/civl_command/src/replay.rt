@@ -8,7 +8,7 @@ ghost use Rattle.civl_command.specs.Outcome.{Misfit, Ran, Runs};
 ghost use Rattle.civl_command.specs.Judge.{IsJudged};
 
 use crate::admission::admitted;
-use crate::judge::{Judged, Report, refuse};
+use crate::judged::{Judged, Report, refuse};
 use crate::report::{report_misfit, report_run};
 use crate::status::Status;
 use civl_layers::{Layered, low, program, top};

@@ -5,21 +5,21 @@ ghost use Rattle.civl_command.specs.Status.{code_of};
 /// How a call of [`command`](crate::command) ended.
 #[derive(Clone, Copy, Debug, PartialEq, Eq)]
 pub enum Status {
-    /// The program was accepted.
+    /// The program was accepted, or the command did what it says. The code is 0.
     Done,
-    /// A condition doesn't hold.
+    /// A condition of the program that is checked doesn't hold. The code is 1.
     Rejected,
-    /// The budget of a search was spent.
+    /// The budget of a search was spent on the program that is checked. The code is 2.
     Undecided,
-    /// The text is refused.
+    /// The text is refused. The code is 3.
     Refused,
-    /// The source failed.
+    /// The source failed. The code is 4.
     ReadFault,
-    /// The sink failed, or took nothing more.
+    /// The sink failed, or took nothing more. The code is 5.
     WriteFault,
-    /// The words are no command.
+    /// The words are no command. The code is 6.
     Usage,
-    /// Memory is wanting.
+    /// Memory is wanting. The code is 7.
     Memory,
 }
 

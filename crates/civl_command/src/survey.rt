@@ -1,23 +1,19 @@
 // What is found of the conditions of a program.
 ghost use Rattle.std.specs.Prelude.{◌≡◌, ◌≤◌, length, IsTrue};
-ghost use Rattle.civl_tree.specs.Numbered.{IsNumbered};
 ghost use Rattle.civl_tree.specs.SpellingDomain.{allows_program};
 ghost use Rattle.civl_command.specs.Rules.{IsLawful};
 ghost use Rattle.civl_command.specs.Texts.{IsReading};
-ghost use Rattle.civl_command.specs.Outcome.{Heavy, Surveyed, Surveys, SurveysRead, Finds, survey_status, limit};
+ghost use Rattle.civl_command.specs.Outcome.{Surveyed, Surveys, Finds, survey_status, limit};
 ghost use Rattle.civl_command.specs.Judge.{IsJudged};
 
-use crate::admission::admitted;
-use crate::judge::{Judged, Report, judge_fault, refuse};
-use crate::reader::{Text, read_program};
+use crate::admission::read_admitted;
+use crate::judged::{Judged, Report, too_heavy};
 use crate::status::Status;
-use civl_conditions::Condition;
 use civl_judging::survey;
 use civl_layers::Layered;
 use civl_maker::Maker;
 use civl_portfolio::Prover;
-use civl_reports::{report_heavy, report_survey};
-use civl_tree::{Program, Refused};
+use civl_reports::report_survey;
 use civl_verdicts::Survey;
 use civl_verify::{Admitted, locals_held, source};
 use civl_weights::TooMuch;
@@ -46,19 +42,6 @@ fn surveyed(alloc: Global, src: &Layered, budget: u32, survey: &Survey) -> Judge
     }
 }
 
-/// What is written of a program one of whose formulas weighs too much.
-fn too_heavy(alloc: Global, src: &Layered, formula: Option<Condition>) -> Judged
-    ensures { IsJudged (λ outcome. outcome ≡ Heavy src.now formula) result }
-{
-    let Ok(report) = report_heavy(alloc, src, formula) else {
-        return Judged::wanting();
-    };
-    Judged {
-        status: Status::Refused,
-        report: Report::Made(report),
-    }
-}
-
 /// What `conditions` finds of a program that breaks no static rule.
 fn survey_admitted(
     alloc: Global,
@@ -78,24 +61,6 @@ fn survey_admitted(
     }
 }
 
-/// What `conditions` finds of a program.
-fn survey_program(
-    alloc: Global,
-    budget: u32,
-    program: Program,
-    provers: &mut Vec<Box<dyn Prover>>,
-) -> Judged
-    requires numbered { IsNumbered program }
-    requires written { IsTrue (allows_program program) }
-    ensures { IsJudged (Surveys budget program) result }
-{
-    match admitted(alloc, program) {
-        Ok(admitted) => survey_admitted(alloc, budget, &admitted, provers),
-        Err(Refused::At(refusal)) => refuse(alloc, refusal),
-        Err(Refused::Memory) => Judged::wanting(),
-    }
-}
-
 /// What `conditions` finds of a text.
 pub(crate) fn survey_text(
     alloc: Global,
@@ -104,11 +69,10 @@ pub(crate) fn survey_text(
     provers: &mut Vec<Box<dyn Prover>>,
 ) -> Judged
     requires { length bytes.now ≤ limit }
-    ensures { IsJudged (Finds IsReading (SurveysRead budget) bytes.now) result }
+    ensures { IsJudged (Finds IsReading (Surveys budget) bytes.now) result }
 {
-    match read_program(alloc, bytes) {
-        Text::Spelled(program) => survey_program(alloc, budget, program, provers),
-        Text::Unread(fault) => judge_fault(alloc, fault),
-        Text::Memory => Judged::wanting(),
+    match read_admitted(alloc, bytes) {
+        Ok(admitted) => survey_admitted(alloc, budget, &admitted, provers),
+        Err(judged) => judged,
     }
 }

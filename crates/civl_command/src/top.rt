@@ -3,12 +3,13 @@ ghost use Rattle.std.specs.Prelude.{◌≡◌, ◌⊎◌, ℕ, map, string_bytes
 ghost use Rattle.civl_meaning.specs.Layers.{lowest, topmost};
 ghost use Rattle.civl_words.specs.Words.{AreWordsOf, AreTaken, budget_of};
 ghost use Rattle.civl_command.specs.Judge.{reading, writing, Explains};
-ghost use Rattle.civl_command.specs.Promises.{AcceptsRightly, SurveysRightly, PrintsRightly, ReplaysRightly, RejectsRightly, RefusesRightly, IsComplete};
+ghost use Rattle.civl_command.specs.Promises.{AcceptsRightly, SurveysRightly, PrintsRightly, ReplaysRightly, RejectsRightly, LeavesOpenRightly, RefusesRightly, IsComplete};
 
 use crate::judge::judge;
 use crate::status::Status;
 use civl_outside::{Sent, Sink, Source, write_all};
 use civl_portfolio::Prover;
+use civl_preserves::laws::accepted_programs_preserve;
 use civl_words::Command;
 use std::alloc::Global;
 
@@ -28,7 +29,7 @@ fn respond<S: Source, K: Sink>(
         result }
     ensures unread { (AreTaken (map string_bytes words.now.items) → ⊥) → source.new ≡ source.old }
     ensures unwritten { (result ≡ Status.ReadFault) ⊎ (result ≡ Status.Memory) → sink.new ≡ sink.old }
-    ensures unasked { ((told : Option ℕ) → AreWordsOf (Command.Conditions told) (map string_bytes words.now.items) → ⊥) → provers.new ≡ provers.old }
+    ensures unasked { ((told : Option ℕ) → AreWordsOf (Command.Check told) (map string_bytes words.now.items) ⊎ AreWordsOf (Command.Conditions told) (map string_bytes words.now.items) → ⊥) → provers.new ≡ provers.old }
 {
     let judged = judge(alloc, words, source, provers);
     match write_all(sink, judged.report.as_slice()) {
@@ -41,26 +42,26 @@ fn respond<S: Source, K: Sink>(
 /// Does what the words after the program's name say: reads the input from the source, and writes one report to the
 /// sink.
 ///
-/// The words are `check`, `conditions`, `conditions --budget N`, `fmt`, `run low` or `run top`. Under `check` the program that the
-/// input spells is judged, under `conditions` it is told of each of its conditions whether it holds, under `fmt` its canonical text
-/// is written, and under `run` the schedule of a script is replayed on its lowest or its topmost program. N is a decimal number of at
-/// most 10,000,000 without leading zeros: so many clauses each search may learn, and 200,000 where the words don't say. The whole
-/// input is read before anything is written, up to 1,048,576 bytes and one more, and the report is made whole before its first byte
-/// is written. The provers are asked under `conditions` alone, in their order, and none is believed without its certificate; those
-/// that gave a false one are dropped.
+/// The words are `check`, `check --budget N`, `conditions`, `conditions --budget N`, `fmt`, `run low` or `run top`. Under `check` there
+/// is a verdict on the program that the input spells, under `conditions` it is told of each of its conditions whether it holds, under
+/// `fmt` its canonical text is written, and under `run` the schedule of a script is replayed on its lowest or its topmost program. N is
+/// a decimal number of at most 10,000,000 without leading zeros: so many clauses each search may learn, and 200,000 where the words
+/// don't say. The whole input is read before anything is written, up to 1,048,576 bytes and one more, and the report is made whole
+/// before its first byte is written. The provers are asked under `check` and `conditions` alone, in their order, and none is believed
+/// without its certificate; those that gave a false one are dropped.
 ///
 /// # Answers
 ///
 /// - [`Status::Done`]: the program is accepted, its conditions were told, it was printed, or the schedule was replayed.
-/// - [`Status::Rejected`]: a condition of the program doesn't hold.
-/// - [`Status::Refused`]: the input is too long, or is no program or script; its program breaks a static rule, or `check` doesn't
-///   take it; a formula weighs too much, no store is initial, or what a script says doesn't fit its program.
+/// - [`Status::Rejected`]: a condition of the program that is checked doesn't hold.
+/// - [`Status::Undecided`]: the search for an initial store of the program that is checked, or for values that violate one of its
+///   conditions, learned as many clauses as it may.
+/// - [`Status::Refused`]: the input is too long, or is no program or script; its program breaks a static rule; a formula weighs too
+///   much, no store is initial, or what a script says doesn't fit its program.
 /// - [`Status::Usage`]: the words are no command. Nothing is read, and the line on usage is written.
 /// - [`Status::ReadFault`]: the source failed. Nothing is written.
 /// - [`Status::WriteFault`]: the sink failed, or took nothing more. A first part of the report is written.
 /// - [`Status::Memory`]: memory is wanting. Nothing is written.
-///
-/// [`Status::Undecided`] is no answer so far.
 pub fn command<S: Source, K: Sink>(
     alloc: Global,
     words: &Vec<String>,
@@ -77,14 +78,14 @@ pub fn command<S: Source, K: Sink>(
         result }
 
     // Words that are no command leave the source as it is, even where the usage line can't be written; a failed read and want of
-    // memory leave the sink; and words other than those of `conditions` leave the provers.
+    // memory leave the sink; and words other than those of `check` and `conditions` leave the provers.
     ensures unread { (AreTaken (map string_bytes words.now.items) → ⊥) → source.new ≡ source.old }
     ensures unread_usage { result ≡ Status.Usage → source.new ≡ source.old }
     ensures unwritten { (result ≡ Status.ReadFault) ⊎ (result ≡ Status.Memory) → sink.new ≡ sink.old }
-    ensures unasked { ((told : Option ℕ) → AreWordsOf (Command.Conditions told) (map string_bytes words.now.items) → ⊥) → provers.new ≡ provers.old }
+    ensures unasked { ((told : Option ℕ) → AreWordsOf (Command.Check told) (map string_bytes words.now.items) ⊎ AreWordsOf (Command.Conditions told) (map string_bytes words.now.items) → ⊥) → provers.new ≡ provers.old }
 
     // Where the source tells its bytes: what the statuses on a text say of the whole input.
-    ensures accepted { result ≡ Status.Done → AreWordsOf Command.Check (map string_bytes words.now.items) → AcceptsRightly
+    ensures accepted { (told : Option ℕ) → result ≡ Status.Done → AreWordsOf (Command.Check told) (map string_bytes words.now.items) → AcceptsRightly
         (reading (S.left source.old) (S.faults source.old))
         (reading (S.left source.new) (S.faults source.new))
         (writing (K.written sink.old) (K.faults sink.old) (K.stalls sink.old))
@@ -109,7 +110,12 @@ pub fn command<S: Source, K: Sink>(
         (reading (S.left source.new) (S.faults source.new))
         (writing (K.written sink.old) (K.faults sink.old) (K.stalls sink.old))
         (writing (K.written sink.new) (K.faults sink.new) (K.stalls sink.new)) }
-    ensures rejected { result ≡ Status.Rejected → RejectsRightly
+    ensures rejected { result ≡ Status.Rejected → RejectsRightly (map string_bytes words.now.items)
+        (reading (S.left source.old) (S.faults source.old))
+        (reading (S.left source.new) (S.faults source.new))
+        (writing (K.written sink.old) (K.faults sink.old) (K.stalls sink.old))
+        (writing (K.written sink.new) (K.faults sink.new) (K.stalls sink.new)) }
+    ensures undecided { result ≡ Status.Undecided → LeavesOpenRightly (map string_bytes words.now.items)
         (reading (S.left source.old) (S.faults source.old))
         (reading (S.left source.new) (S.faults source.new))
         (writing (K.written sink.old) (K.faults sink.old) (K.stalls sink.old))
@@ -128,5 +134,7 @@ pub fn command<S: Source, K: Sink>(
         (writing (K.written sink.new) (K.faults sink.new) (K.stalls sink.new))
         result }
 {
+    // The law on which `accepted` rests. It computes nothing.
+    accepted_programs_preserve();
     respond(alloc, words, source, sink, provers)
 }

@@ -1,7 +1,9 @@
 -- There is a verdict on each program, and verdicts on one program agree.
-use Rattle.std.specs.Prelude.{slice_get, length}
-use Rattle.std.proofs.Common.{◌≡◌, ◌∙◌, ℕ, suc, ◌+◌, List, [], ◌∷◌, refl, sym, ap, subst, arith, None, Some}
+use Rattle.std.specs.Prelude.{slice_get, length, Option, None, Some}
+use Rattle.std.proofs.Common.{◌≡◌, ◌∙◌, ℕ, suc, ◌+◌, inl, inr, List, [], ◌∷◌, refl, sym, ap, subst, arith}
+use Rattle.std.proofs.lemmas.Bool.{cases_lt}
 use Rattle.civl_tree.specs.declared.program.Program.{Program}
+use Rattle.civl_cnf.specs.Literal.{Literal}
 use Rattle.civl_conditions.specs.declared.condition.Condition.{Condition}
 use Rattle.civl_conditions.specs.Listed.{conditions}
 use Rattle.civl_conditions.specs.Violated.{Violates}
@@ -9,14 +11,15 @@ use Rattle.civl_verdicts.specs.declared.survey.Found.{Found}
 use Rattle.civl_verdicts.specs.declared.survey.Found.TheVariants as found
 use Rattle.civl_verdicts.specs.declared.survey.Survey.{Survey}
 use Rattle.civl_verdicts.specs.declared.survey.Survey.TheVariants as survey
+use Rattle.civl_verdicts.specs.declared.verdict.Counter.{Counter}
 use Rattle.civl_verdicts.specs.declared.verdict.Verdict.{Verdict}
 use Rattle.civl_verdicts.specs.declared.verdict.Verdict.TheVariants.{Accepted, Rejected, Undecided, NoInitial}
 use Rattle.civl_verdicts.specs.Surveys.{AreFound, IsSurvey}
 use Rattle.civl_verdicts.specs.Verdicts.{HasInitial, IsReached, IsVerdict}
-use Rattle.civl_verdicts.proofs.Excluding.{not_both, same_place}
+use Rattle.civl_verdicts.proofs.Excluding.{not_both, not_before, same_place}
 use Rattle.civl_judging.proofs.Verdicts.{HoldBefore, none_before, one_more, all_hold}
 use Rattle.civl_findings.proofs.Surveying.{each_program_has_a_survey}
-use Rattle.civl_judgements.specs.Agreement.{VerdictsAgree}
+use Rattle.civl_judgements.specs.Agreement.{StandsUpTo, IsSearchedBy, VerdictsAgree}
 use Rattle.civl_judgements.specs.Laws.{EachProgramHasAVerdict, VerdictsOnOneAgree}
 
 -- ---- the verdict that a survey gives
@@ -72,26 +75,40 @@ each_program_has_a_verdict program budget keeps = let s = each_program_has_a_sur
 none_initial : (program : Program) (budget : ℕ) → HasInitial program → IsVerdict program budget NoInitial → ⊥
 none_initial program budget initial none = none initial.0 initial.1
 
-module _ (program : Program) (budget limit : ℕ) where
-  agree : (first second : Verdict) → IsVerdict program budget first → IsVerdict program limit second → VerdictsAgree first second
-  agree (Accepted count) (Accepted other) a b = a.2 ∙ sym b.2
-  agree (Accepted count) (Rejected counter) a b = not_both program counter.condition counter.values (a.1 b.0.0 counter.condition b.0.1.there) b.1
-  agree (Accepted count) (Undecided condition log) a b = tt
-  agree (Accepted count) NoInitial a b = none_initial program limit a.0 b
-  agree (Rejected counter) (Accepted count) a b = not_both program counter.condition counter.values (b.1 a.0.0 counter.condition a.0.1.there) a.1
-  agree (Rejected counter) (Rejected other) a b = same_place program counter.condition other.condition a.0.0 b.0.0 counter.values other.values a.0.1 b.0.1 a.1 b.1
-  agree (Rejected counter) (Undecided condition log) a b = tt
-  agree (Rejected counter) NoInitial a b = none_initial program limit a.0.1.initial b
-  agree (Undecided condition log) (Accepted count) a b = tt
-  agree (Undecided condition log) (Rejected counter) a b = tt
-  agree (Undecided condition log) (Undecided other more) a b = tt
-  agree (Undecided None log) NoInitial a b = tt
-  agree (Undecided (Some condition) log) NoInitial a b = none_initial program limit a.0.1.initial b
-  agree NoInitial (Accepted count) a b = none_initial program budget b.0 a
-  agree NoInitial (Rejected counter) a b = none_initial program budget b.0.1.initial a
-  agree NoInitial (Undecided None log) a b = tt
-  agree NoInitial (Undecided (Some condition) log) a b = none_initial program budget b.0.1.initial a
-  agree NoInitial NoInitial a b = tt
+-- a condition that isn't decided stands no later than one that is violated, since all before it hold
+open_before : (program : Program) (first : Condition) (counter : Counter) (i j : ℕ) → IsReached program first i → IsReached program counter.condition j
+    → Violates program counter.condition counter.values → StandsUpTo program first counter.condition
+open_before program first counter i j open_ rejected violates = elim (cases_lt j i) [
+  | inl less ↦ absurd (not_before program counter.condition first j i counter.values rejected open_ violates less)
+  | inr up_to ↦ record { place = i; there = open_.there; bound = j; ends = rejected.there; up_to = up_to }
+]
+
+module _ (program : Program) where
+  open_by : (budget limit : ℕ) (formula : Option Condition) (log : List (List Literal)) (counter : Counter) → IsVerdict program budget (Undecided formula log) → IsVerdict program limit (Rejected counter) → IsSearchedBy program formula counter.condition
+  open_by budget limit None log counter a b = tt
+  open_by budget limit (Some first) log counter a b = open_before program first counter a.0.0 b.0.0 a.0.1 b.0.1 b.1
+
+  open_first : (budget limit : ℕ) (formula : Option Condition) (log : List (List Literal)) → IsVerdict program budget (Undecided formula log) → IsVerdict program limit NoInitial → formula ≡ None
+  open_first budget limit None log a b = refl
+  open_first budget limit (Some first) log a b = absurd (none_initial program limit a.0.1.initial b)
+
+  agree : (budget limit : ℕ) (first second : Verdict) → IsVerdict program budget first → IsVerdict program limit second → VerdictsAgree program first second
+  agree budget limit (Accepted count) (Accepted other) a b = a.2 ∙ sym b.2
+  agree budget limit (Accepted count) (Rejected counter) a b = not_both program counter.condition counter.values (a.1 b.0.0 counter.condition b.0.1.there) b.1
+  agree budget limit (Accepted count) (Undecided formula log) a b = tt
+  agree budget limit (Accepted count) NoInitial a b = none_initial program limit a.0 b
+  agree budget limit (Rejected counter) (Accepted count) a b = not_both program counter.condition counter.values (b.1 a.0.0 counter.condition a.0.1.there) a.1
+  agree budget limit (Rejected counter) (Rejected other) a b = same_place program counter.condition other.condition a.0.0 b.0.0 counter.values other.values a.0.1 b.0.1 a.1 b.1
+  agree budget limit (Rejected counter) (Undecided formula log) a b = open_by limit budget formula log counter b a
+  agree budget limit (Rejected counter) NoInitial a b = none_initial program limit a.0.1.initial b
+  agree budget limit (Undecided formula log) (Accepted count) a b = tt
+  agree budget limit (Undecided formula log) (Rejected counter) a b = open_by budget limit formula log counter a b
+  agree budget limit (Undecided formula log) (Undecided other more) a b = tt
+  agree budget limit (Undecided formula log) NoInitial a b = open_first budget limit formula log a b
+  agree budget limit NoInitial (Accepted count) a b = none_initial program budget b.0 a
+  agree budget limit NoInitial (Rejected counter) a b = none_initial program budget b.0.1.initial a
+  agree budget limit NoInitial (Undecided formula log) a b = open_first limit budget formula log b a
+  agree budget limit NoInitial NoInitial a b = tt
 
 pub verdicts_on_one_agree : VerdictsOnOneAgree
 verdicts_on_one_agree program budget limit first second a b = agree program budget limit first second a b

@@ -11,4 +11,4 @@ abbrev pub EachProgramHasAVerdict : Type 0
 EachProgramHasAVerdict = (program : Program) (budget : ℕ) → Keeps typing_rules program → (verdict : Verdict) × IsVerdict program budget verdict
 
 abbrev pub VerdictsOnOneAgree : Type 0
-VerdictsOnOneAgree = (program : Program) (budget limit : ℕ) (first second : Verdict) → IsVerdict program budget first → IsVerdict program limit second → VerdictsAgree first second
+VerdictsOnOneAgree = (program : Program) (budget limit : ℕ) (first second : Verdict) → IsVerdict program budget first → IsVerdict program limit second → VerdictsAgree program first second

@@ -19,7 +19,8 @@ use Rattle.civl_verdicts.specs.declared.survey.Found.TheVariants.{Holds, Fails, 
 use Rattle.civl_verdicts.specs.declared.survey.Survey.{Survey}
 use Rattle.civl_verdicts.specs.declared.survey.Survey.TheVariants.{NoInitial, Findings}
 use Rattle.civl_reports.specs.Lines.{line}
-use Rattle.civl_reports.specs.Findings.{initial_line, value_line, value_lines, found_lines, findings_lines, how_many, count_line, survey_text}
+use Rattle.civl_reports.specs.Values.{value_line, value_lines}
+use Rattle.civl_reports.specs.Findings.{initial_line, found_lines, findings_lines, how_many, count_line, survey_text}
 use Rattle.civl_reports.specs.Laws.{NeverAccepts}
 use Rattle.civl_reports.specs.declared.counting.Kind.TheVariants as kind
 use Rattle.civl_reports.proofs.Scanning.{IsQuiet, quiet_none, quiet_append, quiet_line, quiet_counted, IsClean, clean_by, joined, decimal_mild, decimal_clean, no_such_line}
@@ -49,16 +50,16 @@ value_clean (value.Row r) = joined (joined (clean_by (codes "[") refl) (cells_cl
 
 -- ---- lines
 
-value_quiet : (v : Variable) (x : Value) → IsClean v.name.bytes → IsQuiet (value_line v x)
+value_quiet : (v : Variable) (x : Value) → IsClean v.name.bytes → IsQuiet (value_line (codes "  ") v.name x)
 value_quiet v x h =
     quiet_line 32 (codes " " ++ v.name.bytes ++ codes " = " ++ value_text x) refl refl (joined (joined (joined (clean_by (codes " ") refl) h) (clean_by (codes " = ") refl)) (value_clean x))
 
-values_quiet : (vs : List Variable) (xs : List Value) → All (λ (v : Variable). IsClean v.name.bytes) vs → IsQuiet (value_lines vs xs)
+values_quiet : (vs : List Variable) (xs : List Value) → All (λ (v : Variable). IsClean v.name.bytes) vs → IsQuiet (value_lines (codes "  ") vs xs)
 values_quiet [] xs h = quiet_none
 values_quiet (v ∷ vs) [] h = quiet_none
 values_quiet (v ∷ vs) (x ∷ xs) h =
     let In : Variable → Type 0 = λ u. IsClean u.name.bytes in
-    quiet_append (value_line v x) (value_lines vs xs) (value_quiet v x (All-head In v vs h)) (values_quiet vs xs (All-tail In v vs h))
+    quiet_append (value_line (codes "  ") v.name x) (value_lines (codes "  ") vs xs) (value_quiet v x (All-head In v vs h)) (values_quiet vs xs (All-tail In v vs h))
 
 -- a name, and what is said of it
 named_quiet : (text end : List ℕ) → IsNamed text → IsClean end → IsQuiet (text ++ line end)
@@ -85,7 +86,7 @@ module _ (program : Program) (budget : ℕ) (written : IsTrue (allows_program pr
   found_quiet c Holds = named_quiet (name_text program c) (codes ": holds") (name_named program written c) (clean_by (codes ": holds") refl)
   found_quiet c (Fails counter) =
       let name = name_text program c in
-      let values = value_lines (variables program c) counter.values in
+      let values = value_lines (codes "  ") (variables program c) counter.values in
       subst IsQuiet (append_assoc name (line (codes ": fails")) values)
       (quiet_append (name ++ line (codes ": fails")) values (named_quiet name (codes ": fails") (name_named program written c) (clean_by (codes ": fails") refl)) (values_quiet (variables program c) counter.values (variables_clean program written c)))
   found_quiet c (Undecided log) = named_quiet (name_text program c) (codes ": undecided after " ++ decimal budget) (name_named program written c) (undecided_clean budget)

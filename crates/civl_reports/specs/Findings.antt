@@ -1,11 +1,8 @@
 -- The report of the command `conditions`.
 use Rattle.std.specs.Prelude.{ℕ, Bool, true, false, List, [], ◌∷◌, ◌++◌, length, filter, codes, decimal, Option, None, Some}
-use Rattle.civl_bits.specs.declared.value.Value.{Value}
 use Rattle.civl_tree.specs.declared.program.Program.{Program}
 use Rattle.civl_cnf.specs.Literal.{Literal}
-use Rattle.civl_models.specs.Text.{value_text}
 use Rattle.civl_conditions.specs.declared.condition.Condition.{Condition}
-use Rattle.civl_conditions.specs.declared.condition.Variable.{Variable}
 use Rattle.civl_conditions.specs.Listed.{conditions}
 use Rattle.civl_conditions.specs.Names.{name_text}
 use Rattle.civl_conditions.specs.Variables.{variables}
@@ -14,6 +11,7 @@ use Rattle.civl_verdicts.specs.declared.survey.Found.TheVariants.{Holds, Fails, 
 use Rattle.civl_verdicts.specs.declared.survey.Survey.{Survey}
 use Rattle.civl_verdicts.specs.declared.survey.Survey.TheVariants.{NoInitial, Findings}
 use Rattle.civl_reports.specs.Lines.{line}
+use Rattle.civl_reports.specs.Values.{beside, value_lines}
 use Rattle.civl_reports.specs.declared.counting.Kind.{Kind}
 use Rattle.civl_reports.specs.declared.counting.Kind.TheVariants as kind
 
@@ -26,24 +24,10 @@ abbrev pub initial_line : ℕ → Option (List (List Literal)) → List ℕ
 initial_line budget None = line (codes "initial: found")
 initial_line budget (Some log) = codes "initial" ++ undecided_line budget
 
--- `  variable = value`
-abbrev pub value_line : Variable → Value → List ℕ
-value_line variable value = line (codes "  " ++ variable.name.bytes ++ codes " = " ++ value_text value)
-
--- what is said of each element of a list and the one beside it in another
-abbrev pub beside : {A B : Type 0} → (A → B → List ℕ) → List A → List B → List ℕ
-beside text [] ys = []
-beside text (x ∷ xs) [] = []
-beside text (x ∷ xs) (y ∷ ys) = text x y ++ beside text xs ys
-
--- a line for each variable, in their order
-abbrev pub value_lines : List Variable → List Value → List ℕ
-value_lines vs values = beside value_line vs values
-
 -- what is found of a condition, with the values where it fails
 abbrev pub found_lines : Program → ℕ → Condition → Found → List ℕ
 found_lines program budget condition Holds = name_text program condition ++ line (codes ": holds")
-found_lines program budget condition (Fails counter) = name_text program condition ++ (line (codes ": fails") ++ value_lines (variables program condition) counter.values)
+found_lines program budget condition (Fails counter) = name_text program condition ++ (line (codes ": fails") ++ value_lines (codes "  ") (variables program condition) counter.values)
 found_lines program budget condition (Undecided log) = name_text program condition ++ undecided_line budget
 
 -- the same of each condition, in their order

@@ -1,18 +1,16 @@
 // What is found of each condition, line by line.
 ghost use Rattle.std.specs.Prelude.{◌≡◌, ◌++◌, OnOk, IfOk};
-ghost use Rattle.civl_conditions.specs.Variables.{variables};
-ghost use Rattle.civl_reports.specs.Findings.{initial_line, value_line, value_lines, undecided_line, found_lines, findings_lines, count_line, survey_text};
+ghost use Rattle.civl_reports.specs.Findings.{initial_line, undecided_line, found_lines, findings_lines, count_line, survey_text};
 
 use crate::counting::{Kind, count};
 use crate::refusals::put_no_initial;
+use crate::values::put_values;
 use crate::writing::{put, put_number};
-use civl_bits::Value;
 use civl_cnf::Log;
-use civl_conditions::{Condition, Variable, listed, name, variables as variables_of};
+use civl_conditions::{Condition, listed, name};
 use civl_layers::Layered;
-use civl_models::put_value_text;
 use civl_tree::{List, Memory};
-use civl_verdicts::{Counter, Found, Survey};
+use civl_verdicts::{Found, Survey};
 use std::alloc::Global;
 
 /// A line that says what the search for an initial store came to.
@@ -39,47 +37,6 @@ fn put_undecided(out: &mut Vec<u8>, budget: u32) -> Result<(), Memory>
     Ok(())
 }
 
-/// A line `variable = value`, with two blanks in front.
-fn put_value(out: &mut Vec<u8>, variable: &Variable, value: &Value) -> Result<(), Memory>
-    ensures { OnOk result (out.new.items ≡ out.old.items ++ value_line variable.now value.now) }
-{
-    put(out, b"  ")?;
-    put(out, variable.name.as_slice())?;
-    put(out, b" = ")?;
-    put_value_text(out, value)?;
-    put(out, b"\n")?;
-    Ok(())
-}
-
-/// A line for each variable, with its value.
-fn put_values(
-    out: &mut Vec<u8>,
-    variables: &List<Variable>,
-    values: &List<Value>,
-) -> Result<(), Memory>
-    ensures { OnOk result (out.new.items ≡ out.old.items ++ value_lines variables.now values.now) }
-{
-    for at in 0..variables.len().min(values.len()) {
-        put_value(out, variables.get(at), values.get(at))?;
-    }
-    Ok(())
-}
-
-/// The lines of values that violate a condition.
-fn put_counter(
-    alloc: Global,
-    out: &mut Vec<u8>,
-    src: &Layered,
-    condition: &Condition,
-    counter: &Counter,
-) -> Result<(), Memory>
-    ensures { OnOk result (out.new.items ≡ out.old.items ++ value_lines (variables src.now condition.now) counter.now.values) }
-{
-    let variables = variables_of(alloc, src, condition)?;
-    put_values(out, &variables, &counter.values)?;
-    Ok(())
-}
-
 /// The lines of a condition: what is found of it, and the values where it fails.
 fn put_found(
     alloc: Global,
@@ -97,7 +54,7 @@ fn put_found(
         Found::Holds => put(out, b": holds\n"),
         Found::Fails(counter) => {
             put(out, b": fails\n")?;
-            put_counter(alloc, out, src, condition, counter)?;
+            put_values(alloc, out, src, b"  ", condition, &counter.values)?;
             Ok(())
         }
         Found::Undecided(_) => put_undecided(out, budget),

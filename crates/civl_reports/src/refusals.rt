@@ -8,8 +8,12 @@ use civl_layers::{Layered, program};
 use civl_tree::Memory;
 use std::alloc::Global;
 
-/// The name of a formula: that of a condition, or of the search for an initial store.
-fn put_formula(
+/// Puts the name of a formula behind what is there: that of a condition, or of the search for an initial store.
+///
+/// # Errors
+///
+/// For want of memory.
+pub fn put_formula(
     alloc: Global,
     out: &mut Vec<u8>,
     src: &Layered,
@@ -47,8 +51,12 @@ pub fn report_heavy(
     Ok(out)
 }
 
-/// A line that says that no store is initial, at the item of `init`.
-pub(crate) fn put_no_initial(out: &mut Vec<u8>, src: &Layered) -> Result<(), Memory>
+/// Puts a line behind what is there that says that no store is initial, at the item of `init`.
+///
+/// # Errors
+///
+/// For want of memory.
+pub fn put_no_initial(out: &mut Vec<u8>, src: &Layered) -> Result<(), Memory>
     ensures { OnOk result (out.new.items ≡ out.old.items ++ no_initial_text src.now) }
 {
     put(out, b"refused E70 at item ")?;

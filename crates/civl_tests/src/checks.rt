@@ -11,14 +11,12 @@ const FMT: &[&str] = &["fmt"];
 
 const ACCEPTED: &str = "accepted 6 conditions";
 
-const UNTAKEN: &str = "refused E99 at item 0 statement 0";
-
 const USAGE: &str = "usage: civl check|conditions|fmt|run|trial|prove|proof";
 
 /// Lists of words that are no command, a line each; the first is the empty one.
 const WORDS: &str = "
 check --budget
-check --budget 1
+check --budget=1
 check x
 Check
 conditions x

@@ -1,33 +1,23 @@
 -- The report of a verdict. Each line ends with byte 10.
-use Rattle.std.specs.Prelude.{ℕ, List, ◌++◌, codes, decimal, Option}
-use Rattle.civl_bits.specs.declared.value.Value.{Value}
+use Rattle.std.specs.Prelude.{ℕ, List, [], ◌++◌, codes, decimal, Option}
 use Rattle.civl_tree.specs.declared.program.Program.{Program}
-use Rattle.civl_models.specs.Text.{value_text}
 use Rattle.civl_conditions.specs.declared.condition.Condition.{Condition}
-use Rattle.civl_conditions.specs.declared.condition.Variable.{Variable}
 use Rattle.civl_conditions.specs.Names.{name_text}
 use Rattle.civl_conditions.specs.Variables.{variables}
 use Rattle.civl_verdicts.specs.declared.verdict.Counter.{Counter}
 use Rattle.civl_verdicts.specs.declared.verdict.Verdict.{Verdict}
 use Rattle.civl_verdicts.specs.declared.verdict.Verdict.TheVariants.{Accepted, Rejected, Undecided, NoInitial}
 use Rattle.civl_reports.specs.Lines.{line}
-use Rattle.civl_reports.specs.Findings.{beside, formula_text, no_initial_text}
+use Rattle.civl_reports.specs.Values.{value_lines}
+use Rattle.civl_reports.specs.Findings.{formula_text, no_initial_text}
 
 -- how many conditions hold, all of them
 abbrev pub accepted_text : ℕ → List ℕ
 accepted_text count = line (codes "accepted " ++ decimal count ++ codes " conditions")
 
--- `variable = value`
-abbrev pub value_line : Variable → Value → List ℕ
-value_line variable value = line (variable.name.bytes ++ codes " = " ++ value_text value)
-
--- a line for each variable, in their order
-abbrev pub value_lines : List Variable → List Value → List ℕ
-value_lines vs values = beside value_line vs values
-
 -- the first condition that doesn't hold, and values that violate it
 abbrev pub rejected_text : Program → Counter → List ℕ
-rejected_text program counter = line (codes "rejected " ++ name_text program counter.condition) ++ value_lines (variables program counter.condition) counter.values
+rejected_text program counter = line (codes "rejected " ++ name_text program counter.condition) ++ value_lines [] (variables program counter.condition) counter.values
 
 -- the formula whose search spent the budget
 abbrev pub undecided_text : Program → Option Condition → ℕ → List ℕ

@@ -6,7 +6,7 @@ use Rattle.civl_yields.specs.YieldRules.{yield_rules}
 use Rattle.civl_verify.proofs.Admitting.{keeps_first}
 use Rattle.civl_command.specs.Outcome.{Heavy, Surveyed, Surveys}
 use Rattle.civl_command.proofs.Judging.{of_one}
-use Rattle.civl_command.proofs.Surveying.{surveyed_of, heavy_of}
+use Rattle.civl_command.proofs.Deciding.{surveyed_of, heavy_of}
 use Rattle.civl_command.proofs.survey.survey_admitted.Goals as goal
 
 pub survey-requires-clause-linear : goal.survey-requires-clause-linear

@@ -1,11 +1,11 @@
-use Rattle.civl_command.proofs.Promising.{usage_untaken, accepts_by, surveys_by, prints_by, low_by, top_by, rejects_by, refuses_by, complete_by}
+use Rattle.civl_command.proofs.Promising.{usage_untaken, accepts_by, surveys_by, prints_by, low_by, top_by, rejects_by, leaves_open_by, refuses_by, complete_by}
 use Rattle.civl_command.proofs.top.command.Goals as goal
 
 pub returns-clause-unread_usage : goal.returns-clause-unread_usage
 returns-clause-unread_usage g c = λ is. c.respond.ensures.unread (usage_untaken _ _ _ _ _ (rw is at c.respond.ensures.explains))
 
 pub returns-clause-accepted : goal.returns-clause-accepted
-returns-clause-accepted g c = λ is check. accepts_by _ _ _ _ _ (rw is at c.respond.ensures.explains) check
+returns-clause-accepted g c = λ told is check. accepts_by _ _ _ _ _ c.accepted_programs_preserve.ensures told (rw is at c.respond.ensures.explains) check
 
 pub returns-clause-surveyed : goal.returns-clause-surveyed
 returns-clause-surveyed g c = λ told is conditions. surveys_by _ _ _ _ _ told (rw is at c.respond.ensures.explains) conditions
@@ -21,6 +21,9 @@ returns-clause-top g c = λ is top. top_by _ _ _ _ _ (rw is at c.respond.ensures
 
 pub returns-clause-rejected : goal.returns-clause-rejected
 returns-clause-rejected g c = λ is. rejects_by _ _ _ _ _ (rw is at c.respond.ensures.explains)
+
+pub returns-clause-undecided : goal.returns-clause-undecided
+returns-clause-undecided g c = λ is. leaves_open_by _ _ _ _ _ (rw is at c.respond.ensures.explains)
 
 pub returns-clause-refused : goal.returns-clause-refused
 returns-clause-refused g c = λ is. refuses_by _ _ _ _ _ (rw is at c.respond.ensures.explains)

@@ -1,0 +1,41 @@
+-- A program that is taken and all of whose conditions hold preserves failures.
+use Rattle.std.specs.Prelude.{slice_get, Some, Contains}
+use Rattle.std.proofs.Common.{◌≡◌, ℕ, ◌≤◌, List, ◌++◌, length, refl, sym}
+use Rattle.std.proofs.lemmas.Option.{slice_get_read}
+use Rattle.civl_tree.specs.declared.program.Program.{Program}
+use Rattle.civl_tree.specs.rules.Rules.{Keeps}
+use Rattle.civl_tree.specs.rules.Typing.{typing_rules}
+use Rattle.civl_meaning.specs.Preserves.{Preserves}
+use Rattle.civl_layers.specs.LayerRules.{layer_rules}
+use Rattle.civl_linear.specs.LinearRules.{linear_rules}
+use Rattle.civl_yields.specs.YieldRules.{yield_rules}
+use Rattle.civl_verify.specs.Admitted.{admission_rules}
+use Rattle.civl_verify.proofs.Admitting.{keeps_first, keeps_second}
+use Rattle.civl_conditions.specs.declared.condition.Condition.{Condition}
+use Rattle.civl_conditions.specs.Listed.{conditions}
+use Rattle.civl_conditions.specs.Violated.{Holds}
+use Rattle.civl_verdicts.specs.Verdicts.{HasInitial, AllHold}
+use Rattle.civl_preserves.specs.Preserved.{AcceptedProgramsPreserve}
+use Rattle.civl_command.specs.Rules.{IsLawful}
+use Rattle.civl_command.specs.Texts.{SpellsProgram}
+use Rattle.civl_command.specs.Outcome.{limit}
+use Rattle.civl_command.proofs.Lawful.{text_numbered, text_written}
+
+holds_of : (program : Program) → AllHold program → (condition : Condition) → Contains (conditions program) condition → Holds program condition
+holds_of program hold condition listed = hold listed.0 condition (slice_get_read (conditions program) (length (conditions program)) listed.0 condition refl listed.1 (sym listed.2))
+
+pub preserved : AcceptedProgramsPreserve → (input : List ℕ) (program : Program) → length input ≤ limit → SpellsProgram input program → IsLawful program → AllHold program → HasInitial program → Preserves program
+preserved law input program short spells rules hold initial =
+    let later = keeps_second typing_rules (layer_rules ++ admission_rules) program rules in
+    let admission : Keeps admission_rules program = keeps_second layer_rules admission_rules program later in
+    law program (record {
+      written = text_written input program spells;
+      layered = record {
+        rules = keeps_first typing_rules (layer_rules ++ admission_rules) program rules;
+        layers = keeps_first layer_rules admission_rules program later;
+        numbered = text_numbered input program spells short;
+      };
+      linear = keeps_first linear_rules yield_rules program admission;
+      yields = keeps_second linear_rules yield_rules program admission;
+      hold = holds_of program hold;
+    }) initial
