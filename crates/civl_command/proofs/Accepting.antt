@@ -15,7 +15,7 @@ use Rattle.civl_conditions.specs.declared.condition.Condition.{Condition}
 use Rattle.civl_conditions.specs.Listed.{conditions}
 use Rattle.civl_conditions.specs.Violated.{Holds}
 use Rattle.civl_verdicts.specs.Verdicts.{HasInitial, AllHold}
-use Rattle.civl_preserves.specs.Preserved.{AcceptedProgramsPreserve}
+use Rattle.civl_simulation.specs.Preserved.{AcceptedProgramsPreserve}
 use Rattle.civl_command.specs.Rules.{IsLawful}
 use Rattle.civl_command.specs.Texts.{SpellsProgram}
 use Rattle.civl_command.specs.Outcome.{limit}

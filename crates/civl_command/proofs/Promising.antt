@@ -20,7 +20,7 @@ use Rattle.civl_verdicts.specs.Surveys.{IsSurvey}
 use Rattle.civl_verdicts.specs.Verdicts.{IsVerdict}
 use Rattle.civl_reports.proofs.Quiet.{never_accepts}
 use Rattle.civl_verdict_reports.specs.Verdicts.{accepted_text, rejected_text, undecided_text}
-use Rattle.civl_preserves.specs.Preserved.{AcceptedProgramsPreserve}
+use Rattle.civl_simulation.specs.Preserved.{AcceptedProgramsPreserve}
 use Rattle.civl_words.specs.Words.{AreWordsOf, AreTaken, budget_of}
 use Rattle.civl_words.specs.declared.words.Command.{Command}
 use Rattle.civl_words.specs.declared.words.Command.TheVariants.{Check, Conditions, Fmt, RunLow, RunTop}

@@ -9,7 +9,7 @@ use crate::judge::judge;
 use crate::status::Status;
 use civl_outside::{Sent, Sink, Source, write_all};
 use civl_portfolio::Prover;
-use civl_preserves::laws::accepted_programs_preserve;
+use civl_simulation::laws::accepted_programs_preserve;
 use civl_words::Command;
 use std::alloc::Global;
 
