@@ -8,3 +8,4 @@ pub mod Agreeing
 pub mod Answering
 pub mod Accepting
 pub mod Promising
+pub mod Alone

@@ -261,7 +261,7 @@ left_open input budget outcome h = by h.verdict_ h.right h.is h.status_is
       program = h.program;
       formula = formula;
       log = log;
-      leaves = record { spelled = h.given; open = right };
+      leaves = record { spelled = h.given; undecided = right };
       report_is = ap report_of is;
     }
     by verdict.NoInitial right is same = cc
@@ -303,7 +303,7 @@ of_check : (command : Command) (input : List ℕ) (outcome : Outcome) → (IsPla
 of_check (Check told) input outcome other found = record { told = told; command_is = refl; finds = found }
 of_check (Conditions told) input outcome other found =
     absurd (other (find_plain IsReading (Surveys (budget_of told)) input outcome
-        (λ program says. way_plain (Surveyed program (budget_of told)) _ program outcome survey_plain (survey_way (budget_of told) program outcome says)) found))
+    (λ program says. way_plain (Surveyed program (budget_of told)) _ program outcome survey_plain (survey_way (budget_of told) program outcome says)) found))
 of_check Fmt input outcome other found = absurd (other (find_plain IsReading Prints input outcome (λ program says. inl (sym (ap status_of says))) found))
 of_check RunLow input outcome other found = absurd (other (find_plain IsScriptReading (Runs lowest) input outcome (λ script says. run_plain lowest script outcome (run_way lowest script outcome says)) found))
 of_check RunTop input outcome other found = absurd (other (find_plain IsScriptReading (Runs topmost) input outcome (λ script says. run_plain topmost script outcome (run_way topmost script outcome says)) found))
@@ -424,8 +424,7 @@ module _ (words : List (List ℕ)) (before after : ReadState) (sink sink_after :
       let h = judged_by Rejected (λ i. cc) rejected_not_refused (λ report f. f) e input told in
       let c = of_check h.0 input h.2.outcome (rejected_other h.2.outcome h.2.status_is) h.2.finds in
       let v = checked input (budget_of c.told) h.2.outcome Rejected rejected_not_refused h.2.status_is c.finds in
-      let r = rejected input (budget_of c.told) h.2.outcome v in
-      (
+      let r = rejected input (budget_of c.told) h.2.outcome v in (
         c.told,
         subst (λ (command : Command). AreWordsOf command words) c.command_is h.1,
         r.program,
@@ -439,8 +438,7 @@ module _ (words : List (List ℕ)) (before after : ReadState) (sink sink_after :
       let h = judged_by Undecided (λ i. cc) undecided_not_refused (λ report f. f) e input told in
       let c = of_check h.0 input h.2.outcome (undecided_other h.2.outcome h.2.status_is) h.2.finds in
       let v = checked input (budget_of c.told) h.2.outcome Undecided undecided_not_refused h.2.status_is c.finds in
-      let o = left_open input (budget_of c.told) h.2.outcome v in
-      (
+      let o = left_open input (budget_of c.told) h.2.outcome v in (
         c.told,
         subst (λ (command : Command). AreWordsOf command words) c.command_is h.1,
         o.program,

@@ -27,7 +27,7 @@ use Rattle.civl_command.specs.Alike.{AreAlike}
 use Rattle.civl_command.specs.Judge.{ReadState, WriteState}
 use Rattle.civl_command.specs.Report.{run_text}
 use Rattle.civl_command.specs.declared.status.Status.{Status}
-use Rattle.civl_command.specs.declared.status.Status.TheVariants.{Refused, Memory}
+use Rattle.civl_command.specs.declared.status.Status.TheVariants.{Done, Refused, WriteFault, Memory}
 
 -- what was written grew by the report
 abbrev pub Writes : WriteState → WriteState → List ℕ → Type 0
@@ -58,6 +58,11 @@ AcceptsRightly before after sink sink_after =
     (input : List ℕ) → before.left ≡ Some input →
     (program : Program) × (count : ℕ) × Accepts input program count × ReadsAndWrites after sink sink_after (accepted_text count)
 
+-- Where what was written grew by a text that begins with `accepted`, the status is Done, or such a report couldn't be written whole.
+abbrev pub AcceptsAlone : WriteState → WriteState → Status → Type 0
+AcceptsAlone sink sink_after status =
+    (taken rest : List ℕ) → sink.bytes ≡ Some taken → sink_after.bytes ≡ Some (taken ++ (codes "accepted" ++ rest)) → (status ≡ Done) ⊎ (status ≡ WriteFault)
+
 -- Some store is initial in the program that the input spells. The condition has this place in its list, and each condition before it
 -- holds; it doesn't hold itself, since these values violate it, one of the right sort for each of its variables.
 pub record Rejects (input : List ℕ) (program : Program) (counter : Counter) : Type 0 where
@@ -78,7 +83,7 @@ RejectsRightly words before after sink sink_after =
 -- before it holds.
 pub record LeavesOpen (input : List ℕ) (budget : ℕ) (program : Program) (formula : Option Condition) (log : List (List Literal)) : Type 0 where
   pub spelled : SpellsTaken input program
-  pub open : IsUndecided program budget formula log
+  pub undecided : IsUndecided program budget formula log
 
 -- Undecided: the words are those of `check`, that is so of the input under their budget, and the report says it.
 abbrev pub LeavesOpenRightly : List (List ℕ) → ReadState → ReadState → WriteState → WriteState → Type 0

@@ -3,7 +3,7 @@ ghost use Rattle.std.specs.Prelude.{◌≡◌, ◌⊎◌, ℕ, map, string_bytes
 ghost use Rattle.civl_meaning.specs.Layers.{lowest, topmost};
 ghost use Rattle.civl_words.specs.Words.{AreWordsOf, AreTaken, budget_of};
 ghost use Rattle.civl_command.specs.Judge.{reading, writing, Explains};
-ghost use Rattle.civl_command.specs.Promises.{AcceptsRightly, SurveysRightly, PrintsRightly, ReplaysRightly, RejectsRightly, LeavesOpenRightly, RefusesRightly, IsComplete};
+ghost use Rattle.civl_command.specs.Promises.{AcceptsRightly, AcceptsAlone, SurveysRightly, PrintsRightly, ReplaysRightly, RejectsRightly, LeavesOpenRightly, RefusesRightly, IsComplete};
 
 use crate::judge::judge;
 use crate::status::Status;
@@ -90,6 +90,10 @@ pub fn command<S: Source, K: Sink>(
         (reading (S.left source.new) (S.faults source.new))
         (writing (K.written sink.old) (K.faults sink.old) (K.stalls sink.old))
         (writing (K.written sink.new) (K.faults sink.new) (K.stalls sink.new)) }
+    ensures alone { (told : Option ℕ) → AreWordsOf (Command.Check told) (map string_bytes words.now.items) → AcceptsAlone
+        (writing (K.written sink.old) (K.faults sink.old) (K.stalls sink.old))
+        (writing (K.written sink.new) (K.faults sink.new) (K.stalls sink.new))
+        result }
     ensures surveyed { (told : Option ℕ) → result ≡ Status.Done → AreWordsOf (Command.Conditions told) (map string_bytes words.now.items) → SurveysRightly (budget_of told)
         (reading (S.left source.old) (S.faults source.old))
         (reading (S.left source.new) (S.faults source.new))

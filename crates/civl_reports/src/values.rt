@@ -20,12 +20,7 @@ fn put_lines(
     ensures { OnOk result (out.new.items ≡ out.old.items ++ value_lines indentation.now variables.now values.now) }
 {
     for at in 0..variables.len().min(values.len()) {
-        put_value(
-            out,
-            indentation,
-            &variables.get(at).name,
-            values.get(at),
-        )?;
+        put_value(out, indentation, &variables.get(at).name, values.get(at))?;
     }
     Ok(())
 }

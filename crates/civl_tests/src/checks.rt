@@ -54,94 +54,97 @@ fn words_that_are_no_command(rt: HostRuntime) -> Result<(), Fail> {
     Ok(())
 }
 
-/// Edits of the flag program that leave the flag form, and still spell a program: of its header and globals, its expressions, its
-/// actions and its procedure.
-const OTHERS: &str = "
+/// Edits of the flag program: of its header and globals, its expressions, its actions and its procedure. Each still spells a
+/// program.
+const PROGRAMS: &str = "
 civl 1; @ civl 2; @@
-@@ refused E99 at item 0 statement 0
+@@ accepted 6 conditions
 
 layers 1; @ layers 2; @@
-@@ refused E99 at item 0 statement 0
+@@ refused E33 at item 5 statement 0
 
 permissions 1; @ permissions 2; @@
-@@ refused E99 at item 0 statement 0
+@@ accepted 6 conditions
 
 bool layers 0 to 1 @ bool layers 0 to 0 @@
-@@ refused E99 at item 0 statement 0
+@@ refused E31 at item 3 statement 0
 
 bool layers 0 to 1 @ bool layers 1 to 1 @@
-@@ refused E99 at item 0 statement 0
+@@ refused E31 at item 2 statement 0
 
 bool layers 0 to 1 @ word(1) layers 0 to 1 @@
-@@ refused E99 at item 0 statement 0
+@@ refused E21 at item 2 statement 0
 
 global f @ global linear f @@
-@@ refused E99 at item 0 statement 0
+@@ refused E20 at item 0 statement 0
 
 init true @ init (true == true) @@
-@@ refused E99 at item 0 statement 0
+@@ accepted 6 conditions
 
 init true @ init (true => true) @@
-@@ refused E99 at item 0 statement 0
+@@ accepted 6 conditions
 
 init true @ init (f ? f : f) @@
-@@ refused E99 at item 0 statement 0
+@@ accepted 6 conditions
 
 init true @ init done @@
-@@ refused E99 at item 0 statement 0
+@@ refused E53 at item 1 statement 0
 
 init true @ init old(f) @@
-@@ refused E99 at item 0 statement 0
+@@ refused E53 at item 1 statement 0
 
 init true; @ init true; invariant 1 true; @@
-@@ refused E99 at item 0 statement 0
+@@ accepted 8 conditions
 
 action Set() @ action Set(val x : bool) @@
-@@ refused E99 at item 0 statement 0
+@@ refused E23 at item 4 statement 0
 
 Set() -> () @ Set() -> (val x : bool) @@
-@@ refused E99 at item 0 statement 0
+@@ refused E23 at item 2 statement 0
 
 choose () @ choose (c : bool = true) @@
-@@ refused E99 at item 0 statement 0
+@@ accepted 6 conditions
 
 layers 0 to 0 @ layers 0 to 1 @@
-@@ refused E99 at item 0 statement 0
+@@ accepted 6 conditions
 
 0 atomic @ 0 right @@
-@@ refused E99 at item 0 statement 0
+@@ accepted 8 conditions
 
 0 atomic @ 0 both @@
-@@ refused E99 at item 0 statement 0
+@@ accepted 12 conditions
 
 refines AtomSet with () layer 1 @ root @@
-@@ refused E99 at item 0 statement 0
+@@ refused E33 at item 4 statement 0
 
 with () layer 1 @ with (true) layer 1 @@
-@@ refused E99 at item 0 statement 0
+@@ refused E23 at item 4 statement 0
 
 with () layer 1 @ with () layer 2 @@
-@@ refused E99 at item 0 statement 0
+@@ refused E30 at item 4 statement 0
 
 { call @ { var x : bool; call @@
-@@ refused E99 at item 0 statement 0
+@@ accepted 6 conditions
 
 commit; @ @@
-@@ refused E99 at item 0 statement 0
+@@ rejected K9 once step 1 DoSet from 0
+f = false
 
 commit; @ commit; commit; @@
-@@ refused E99 at item 0 statement 0
+@@ rejected K9 once step 1 DoSet from 0
+f = false
 
 call Set() -> (); commit; @ commit; call Set() -> (); @@
-@@ refused E99 at item 0 statement 0
+@@ accepted 6 conditions
 
 call Set() -> (); @ assert true; @@
-@@ refused E99 at item 0 statement 0
+@@ rejected K9 perform step 1 DoSet from 0
+f = false
 ";
 
 #[test]
-fn other_programs_are_untaken(rt: HostRuntime) -> Result<(), Fail> {
-    assert_eq!(rt; holding(rt.alloc(), CHECK, FLAG, OTHERS)?, 27);
+fn other_programs(rt: HostRuntime) -> Result<(), Fail> {
+    assert_eq!(rt; holding(rt.alloc(), CHECK, FLAG, PROGRAMS)?, 27);
     Ok(())
 }
 
@@ -507,8 +510,8 @@ fn limits_of_threads_and_bytes(rt: HostRuntime) -> Result<(), Fail> {
     Ok(())
 }
 
-/// Ten globals are taken and eleven aren't; each has its line in a report.
-const TEN: &str = "
+/// Ten globals and eleven; each has its line in a report.
+const MANY: &str = "
 init @ global a : bool layers 0 to 1; global b : bool layers 0 to 1; global c : bool layers 0 to 1; global d : bool
   layers 0 to 1; global e : bool layers 0 to 1; global g : bool layers 0 to 1; global h : bool layers 0 to 1;
   global i : bool layers 0 to 1; global j : bool layers 0 to 1; init @and gate true @ gate ((! f) || j) @@
@@ -532,12 +535,12 @@ init @ global a : bool layers 0 to 1; global b : bool layers 0 to 1; global c : 
 init @ global a : bool layers 0 to 1; global b : bool layers 0 to 1; global c : bool layers 0 to 1; global d : bool
   layers 0 to 1; global e : bool layers 0 to 1; global g : bool layers 0 to 1; global h : bool layers 0 to 1;
   global i : bool layers 0 to 1; global j : bool layers 0 to 1; init @and init @ global k : bool layers 0 to 1; init @@
-@@ refused E99 at item 0 statement 0
+@@ accepted 6 conditions
 ";
 
 #[test]
-fn ten_globals(rt: HostRuntime) -> Result<(), Fail> {
-    assert_eq!(rt; holding(rt.alloc(), CHECK, FLAG, TEN)?, 3);
+fn many_globals(rt: HostRuntime) -> Result<(), Fail> {
+    assert_eq!(rt; holding(rt.alloc(), CHECK, FLAG, MANY)?, 3);
     Ok(())
 }
 

@@ -1,4 +1,5 @@
 use Rattle.civl_command.proofs.Promising.{usage_untaken, accepts_by, surveys_by, prints_by, low_by, top_by, rejects_by, leaves_open_by, refuses_by, complete_by}
+use Rattle.civl_command.proofs.Alone.{alone_by}
 use Rattle.civl_command.proofs.top.command.Goals as goal
 
 pub returns-clause-unread_usage : goal.returns-clause-unread_usage
@@ -6,6 +7,9 @@ returns-clause-unread_usage g c = λ is. c.respond.ensures.unread (usage_untaken
 
 pub returns-clause-accepted : goal.returns-clause-accepted
 returns-clause-accepted g c = λ told is check. accepts_by _ _ _ _ _ c.accepted_programs_preserve.ensures told (rw is at c.respond.ensures.explains) check
+
+pub returns-clause-alone : goal.returns-clause-alone
+returns-clause-alone g c = λ told check. alone_by _ _ _ _ _ told check c.respond.result c.respond.ensures.explains
 
 pub returns-clause-surveyed : goal.returns-clause-surveyed
 returns-clause-surveyed g c = λ told is conditions. surveys_by _ _ _ _ _ told (rw is at c.respond.ensures.explains) conditions
