@@ -10,9 +10,13 @@ mod exchanges;
 #[cfg(test)]
 mod folding;
 #[cfg(test)]
+mod headline;
+#[cfg(test)]
 mod instances;
 #[cfg(test)]
 mod lexing;
+#[cfg(test)]
+mod liars;
 #[cfg(test)]
 mod measuring;
 #[cfg(test)]
@@ -33,3 +37,5 @@ mod surveys;
 mod terms;
 #[cfg(test)]
 mod texts;
+#[cfg(test)]
+mod verdicts;

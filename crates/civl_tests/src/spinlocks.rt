@@ -5,7 +5,7 @@ use std::alloc::Global;
 use std::test::Fail;
 
 /// A spinlock that serves a counter, in two layers.
-const SPIN: &str = "civl 1; layers 2; permissions 2;
+pub(crate) const SPIN: &str = "civl 1; layers 2; permissions 2;
 global b : bool layers 0 to 0;
 global lock : word(2) layers 1 to 1;
 global x : word(8) layers 0 to 2;

@@ -1,8 +1,8 @@
 // `conditions` on texts. A row is as `holding` reads it.
 
-use crate::texts::{FLAG, HEADER, edited, gives, holding, words};
+use crate::texts::{FLAG, HEADER, edited, gives, holding, telling, words};
 use civl_command::{Status, command};
-use civl_outside::{PlainSink, PlainSource};
+use civl_outside::{MemorySink, MemorySource, PlainSink, PlainSource};
 use civl_portfolio::Prover;
 use civl_provers::Splitter;
 use std::alloc::{AllocError, Global};
@@ -78,51 +78,61 @@ fn conditions_on_flags(rt: HostRuntime) -> Result<(), Fail> {
     Ok(())
 }
 
-/// Edits of the flag program that make of it a program of products.
+/// Edits of the flag program, with a line that is told: a rank that stays, and sums that differ in their brackets.
+const LINES: &str = "
+call Set() -> (); commit; @ var i : word(8); call Set() -> (); commit; i := 3:8;
+while rank (i != 0:8) by i inv (done && (f && (!old(done)))) { i := i; } @@ @@ K9 rank step 1 DoSet from 1: fails
+
+global f : bool layers 0 to 1; @ global x : word(4) layers 0 to 1; global y : word(4) layers 0 to 1; global r : word(4) layers 0 to 1;
+@and f := true @ r := ((x + y) + r) @and f := true @ r := (x + (y + r)) @@ @@ 6 hold, 0 fail, 0 undecided
+";
+
+/// A permission that is given and was none.
+const GIVEN: &str = "
+@@ global linear pool : word(2) layers 0 to 1; init true; action Grab() -> (give a : word(1)) choose () layers 0 to 0 atomic
+gate true guard true { a := 0:1; } @@ K2 step 1 Grab: fails
+";
+
+#[test]
+fn lines_of_surveys(rt: HostRuntime) -> Result<(), Fail> {
+    assert_eq!(rt; telling(rt.alloc(), CONDITIONS, FLAG, LINES)?, 2);
+    assert_eq!(rt; telling(rt.alloc(), CONDITIONS, HEADER, GIVEN)?, 1);
+    Ok(())
+}
+
+/// Edits of the flag program that make of it a program of products: a bracket is multiplied out. A search has to learn clauses.
 const MIX: &str = "
 global f : bool layers 0 to 1; @
 global x : word(4) layers 0 to 1; global y : word(4) layers 0 to 1; global r : word(4) layers 0 to 1;
 @and f := true; @ r := (x * (y + 1:4)); @and f := true; @ r := ((x * y) + x); @@ @@
 ";
 
-/// Whether these words give this end of the report on the program of products.
-fn ends(alloc: Global, all: &[&str], end: &str) -> Result<bool, Fail> {
-    let mut row = String::from_str(alloc, MIX.trim())?;
-    row.push_str(end)?;
-    let found = holding(alloc, all, FLAG, row.as_str())?;
-    Ok(found == 1)
+/// How many of these lines are told under these words of the program of products.
+fn told(alloc: Global, all: &[&str], lines: &[&str]) -> Result<usize, Fail> {
+    let mut rows = String::new(alloc);
+    for line in lines {
+        if !rows.as_str().is_empty() {
+            rows.push_str("\n\n")?;
+        }
+        rows.push_str(MIX.trim())?;
+        rows.push_str(line)?;
+    }
+    telling(alloc, all, FLAG, rows.as_str())
 }
 
 #[test]
 fn budgets(rt: HostRuntime) -> Result<(), Fail> {
-    let none = ends(
-        rt.alloc(),
-        &["conditions", "--budget", "0"],
-        "
-initial: found
-K2 step 1 Set: holds
-K9 gate step 1 DoSet from 0: holds
-K9 invariant step 1 DoSet from 0: holds
-K9 once step 1 DoSet from 0: holds
-K9 stutter step 1 DoSet from 0: holds
-K9 perform step 1 DoSet from 0: undecided after 0
-5 hold, 0 fail, 1 undecided",
-    )?;
-    assert!(rt; none);
-    let usual = ends(
-        rt.alloc(),
-        CONDITIONS,
-        "
-initial: found
-K2 step 1 Set: holds
-K9 gate step 1 DoSet from 0: holds
-K9 invariant step 1 DoSet from 0: holds
-K9 once step 1 DoSet from 0: holds
-K9 stutter step 1 DoSet from 0: holds
-K9 perform step 1 DoSet from 0: holds
-6 hold, 0 fail, 0 undecided",
-    )?;
-    assert!(rt; usual);
+    let spent = [
+        "K9 perform step 1 DoSet from 0: undecided after 0",
+        "5 hold, 0 fail, 1 undecided",
+    ];
+    let none = told(rt.alloc(), &["conditions", "--budget", "0"], &spent)?;
+    assert_eq!(rt; none, 2);
+    let usual = told(rt.alloc(), CONDITIONS, &["6 hold, 0 fail, 0 undecided"])?;
+    assert_eq!(rt; usual, 1);
+    let most = ["conditions", "--budget", "10000000"];
+    let most = told(rt.alloc(), &most, &["6 hold, 0 fail, 0 undecided"])?;
+    assert_eq!(rt; most, 1);
     Ok(())
 }
 
@@ -180,5 +190,37 @@ fn a_survey_is_cut_short(rt: HostRuntime) -> Result<(), Fail> {
     let part = where_room_is(rt.alloc(), 5)?;
     assert_eq!(rt; part.0, Status::WriteFault);
     assert_eq!(rt; part.1.as_slice(), b"initi".as_slice());
+    Ok(())
+}
+
+/// The same of the flag program, where the second read fails, at 16 bytes a read.
+fn where_a_read_fails(alloc: Global) -> Result<(Status, Vec<u8>), Fail> {
+    let words = words(alloc, CONDITIONS)?;
+    let text = FLAG.as_bytes().to_vec(alloc)?;
+    let mut source = MemorySource::new(text, 16, [1].to_vec(alloc)?);
+    let mut sink = PlainSink::new(alloc, 1000)?;
+    let mut provers: Vec<Box<dyn Prover>> = Vec::new(alloc);
+    let status = command(alloc, &words, &mut source, &mut sink, &mut provers);
+    Ok((status, sink.bytes().to_vec(alloc)?))
+}
+
+/// The same where the sink has room for twelve bytes, and fails when it is to take more.
+fn where_a_write_fails(alloc: Global) -> Result<(Status, Vec<u8>), Fail> {
+    let words = words(alloc, CONDITIONS)?;
+    let mut source = PlainSource::new(FLAG.as_bytes().to_vec(alloc)?);
+    let mut sink = MemorySink::new(alloc, 12, [1].to_vec(alloc)?)?;
+    let mut provers: Vec<Box<dyn Prover>> = Vec::new(alloc);
+    let status = command(alloc, &words, &mut source, &mut sink, &mut provers);
+    Ok((status, sink.bytes().to_vec(alloc)?))
+}
+
+#[test]
+fn devices_fail_under_surveys(rt: HostRuntime) -> Result<(), Fail> {
+    let unread = where_a_read_fails(rt.alloc())?;
+    assert_eq!(rt; unread.0, Status::ReadFault);
+    assert!(rt; unread.1.is_empty());
+    let cut = where_a_write_fails(rt.alloc())?;
+    assert_eq!(rt; cut.0, Status::WriteFault);
+    assert_eq!(rt; cut.1.as_slice(), b"initial: fou".as_slice());
     Ok(())
 }

@@ -104,3 +104,48 @@ pub(crate) fn holding(
     }
     Ok(count)
 }
+
+/// Whether the report of these words on this text has this line.
+fn tells(alloc: Global, words: &[&str], text: &[u8], line: &str) -> Result<bool, Fail> {
+    let (_status, report) = run(alloc, words, text.to_vec(alloc)?)?;
+    let Ok(report) = String::from_utf8(report) else {
+        return Ok(false);
+    };
+    for one in report.as_str().split("\n") {
+        if one == line {
+            return Ok(true);
+        }
+    }
+    Ok(false)
+}
+
+/// Whether the row `EDITS @@ TEXT @@ LINE` holds: the report has this line.
+fn is_told(alloc: Global, words: &[&str], program: &str, row: &str) -> Result<bool, Fail> {
+    let Some((edits, rest)) = row.split_once("@@") else {
+        return Ok(false);
+    };
+    let Some((behind, line)) = rest.split_once("@@") else {
+        return Ok(false);
+    };
+    let mut text = edited(alloc, program, edits)?;
+    text.push_str(behind.trim())?;
+    let is_told = tells(alloc, words, text.as_bytes(), line.trim())?;
+    Ok(is_told)
+}
+
+/// How many rows of a table hold, up to the first that doesn't, where a row says one line of the report.
+pub(crate) fn telling(
+    alloc: Global,
+    words: &[&str],
+    program: &str,
+    rows: &str,
+) -> Result<usize, Fail> {
+    let mut count: usize = 0;
+    for row in rows.split("\n\n") {
+        if !is_told(alloc, words, program, row)? {
+            return Ok(count);
+        }
+        count = count.saturating_add(1);
+    }
+    Ok(count)
+}
