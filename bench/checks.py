@@ -1,0 +1,42 @@
+#!/usr/bin/env python3
+"""Times `check` and `conditions` of the built program on programs with many conditions.
+
+Usage: checks.py BINARY [TEXT ..]        (crates/civl/out/civl after `rt run` in crates/civl)
+
+The texts are those of bench/texts.py that have many conditions, where none is named: the spinlock of examples/, and programs of about twenty times its size. Each line that is printed: the text, the command, the seconds by the clock (the least of three runs) and how often those of the first text they are, the greatest size of the process in megabytes, and the last line of the report. bench/parts.py tells where the time goes.
+"""
+import os
+import subprocess
+import sys
+import tempfile
+import time
+
+from texts import many_conditions
+
+
+def timed(binary, words, text):
+    """The seconds by the clock, the greatest size in megabytes, and the last line of the report."""
+    with tempfile.TemporaryFile() as file:
+        file.write(text.encode())
+        file.seek(0)
+        start = time.perf_counter()
+        child = subprocess.Popen([binary, *words], stdin=file, stdout=subprocess.PIPE)
+        report = child.stdout.read().decode()
+        _, _, usage = os.wait4(child.pid, 0)
+        return time.perf_counter() - start, usage.ru_maxrss / 1024, report.splitlines()[-1]
+
+
+def main():
+    if len(sys.argv) < 2:
+        sys.exit(__doc__)
+    binary, first = sys.argv[1], {}
+    texts = {path: open(path).read() for path in sys.argv[2:]} or many_conditions()
+    for name, text in texts.items():
+        for command in ("check", "conditions"):
+            seconds, size, line = min(timed(binary, [command], text) for _ in range(3))
+            ratio = seconds / first.setdefault(command, seconds)
+            print(f"{name}: {len(text)} bytes, {command} {seconds:.3f} s, {ratio:.1f} times, {size:.0f} MB, {line}", flush=True)
+
+
+if __name__ == "__main__":
+    main()

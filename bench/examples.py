@@ -1,0 +1,132 @@
+#!/usr/bin/env python3
+"""Runs what the documents show on a built program: the tables of examples/README.md, and each mistake of the tutorials of docs/LANGUAGE.md.
+
+Usage: examples.py BINARY        (crates/civl/out/civl after `rt run` in crates/civl)
+
+It prints a line for each text whose report is another than the documents say, and at last how many were tried. The exit code is 1 where some report was another.
+"""
+import os
+import re
+import subprocess
+import sys
+
+FOLDER = os.path.join(os.path.dirname(os.path.abspath(__file__)), "..", "examples")
+
+
+def example(name):
+    with open(os.path.join(FOLDER, name)) as file:
+        return file.read()
+
+
+def tables():
+    """Of each row of the tables: the file, the words of the command, and the first lines of the report."""
+    words, rows = None, []
+    for line in example("README.md").splitlines():
+        cells = [cell.strip() for cell in line.strip("|").split(" | ")]
+        if line.startswith("| File"):
+            words = re.search("`(.*)` prints", cells[2])[1].split()
+        elif line.startswith("|") and ".civl" in cells[0]:
+            rows.append((cells[0], words, re.findall("`(.*?)`", cells[2].split(" values of ")[0])))
+    return rows
+
+
+SPINLOCK, TICKET = "spinlock.civl", "ticket.civl"
+ACQUIRED = "call Acquire(t) -> (); call Read(t)"
+FREE_GATE = "gate ((t != 0:2) && (lock == t)) guard true { v := x; }"
+RANK_INVARIANT = " ((serving == old(serving)) && (owner == old(owner)))))"
+NO_ONE_HAS_TWO = re.search(r"// No thread owns two.*?(?=// Between)", example(TICKET), re.DOTALL)[0]
+NO_ONE_WAITS = re.search(r"// Between.*?(?=action)", example(TICKET), re.DOTALL)[0]
+
+# What is put in the place of what, and lines of the report of `conditions`, which follow one another from each name on.
+MISTAKES = [
+    (SPINLOCK, [("invariant 1 (b == (lock != 0:2));\n", "")],
+     "K9 perform step 1 Acquire from 1: fails;  b = false;  lock = 2:2;  x = 0:8;  t = 2:2;  ok = false;  done = false"),
+    (SPINLOCK, [(" intro lock := t;", "")],
+     "K9 perform step 1 Acquire from 1: fails;  b = false;  lock = 0:2;  x = 0:8;  t = 2:2;  ok = false;  done = false;"
+     "K10 step 1 Acquire from 1 invariant 0: fails;  b = false;  lock = 0:2;  x = 0:8;  t = 2:2;  ok = false;  done = false"),
+    (SPINLOCK, [("gate (t != 0:2) guard (lock == 0:2)", "gate true guard (lock == 0:2)")],
+     "K10 step 1 Acquire from 1 invariant 0: fails;K3 step 2 AtomAcquire AtomAcquire: fails"),
+    (SPINLOCK, [("thread Main(2:2)", "thread Main(1:2)")], "refused E70 at item 3"),
+    (SPINLOCK, [(f" {mover}\n", " atomic\n") for mover in ("right", "left", "both")], "refused E50 at item 18 statement 1"),
+    (SPINLOCK, [("1 to 1 left", "1 to 1 right")],
+     "K3 step 2 AtomRelease AtomAcquire: fails;  lock = 2:2;  x = 0:8;  X.t = 2:2;  Y.t = 1:2;106 hold, 1 fail, 0 undecided"),
+    (SPINLOCK, [("1 to 1 right", "1 to 1 left")],
+     "K5 step 2 AtomAcquire AtomRelease: fails;K8 step 2 AtomAcquire: fails;  lock = 2:2;  x = 0:8;  X.t = 2:2"),
+    (SPINLOCK, [(FREE_GATE, "gate (t != 0:2) guard true { v := x; }")],
+     "K3 step 2 AtomRead AtomWrite: fails;  lock = 2:2;  x = 0:8;  X.t = 1:2;  Y.t = 2:2;  Y.v = 128:8;108 hold, 4 fail, 0 undecided"),
+    (SPINLOCK, [("lend t : word(2)", "val t : word(2)")],
+     "K3 step 2 AtomWrite AtomWrite: fails;  lock = 2:2;  x = 0:8;  X.t = 2:2;  X.v = 0:8;  Y.t = 2:2;  Y.v = 128:8;103 hold, 9 fail, 0 undecided"),
+    (SPINLOCK, [("x := (x + 1:8);", "x := (x + 2:8);")],
+     "K9 perform step 2 Incr from 0: fails;  lock = 0:2;  x = 0:8;  t = 2:2;111 hold, 1 fail, 0 undecided"),
+    (SPINLOCK, [("call Release(t) -> (); commit;", "call Release(t) -> ();")],
+     "K9 once step 2 Incr from 0: fails;K9 stutter step 2 Incr from 0: fails;110 hold, 2 fail, 0 undecided"),
+    (SPINLOCK, [(ACQUIRED, ACQUIRED.replace(" call", " yield true; call"))],
+     "K9 gate step 2 Incr from 1: fails;  lock = 0:2;  x = 0:8;  t = 0:2;  v = 0:8;  done = true;"
+     "K9 once step 2 Incr from 1: fails;K9 stutter step 2 Incr from 1: fails"),
+    (SPINLOCK, [(ACQUIRED, ACQUIRED.replace(" call", " yield ((lock == t) && (!done)); call"))],
+     "K10 step 2 Incr from 0 yield Incr 1: fails;  lock = 0:2;  x = 0:8;  t = 2:2;  other.t = 0:2;  other.v = 0:8;  other.done = false;"
+     "118 hold, 1 fail, 0 undecided"),
+    (SPINLOCK, [(ACQUIRED, ACQUIRED.replace(" call", " yield (((t != 0:2) && (lock == t)) && (!done)); call"))], "119 hold, 0 fail, 0 undecided"),
+    (SPINLOCK, [("call Read(t) -> (v);", "call Read(t) -> (v); yield ((((t != 0:2) && (lock == t)) && (!done)) && (v == x));")],
+     "119 hold, 0 fail, 0 undecided"),
+    (SPINLOCK, [(" call Release(t) -> ();", "")], "112 hold, 0 fail, 0 undecided"),
+    (TICKET, [("by s\n", "by m\n")], "K9 rank step 1 Wait from 2: fails;  m = 2:2;  s = 2:2;97 hold, 1 fail, 0 undecided"),
+    (TICKET, [("s := (s - 1:2);", "s := (s - 2:2);")], "K9 rank step 1 Wait from 2: fails;  s = 1:2;97 hold, 1 fail, 0 undecided"),
+    (TICKET, [(RANK_INVARIANT, " (serving == old(serving))))")],
+     "K9 stutter step 1 Wait from 2: fails;  owner = [0:2, 0:2, 0:2, 0:2];  old.owner = [0:2, 0:2, 2:2, 1:2];90 hold, 8 fail, 0 undecided"),
+    (TICKET, [("with (m)", "with (0:2)")],
+     "K9 perform step 1 Take from 0: fails;  next = 2:2;  serving = 0:2;  owner = [1:2, 3:2, 0:2, 0:2];  t = 2:2;97 hold, 1 fail, 0 undecided"),
+    (TICKET, [("intro owner := set(owner, serving, 0:2); call Bump() -> (); commit;",
+               "call Bump() -> (); commit; intro owner := set(owner, serving, 0:2);")],
+     "K9 perform step 1 Pass from 0: fails;  next = 0:2;  serving = 2:2;  owner = [0:2, 0:2, 2:2, 1:2];  t = 2:2;93 hold, 5 fail, 0 undecided"),
+    (TICKET, [(NO_ONE_HAS_TWO, "")],
+     "K10 step 1 Take from 0 invariant 0: fails;  next = 0:2;  serving = 1:2;  owner = [0:2, 1:2, 1:2, 1:2];  t = 2:2;76 hold, 4 fail, 0 undecided"),
+    (TICKET, [("layers 1 to 1 right", "layers 1 to 1 atomic")], "refused E50 at item 24 statement 1"),
+    (TICKET, [("layers 1 to 1 right", "layers 1 to 1 both")],
+     "K5 step 2 AtomTake AtomPass: fails;K8 step 2 AtomTake: fails;  serving = 0:2;  owner = [1:2, 0:2, 0:2, 0:2];  X.t = 2:2;106 hold, 2 fail, 0 undecided"),
+    (TICKET, [("action AtomPass(lend t : word(2)) -> () choose () layers 1 to 1 atomic",
+               "action AtomPass(lend t : word(2)) -> () choose () layers 1 to 1 left")],
+     "K7 step 2 AtomPass AtomPass: fails;  serving = 0:2;  owner = [2:2, 1:2, 0:2, 0:2];  X.t = 2:2;  Y.t = 1:2;107 hold, 1 fail, 0 undecided"),
+    (TICKET, [(NO_ONE_WAITS, "")],
+     "K9 gate step 2 Acquire from 0: fails;  serving = 0:2;  owner = [0:2, 0:2, 0:2, 2:2];  lock = 0:2;  t = 2:2;  call0.free = 0:2;92 hold, 3 fail, 0 undecided"),
+]
+
+
+def run(binary, words, text):
+    done = subprocess.run([binary, *words], input=text.encode(), capture_output=True)
+    return done.stdout.decode().splitlines()
+
+
+def with_changes(text, changes):
+    for old, new in changes:
+        assert old in text, old
+        text = text.replace(old, new)
+    return text
+
+
+def has(lines, wanted):
+    """Whether the lines that are wanted stand among these, in their order."""
+    rest = iter(lines)
+    return all(line in rest for line in wanted)
+
+
+def main():
+    if len(sys.argv) != 2:
+        sys.exit(__doc__)
+    binary, tried, wrong = sys.argv[1], 0, 0
+    for name, words, wanted in tables():
+        lines, tried = run(binary, words, example(name)), tried + 1
+        if lines[:len(wanted)] != wanted:
+            wrong += 1
+            print(f"{name}: {' '.join(words)} prints {lines[:len(wanted)]}")
+    for name, changes, wanted in MISTAKES:
+        lines, tried = run(binary, ["conditions"], with_changes(example(name), changes)), tried + 1
+        if not has(lines, wanted.split(";")):
+            wrong += 1
+            print(f"{name} with {changes}: {[line for line in lines if not line.endswith(': holds')]}")
+    print(f"{tried} texts tried, {wrong} with another report")
+    sys.exit(wrong > 0)
+
+
+if __name__ == "__main__":
+    main()
