@@ -90,10 +90,6 @@ pub fn command<S: Source, K: Sink>(
         (reading (S.left source.new) (S.faults source.new))
         (writing (K.written sink.old) (K.faults sink.old) (K.stalls sink.old))
         (writing (K.written sink.new) (K.faults sink.new) (K.stalls sink.new)) }
-    ensures alone { (told : Option ℕ) → AreWordsOf (Command.Check told) (map string_bytes words.now.items) → AcceptsAlone
-        (writing (K.written sink.old) (K.faults sink.old) (K.stalls sink.old))
-        (writing (K.written sink.new) (K.faults sink.new) (K.stalls sink.new))
-        result }
     ensures surveyed { (told : Option ℕ) → result ≡ Status.Done → AreWordsOf (Command.Conditions told) (map string_bytes words.now.items) → SurveysRightly (budget_of told)
         (reading (S.left source.old) (S.faults source.old))
         (reading (S.left source.new) (S.faults source.new))
@@ -129,6 +125,12 @@ pub fn command<S: Source, K: Sink>(
         (reading (S.left source.new) (S.faults source.new))
         (writing (K.written sink.old) (K.faults sink.old) (K.stalls sink.old))
         (writing (K.written sink.new) (K.faults sink.new) (K.stalls sink.new)) }
+
+    // Where the sink tells what it took: under `check` a report that begins with `accepted` is that of Done, or was cut short.
+    ensures alone { (told : Option ℕ) → AreWordsOf (Command.Check told) (map string_bytes words.now.items) → AcceptsAlone
+        (writing (K.written sink.old) (K.faults sink.old) (K.stalls sink.old))
+        (writing (K.written sink.new) (K.faults sink.new) (K.stalls sink.new))
+        result }
 
     // Each input gets the status that it calls for, unless memory runs out.
     ensures complete { IsComplete (map string_bytes words.now.items)

@@ -279,7 +279,7 @@ proc @@
 global f : bool layers 0 to 1; @ global f : bool layers 0 to 1; global g : bool layers 0 to 1; @and f := true; @ f := g; g := f; @and f := true; @ g := f; f := g; @@
 @@ accepted 6 conditions
 
-global f : bool layers 0 to 1; @ global f : bool layers 0 to 1; global g : bool layers 0 to 1; @and f := true; @ f := g; g := f; @and f := true; @ f := g; g := g; @@
+global f : bool layers 0 to 1; @ global f : bool layers 0 to 1; global g : bool layers 0 to 1; @and f := true; @ f := g; g := f; @and f := true; @ f := g; g := (f && g); @@
 @@ rejected K9 perform step 1 DoSet from 0
 f = true
 g = false
