@@ -1,5 +1,5 @@
 -- The report of the command `conditions`.
-use Rattle.std.specs.Prelude.{ℕ, Bool, true, false, List, [], ◌∷◌, ◌++◌, length, filter, codes, decimal, Option, None, Some}
+use Rattle.std.specs.Prelude.{ℕ, Bool, true, false, List, ◌++◌, length, filter, codes, decimal, Option, None, Some}
 use Rattle.civl_tree.specs.declared.program.Program.{Program}
 use Rattle.civl_cnf.specs.Literal.{Literal}
 use Rattle.civl_conditions.specs.declared.condition.Condition.{Condition}
