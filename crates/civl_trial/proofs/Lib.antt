@@ -1,0 +1,5 @@
+pub mod Copying
+pub mod Numbering
+pub mod Naming
+pub mod Fitting
+pub mod Spelled

@@ -1,0 +1,8 @@
+use Rattle.std.proofs.Common.{◌≡◌}
+use Rattle.civl_trial.specs.Copies.{procs_of}
+use Rattle.civl_trial.specs.Trial.{copies}
+use Rattle.civl_trial.proofs.program.procs.Given as goal
+
+-- so far there is what the copies before this one have
+abbrev pub invariant-loop-copy : goal.invariant-loop-copy
+invariant-loop-copy l = l.procs ≡ copies procs_of l.copy

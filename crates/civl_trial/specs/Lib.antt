@@ -1,0 +1,4 @@
+pub mod Phrases
+pub mod Copies
+pub mod Trial
+pub mod Laws
