@@ -196,7 +196,12 @@ fn at_offers<'a>(globals: &'a [Global], g: &'a Store, x: &Invoked<'a>) -> Settin
 }
 
 /// K8: the gate holds, but with the offered choices the action doesn't fire.
-fn waits(alloc: Alloc, globals: &[Global], g: &Store, x: &Invoked<'_>) -> Result<bool, Fail> {
+fn waits<'a>(
+    alloc: Alloc,
+    globals: &'a [Global],
+    g: &'a Store,
+    x: &Invoked<'a>,
+) -> Result<bool, Fail> {
     if !has_gate(globals, g, x) {
         return Ok(false);
     }

@@ -82,12 +82,12 @@ fn with_global(
     globals: &[Global],
     store: &Store,
     name: &Name,
-    value: Value,
+    value: &Value,
 ) -> Result<Store, Fail> {
     let mut values = store.values.as_slice().to_vec(alloc)?;
     for at in 0..globals.len().min(values.len()) {
         if globals[at].name.is_same(name) {
-            values[at] = value;
+            values[at] = *value;
         }
     }
     Ok(Store {
@@ -118,7 +118,7 @@ fn take_effect(
                 done: walked.done,
             };
             let value = value_at(alloc, globals, course.proc, now, expr)?;
-            config.store = with_global(alloc, globals, &config.store, name, value)?;
+            config.store = with_global(alloc, globals, &config.store, name, &value)?;
             Ok(())
         }
         _ => Ok(()),

@@ -1,0 +1,10 @@
+use Rattle.std.proofs.Common.{sym, subst}
+use Rattle.civl_tree.specs.declared.program.Program.{Program}
+use Rattle.civl_tree.specs.rules.Rules.{Keeps}
+use Rattle.civl_linear.specs.LinearRules.{linear_rules}
+use Rattle.civl_yields.specs.YieldRules.{yield_rules}
+use Rattle.civl_verify.proofs.Admitting.{keeps_first}
+use Rattle.civl_term_tests.proofs.comparing.lines_of.Goals as goal
+
+pub lines-requires-clause-linear : goal.lines-requires-clause-linear
+lines-requires-clause-linear c = subst (λ (p : Program). Keeps linear_rules p) (sym c.source-src.ensures.same) (keeps_first linear_rules yield_rules c.args.admitted.now c.source-src.ensures.keeps)
