@@ -9,4 +9,4 @@ pub returns-in-Ok : goal.returns-in-Ok
 returns-in-Ok g c = found_in _ _ IsReading (Surveys c.args.budget) c.args.bytes.now (Ok c.in-Ok.admitted) c.requires c.in-Ok.ensures.read c.survey_admitted.ensures
 
 pub returns-in-Err : goal.returns-in-Err
-returns-in-Err g c = found_more _ _ IsReading Breaks (Surveys c.args.budget) c.args.bytes.now (breaks_survey c.args.budget) c.in-Err.ensures
+returns-in-Err g c = found_more _ _ IsReading Breaks (Surveys c.args.budget) c.args.bytes.now (breaks_survey c.args.budget) c.in-Err.ensures.refused

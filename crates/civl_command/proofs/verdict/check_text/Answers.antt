@@ -9,4 +9,4 @@ pub returns-in-Ok : goal.returns-in-Ok
 returns-in-Ok g c = found_in _ _ IsReading (Checks c.args.budget) c.args.bytes.now (Ok c.in-Ok.admitted) c.requires c.in-Ok.ensures.read c.check_admitted.ensures
 
 pub returns-in-Err : goal.returns-in-Err
-returns-in-Err g c = found_more _ _ IsReading Breaks (Checks c.args.budget) c.args.bytes.now (breaks_check c.args.budget) c.in-Err.ensures
+returns-in-Err g c = found_more _ _ IsReading Breaks (Checks c.args.budget) c.args.bytes.now (breaks_check c.args.budget) c.in-Err.ensures.refused
