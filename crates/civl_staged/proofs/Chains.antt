@@ -1,5 +1,6 @@
 pub mod Gates
 pub mod Gliding
 pub mod Waiting
+pub mod Quiet
 pub mod Chaining
 pub mod Yielding

@@ -2,6 +2,7 @@ pub mod Ahead
 pub mod Noting
 pub mod Concluding
 pub mod Old
+pub mod Beginning
 pub mod Next
 pub mod Forms
 pub mod Stepping

@@ -26,7 +26,6 @@ use Rattle.civl_staged.proofs.Pausing.Apart.{run_is_kept, known}
 use Rattle.civl_staged.specs.Opened.{BlockIsOpen, StandsThere, IsReached}
 use Rattle.civl_staged.proofs.Opened.Ahead.{yield_ahead}
 use Rattle.civl_staged.proofs.Opened.Noting.{locals_stay}
-use Rattle.std.proofs.Common.{length}
 use Rattle.civl_tree.specs.declared.program.Proc.{Proc}
 use Rattle.civl_firing.specs.Stores.{IsStore}
 use Rattle.civl_meaning.specs.Change.{outs_in}
@@ -35,9 +34,6 @@ use Rattle.civl_open_blocks.proofs.Open.Introducing.{led_sorted}
 use Rattle.civl_staged.proofs.Opened.Concluding.{sound}
 use Rattle.civl_paths.specs.Ends.{exit_of, is_exit}
 use Rattle.civl_open_blocks.proofs.Following.Leading.{led_stays}
-use Rattle.std.proofs.lemmas.Option.{slice_get_past}
-use Rattle.std.proofs.Common.{arith}
-use Rattle.civl_layers.specs.Cuts.{proc_cuts}
 use Rattle.civl_paths.specs.Paths.{Progress}
 use Rattle.civl_paths.specs.Seen.{IsProcOf}
 use Rattle.civl_layers.specs.Layered.{IsLayered}
@@ -46,10 +42,6 @@ use Rattle.std.proofs.lemmas.Bool.{eq-eqb}
 use Rattle.civl_simulation.specs.Refined.{Sight, IsRefined, sight}
 use Rattle.civl_simulation.specs.Joined.{RefinedJoin, ConclusionsRefine, sight_old, sight_at}
 use Rattle.civl_simulation.specs.Carried.{IsCarried}
-
--- the exit ends a block
-pub exit_ends : (proc : Proc) → ends_block proc (exit_of proc) ≡ true
-exit_ends proc = ap (λ (o : Option Cut). option_map_or (λ (cut : Cut). not (is_rank_loop cut.kind)) o true) (slice_get_past (proc_cuts proc) (length (proc_cuts proc)) (omega arith))
 
 pub exit_is_exit : (proc : Proc) → is_exit proc (exit_of proc) ≡ true
 exit_is_exit proc = eq-eqb (exit_of proc) (exit_of proc) refl

@@ -1,12 +1,11 @@
 -- A thread comes into a frame of a procedure of the upper layer by the call that makes it.
-use Rattle.std.proofs.Common.{◌≡◌, ℕ, suc, ◌+◌, ◌-◌, ◌≤◌, Bool, true, false, List, [], ◌∷◌, length, refl, sym, ap, ◌∙◌, subst, arith, Option, None, Some, slice_get}
+use Rattle.std.proofs.Common.{◌≡◌, ℕ, ◌+◌, ◌-◌, ◌≤◌, Bool, true, false, List, ◌∷◌, refl, sym, ◌∙◌, subst, arith, Option, None, Some, slice_get}
 use Rattle.std.specs.Prelude.{if◌then◌else◌}
-use Rattle.std.proofs.lemmas.Bool.{false≢true, true≢false}
-use Rattle.std.proofs.lemmas.Option.{none-some, same_Some}
+use Rattle.std.proofs.lemmas.Bool.{true≢false}
+use Rattle.std.proofs.lemmas.Option.{none-some}
 use Rattle.civl_bits.specs.declared.value.Value.{Value}
 use Rattle.civl_values.specs.Values.{is_true}
 use Rattle.civl_tree.specs.declared.name.Name.{Name}
-use Rattle.civl_tree.specs.declared.expr.Expr.{Expr}
 use Rattle.civl_tree.specs.declared.program.Proc.{Proc}
 use Rattle.civl_tree.specs.declared.program.Program.{Program}
 use Rattle.civl_tree.specs.declared.stmt.Stmt.{Stmt, out-Stmt}
@@ -21,8 +20,8 @@ use Rattle.civl_meaning.specs.declared.config.State.TheVariants.{Before, Inside,
 use Rattle.civl_meaning.specs.declared.config.Running.{Running}
 use Rattle.civl_meaning.specs.declared.config.Change.TheVariants as change
 use Rattle.civl_meaning.specs.Places.{Spot, spot_at}
-use Rattle.civl_meaning.specs.Meaning.{Meaning, Does, Runs, Missing, called, meaning_of}
-use Rattle.civl_meaning.specs.Config.{IsBodyOf, LayerCalls, SpotCalls, ProcCalls, Waits, AreWaiting, IsStacked, StateIsStacked}
+use Rattle.civl_meaning.specs.Meaning.{Meaning, Does, Runs, Missing, called}
+use Rattle.civl_meaning.specs.Config.{IsBodyOf, LayerCalls, SpotCalls, ProcCalls, Waits, IsStacked, StateIsStacked}
 use Rattle.civl_meaning.specs.Change.{returned_at, returned_in, returned, caller_of, outs_in}
 use Rattle.civl_meaning.specs.Layers.{program_at}
 use Rattle.civl_meaning.specs.Step.{state_after, thread_after}
@@ -33,15 +32,8 @@ use Rattle.civl_exchanges.specs.Doing as does
 use Rattle.civl_blocks.specs.Blocks.{framed_in, framed_state, frame_of_layer}
 use Rattle.civl_blocks.proofs.Standing.Below.{calls_no_body}
 use Rattle.civl_blocks.proofs.Standing.Spots.{stands_there}
+use Rattle.civl_staged.proofs.Opened.Forms.{last_waits}
 use Rattle.civl_simulation.proofs.Meets.Inputs.{layered_by}
-
--- the frame below the topmost one waits in the call that made this
-last_waits : (plain : Plain) (below : List Activation) (top frame : Activation) → caller_of below ≡ Some frame → AreWaiting plain below top → Waits plain top.procedure frame
-last_waits plain [] top frame e w = absurd (none-some frame e)
-last_waits plain (g ∷ []) top frame e w = subst (Waits plain top.procedure) (same_Some g frame e) w.0
-last_waits plain (g ∷ (f ∷ fs)) top frame e w =
-    let n : length (g ∷ (f ∷ fs)) - 1 ≡ suc (length (f ∷ fs) - 1) = omega arith in
-    last_waits plain (f ∷ fs) top frame (ap (slice_get (g ∷ (f ∷ fs))) (sym n) ∙ e) w.1
 
 -- a thread in this state that is removed from its topmost frame goes back to the one below
 abbrev pub LeavesTo : Plain → Option Activation → Doing → Type 0
@@ -156,7 +148,7 @@ module _ (program : Program) (layer : ℕ) (src : IsLayered program) where
       by_option : (below : List Activation) (frame : Activation) (p : Option Activation) → StateIsStacked plain thread.callee (Inside below frame) → LeavesTo plain (caller_of below) (does.Leaves p) → framed_state program (layer + 1) (state_after (Inside below frame) (change.Leaves p)) ≡ None
       by_option below frame None s h = refl
       by_option below frame (Some top) s h =
-          framed_other top (subst Other (sym h.2) (waits_other frame.procedure h.0 (last_waits plain below frame h.0 h.1 s.waiting)))
+          framed_other top (subst Other (sym h.2) (waits_other frame.procedure h.0 (last_waits plain below frame h.0 s.waiting h.1)))
 
       by_state : (state : State) → StateIsStacked plain thread.callee state → state_doing plain thread state ≡ does.Leaves o → framed_state program (layer + 1) (state_after state (change.Leaves o)) ≡ None
       by_state Before s q = refl

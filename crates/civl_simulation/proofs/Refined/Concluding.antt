@@ -1,6 +1,5 @@
 -- What the conditions on paths conclude of a block says that it is refined.
-use Rattle.std.proofs.Common.{◌≡◌, ◌↔◌, ℕ, Bool, true, false, not, ◌&&◌, ◌||◌, List, [], ◌∷◌, map, refl, sym, ap, ◌∙◌, subst, Option, None, Some, slice_get, rules}
-use Rattle.std.specs.Prelude.{IsTrue}
+use Rattle.std.proofs.Common.{◌≡◌, ◌↔◌, ℕ, Bool, true, false, not, ◌&&◌, ◌||◌, List, [], ◌∷◌, map, refl, sym, ap, ◌∙◌, Option, None, Some}
 use Rattle.std.specs.Option.{option_map_or}
 use Rattle.std.proofs.lemmas.Bool.{false≢true, and_parts}
 use Rattle.std.proofs.lemmas.Option.{none-some, same_Some}
@@ -36,13 +35,11 @@ use Rattle.civl_conditions.specs.Invariants.{invariants_hold}
 use Rattle.civl_conditions.specs.Values.{Begun, same_values, same_in, same_stores}
 use Rattle.civl_condition_laws.specs.States.{frame_sorts}
 use Rattle.civl_open_blocks.specs.Ends.{IsAssumed, Performs, Concludes}
-use Rattle.civl_simulation.specs.Refined.{Sight, Acts, IsRefined}
+use Rattle.civl_staged.proofs.Chains.Gates.{same_is_equality}
+use Rattle.civl_simulation.specs.Refined.{Acts, IsRefined}
 use Rattle.civl_simulation.specs.Joined.{sight_old, sight_at, ConclusionsRefine}
-use Rattle.civl_simulation.proofs.Refined.Joining.{InLayer, in_layer}
+use Rattle.civl_simulation.proofs.Refined.Joining.{in_layer}
 use Rattle.civl_simulation.proofs.Refined.Withs.{withs_sorted}
-
-same_is_equality : (v w : Value) → IsTrue (same_value v w) ↔ (v ≡ w)
-same_is_equality = search rules
 
 same_all : (vs ws : List Value) → same_values vs ws ≡ true → vs ≡ ws
 same_all [] [] e = refl

@@ -55,7 +55,8 @@ use Rattle.civl_open_blocks.proofs.Open.Going.{spot_stands, thread_does}
 use Rattle.civl_staged.specs.Measures.{IsNear, IsNearer}
 use Rattle.civl_staged.proofs.Measures.Nearing.{comes_nearer}
 use Rattle.civl_staged.specs.Bounded.{OpenInside, OpenBlocksAreBounded}
-use Rattle.civl_staged.proofs.Bounded.Changes.{Ordinary, ordinary, its_layer, last_waits, waits_elsewhere, returned_same}
+use Rattle.civl_staged.proofs.Opened.Forms.{last_waits}
+use Rattle.civl_staged.proofs.Bounded.Changes.{Ordinary, ordinary, its_layer, waits_elsewhere, returned_same}
 use Rattle.civl_staged.proofs.Bounded.Held.{held_is_apart}
 
 -- ---- lists and places

@@ -1,8 +1,7 @@
 -- What the topmost frame of a thread inside a block doesn't do.
-use Rattle.std.proofs.Common.{◌≡◌, ℕ, suc, ◌+◌, ◌-◌, Bool, true, false, List, [], ◌∷◌, length, Option, None, Some, refl, sym, ap, ◌∙◌, subst, arith}
+use Rattle.std.proofs.Common.{◌≡◌, ℕ, ◌+◌, ◌-◌, Bool, true, false, List, ◌∷◌, Option, None, Some, refl, ap, ◌∙◌, subst}
 use Rattle.std.specs.Prelude.{slice_get, if◌then◌else◌}
 use Rattle.std.proofs.lemmas.Bool.{eq-eqb}
-use Rattle.std.proofs.lemmas.Option.{none-some, same_Some}
 use Rattle.civl_bits.specs.declared.value.Value.{Value}
 use Rattle.civl_tree.specs.declared.name.Name.{Name}
 use Rattle.civl_tree.specs.declared.expr.Expr.{Expr}
@@ -26,7 +25,7 @@ use Rattle.civl_meaning.specs.declared.config.Change.TheVariants.{Stays, Goes, E
 use Rattle.civl_meaning.specs.Meaning.{Meaning, Does, Runs, Missing, called}
 use Rattle.civl_meaning.specs.Places.{Spot, spot_at}
 use Rattle.civl_meaning.specs.Change.{acted, call_change, layer_change, returned_at, returned_in, returned}
-use Rattle.civl_meaning.specs.Config.{IsBodyOf, LayerCalls, SpotCalls, ProcCalls, Waits, AreWaiting}
+use Rattle.civl_meaning.specs.Config.{IsBodyOf, LayerCalls, SpotCalls, ProcCalls, Waits}
 use Rattle.civl_meaning.specs.Layers.{program_at}
 use Rattle.civl_layers.specs.Layered.{IsLayered}
 use Rattle.civl_paths.specs.Seen.{IsProcOf}
@@ -82,14 +81,6 @@ pub its_layer : (program : Program) (q step : ℕ) (proc : Proc) → IsProcOf pr
 its_layer program q step proc of = ap (refines_at step) of.refined ∙ eq-eqb of.refines.layer step of.layered
 
 -- ---- frames that wait
-
-pub last_waits : (plain : Plain) (below : List Activation) (top f : Activation) → AreWaiting plain below top → slice_get below (length below - 1) ≡ Some f → Waits plain top.procedure f
-last_waits plain [] top f w e = absurd (none-some f e)
-last_waits plain (g ∷ []) top f w e = subst (Waits plain top.procedure) (same_Some g f e) w.0
-last_waits plain (g ∷ (h ∷ fs)) top f w e = last_waits plain (h ∷ fs) top f w.1 (sym (ap (slice_get (g ∷ (h ∷ fs))) one) ∙ e)
-  where
-    one : length (g ∷ (h ∷ fs)) - 1 ≡ suc (length (h ∷ fs) - 1)
-    one = omega arith
 
 module _ (program : Program) (layer : ℕ) (layered : IsLayered program) where
   abbrev lower : Plain

@@ -1,284 +1,191 @@
--- A step of a thread whose frame stands at a yield: blocks without a step take effect, one behind the other, and the last block
--- that begins there opens.
-use Rattle.std.proofs.Common.{◌≡◌, ◌≢◌, ℕ, ◌+◌, ◌≤◌, Bool, true, false, not, ◌||◌, List, [], ◌∷◌, length, drop, Option, None, Some, slice_get, refl, sym, ap, ◌∙◌, subst, arith}
-use Rattle.std.specs.Prelude.{if◌then◌else◌}
-use Rattle.std.specs.Option.{option_map_or}
-use Rattle.std.proofs.lemmas.Bool.{false≢true}
-use Rattle.std.proofs.lemmas.Option.{same_Some}
+-- The chain of blocks from a yield: blocks without a step, one behind the other, up to the last yield before the step, or to the head of a
+-- yield loop.
+use Rattle.std.proofs.Common.{◌≡◌, ℕ, zero, suc, ◌+◌, ◌<◌, Bool, true, false, not, ◌&&◌, ◌||◌, List, ◌∷◌, length, None, Some, slice_get, refl, sym, ap, ◌∙◌, subst, arith, inl, inr, ◌⊎◌}
+use Rattle.std.proofs.lemmas.Bool.{false≢true, or_parts}
+use Rattle.std.proofs.lemmas.Option.{none-some, same_Some}
 use Rattle.civl_bits.specs.declared.value.Value.{Value}
-use Rattle.civl_values.specs.Values.{HaveSorts}
 use Rattle.civl_tree.specs.declared.program.Proc.{Proc}
 use Rattle.civl_tree.specs.declared.program.Program.{Program}
-use Rattle.civl_tree.specs.declared.stmt.Stmt.{Stmt}
-use Rattle.civl_tree.specs.Numbering.{sizes_of}
+use Rattle.civl_tree.specs.declared.stmt.Stmt.{Stmt, out-Stmt}
+use Rattle.civl_tree.specs.declared.stmt.Stmt.TheOpen as stmt
 use Rattle.civl_firing.specs.declared.store.Store.{Store}
-use Rattle.civl_firing.specs.declared.scope.Scope.{Scope}
-use Rattle.civl_firing.specs.Stores.{IsStore}
 use Rattle.civl_meaning.specs.declared.config.Activation.{Activation}
-use Rattle.civl_meaning.specs.declared.config.Move.{Move}
 use Rattle.civl_meaning.specs.declared.config.Running.{Running}
-use Rattle.civl_meaning.specs.declared.config.Config.{Config}
-use Rattle.civl_meaning.specs.declared.config.Stepped.TheVariants as answer
-use Rattle.civl_meaning.specs.Places.{is_skipped}
-use Rattle.civl_meaning.specs.Rest.{Rest, rest_at, place_in, head_of}
-use Rattle.civl_meaning.specs.Step.{step_of}
-use Rattle.civl_meaning.specs.Failing.{IsMove}
+use Rattle.civl_meaning.specs.Rest.{Rest}
 use Rattle.civl_meaning.specs.Layers.{program_at}
-use Rattle.civl_meaning.proofs.Rests.{spot_of_rest}
-use Rattle.civl_layers.specs.declared.cut.Cut.{Cut}
 use Rattle.civl_layers.specs.declared.cut.CutKind.{CutKind}
 use Rattle.civl_layers.specs.declared.cut.CutKind.TheVariants as kind
-use Rattle.civl_layers.specs.Cuts.{proc_cuts}
-use Rattle.civl_footprints.specs.Agreement.{AgreeOn}
-use Rattle.civl_paths.specs.NoteValues.{note_values, steady_note_values}
+use Rattle.civl_layers.specs.Cuts.{form_cut, cut_kind}
 use Rattle.civl_paths.specs.Paths.{Progress}
-use Rattle.civl_paths.specs.Runs.{Standing, begins_by, led}
-use Rattle.civl_paths.proofs.Standing.{begins_stands}
-use Rattle.civl_layers.specs.Layered.{IsLayered}
-use Rattle.civl_paths.specs.Ends.{is_yield_cut, is_rank_loop, cut_number, ends_block}
-use Rattle.civl_paths.specs.Seen.{IsProcOf, lower_course}
-use Rattle.civl_paths.proofs.Belonging.{Belongs, own_place}
-use Rattle.civl_conditions.specs.Values.{Begun}
-use Rattle.civl_conditions.specs.Assumed.{cut_invariant, note_holds, owned}
-use Rattle.civl_condition_laws.specs.States.{frame_sorts}
-use Rattle.civl_checked.specs.Checked.{ActionsKeepPermissions, SpawnsAreInRoots}
+use Rattle.civl_paths.specs.Ends.{is_yield_cut, cut_number}
+use Rattle.civl_paths.proofs.Belonging.{Belongs, own_place, rest_belongs}
+use Rattle.civl_permissions.proofs.Staying.{IsKept}
+use Rattle.civl_exchanges.specs.Doing.{doing}
+use Rattle.civl_checked.specs.Checked.{ActionsKeepPermissions}
+use Rattle.civl_open_blocks.specs.Following.{layer_head}
+use Rattle.civl_blocks.specs.Cuts.{frame_in, frame_at}
+use Rattle.civl_staged.proofs.Pausing.Cutting.{Head, yield_head, Topmost, topmost, stands_at}
+use Rattle.civl_staged.proofs.Pausing.Holding.{settled_skips, Skips}
+use Rattle.civl_staged.proofs.Pausing.Apart.{run_is_kept}
+use Rattle.civl_blocks.proofs.Merged.Merging.{merged_fit}
+use Rattle.civl_staged.specs.Calm.{FrameIsCalm, AllIsCalm}
+use Rattle.civl_staged.specs.Opened.{IsReached}
+use Rattle.civl_staged.proofs.Opened.Noting.{bare}
+use Rattle.civl_staged.proofs.Opened.Old.{merged_is_old}
+use Rattle.civl_staged.proofs.Opened.Entering.{not_challenged}
+use Rattle.civl_staged.proofs.Chains.Gliding.{settled_belongs}
+use Rattle.civl_meaning.specs.Places.{skip_layer, is_skipped}
+use Rattle.civl_meaning.specs.Change.{outs_in}
+use Rattle.civl_conditions.specs.Assumed.{inputs_of}
 use Rattle.civl_blocks.specs.Blocks.{at_yield, frame_of_layer, rest_of}
-use Rattle.civl_open_blocks.specs.Ends.{Concludes}
-use Rattle.civl_open_blocks.specs.Following.{cut_ahead, led_here, StandsAlike}
-use Rattle.civl_open_blocks.proofs.Following.Leading.{led_stays}
-use Rattle.civl_open_blocks.specs.Open.{IsOpen, beginning}
-use Rattle.civl_open_blocks.proofs.Open.Introducing.{led_sorted}
-use Rattle.civl_open_blocks.proofs.Open.Opening.{blocks_open_behind_yields}
-use Rattle.civl_open_blocks.proofs.Open.Ending.{open_blocks_conclude}
-use Rattle.civl_blocks.specs.Steady.{IsSteady}
-use Rattle.civl_blocks.proofs.Steady.Losing.{is_steady}
-use Rattle.civl_blocks.specs.Cuts.{frame_at, settled}
-use Rattle.civl_blocks.specs.Shadow.{Shadowed, course_of, glided, progress_in, shadow_with}
-use Rattle.civl_blocks.specs.Challenged.{allows}
-use Rattle.civl_staged.proofs.Pausing.Cutting.{Head, topmost, cut_there}
-use Rattle.civl_staged.proofs.Pausing.Holding.{Skips, stays, passes, settled_skips}
-use Rattle.civl_staged.proofs.Pausing.Apart.{run_is_kept, known}
-use Rattle.civl_staged.specs.Calm.{FrameIsCalm}
-use Rattle.civl_staged.proofs.Calm.Outside.{thread_of, done_other}
-use Rattle.civl_staged.specs.Opened.{BlockIsOpen, stepped, StepLeaves, IsReached}
-use Rattle.civl_staged.proofs.Opened.Ahead.{yield_ahead}
-use Rattle.civl_staged.proofs.Opened.Noting.{bare, locals_stay, led_alike}
-use Rattle.civl_staged.proofs.Opened.Concluding.{sound, owned_apart}
-use Rattle.civl_staged.proofs.Opened.Old.{is_old, led_old, merged_itself}
-use Rattle.civl_staged.proofs.Opened.Next.{done_own}
-use Rattle.civl_staged.proofs.Opened.Round.{open_blocks_step}
-use Rattle.civl_staged.proofs.Chains.Gates.{gates_stay}
-use Rattle.civl_staged.proofs.Chains.Gliding.{glided_led, glided_stops, glided_alike, settled_belongs, skips_head, skips_then, settled_length}
-use Rattle.civl_staged.proofs.Chains.Waiting.{WaitsAt, cut, b, sorts, assumes, apart, layer_agrees}
+use Rattle.civl_blocks.specs.Shadow.{Shadowed, course_of, glided_layer, glided, progress_in, seen}
+use Rattle.civl_blocks.specs.Challenged.{allows, call_challenged, frame_challenged, is_challenged}
+use Rattle.civl_staged.proofs.Chains.Waiting.{WaitsAt, WaitsAtYield}
+use Rattle.civl_staged.proofs.Chains.Quiet.{BlocksKeep, later_belongs, waits_later, later_so, later_shorter}
 
-parts : (x : CutKind) → is_yield_cut x ≡ true → not (is_rank_loop x) ≡ true
-parts kind.Entry y = refl
-parts kind.Yield y = refl
-parts kind.YieldLoop y = refl
-parts kind.RankLoop y = absurd (false≢true y)
+-- ---- where a chain ends
 
-module _ (keep : ActionsKeepPermissions) (in_roots : SpawnsAreInRoots) (program : Program) (layer : ℕ) (store : Store) (s : Shadowed) (m : Move) (d : Config) (f : Proc × Activation) (r : IsReached program layer store s.config) (mv : IsMove m) (e : step_of (program_at program layer) s.config m ≡ (answer.Moved, d))
-    (thread : Running) (there : slice_get s.config.threads m.thread ≡ Some thread) (framed : frame_of_layer program (layer + 1) thread ≡ Some f) where
-  abbrev C : Rest → Progress → Progress
-  C = glided (course_of program layer f.0)
+-- the frame waits at the last yield before the step
+pub record EndsAtYield (says : Proc → List Value → Store → Bool → List Value → Type 0) (program : Program) (layer : ℕ) (s : Shadowed) (t : ℕ) (f : Proc × Activation) : Type 0 where
+  pub n : ℕ
+  pub st : Stmt
+  pub k : Rest
+  pub p : Progress
+  pub begins : WaitsAtYield program layer s t f n st k p
+  pub away : at_yield k ≡ false
+  pub so : says f.0 (inputs_of f.0 f.1.locals) p.store p.done (outs_in f.0 p.locals)
 
-  -- what takes effect in all
-  abbrev all : Progress
-  all = glided (course_of program layer f.0) (settled (rest_of f)) (progress_in program layer m.thread s.config.store s.shadow f.1)
+-- or at the head of a yield loop
+pub record EndsAtLoop (says : Proc → List Value → Store → Bool → List Value → Type 0) (program : Program) (layer : ℕ) (s : Shadowed) (t : ℕ) (f : Proc × Activation) : Type 0 where
+  pub n : ℕ
+  pub st : Stmt
+  pub k : Rest
+  pub p : Progress
+  pub waits : WaitsAt program layer s t f n st k p
+  pub form : waits.kind ≡ kind.YieldLoop
+  pub head : layer_head n (out-Stmt st) ≡ Some n
+  pub shown : is_skipped st ≡ false
+  pub glide : glided (course_of program layer f.0) ((n, st) ∷ k) p ≡ p
+  pub so : says f.0 (inputs_of f.0 f.1.locals) p.store p.done (outs_in f.0 p.locals)
 
-  -- the shadow before the step
-  abbrev g : Shadowed
-  g = record { config = s.config; shadow = shadow_with s.shadow m.thread (glided (course_of program layer f.0) (settled (rest_of f)) (progress_in program layer m.thread s.config.store s.shadow f.1)) }
+abbrev pub ChainEnds : (Proc → List Value → Store → Bool → List Value → Type 0) → Program → ℕ → Shadowed → ℕ → Proc × Activation → Type 0
+ChainEnds says program layer s t f = EndsAtYield says program layer s t f ⊎ EndsAtLoop says program layer s t f
 
-  -- ---- from a yield
+module _ (keep : ActionsKeepPermissions) (program : Program) (layer : ℕ) (store : Store) (s : Shadowed) (t : ℕ) (f : Proc × Activation) (r : IsReached program layer store s.config)
+    (thread : Running) (there : slice_get s.config.threads t ≡ Some thread) (framed : frame_of_layer program (layer + 1) thread ≡ Some f) (says : Proc → List Value → Store → Bool → List Value → Type 0) (keeps : BlocksKeep says program layer f.1.procedure f.0) where
+  abbrev Ends : Type 0
+  Ends = ChainEnds says program layer s t f
 
-  module _ (n : ℕ) (st : Stmt) (k : Rest) (p : Progress) (w : WaitsAt program layer s m.thread f n st k p) (form : w.kind ≡ kind.Yield) (skipped : is_skipped st ≡ true) (glide : (x : Progress) → glided (course_of program layer f.0) ((n, st) ∷ k) x ≡ glided (course_of program layer f.0) k x) (belongs : Belongs f.0.body ((n, st) ∷ k)) where
-    of : IsProcOf program f.1.procedure (layer + 1) f.0
-    of = (topmost program (layer + 1) thread.state f framed).of
+  abbrev SaidAt : Progress → Type 0
+  SaidAt p = says f.0 (inputs_of f.0 f.1.locals) p.store p.done (outs_in f.0 p.locals)
 
-    abbrev K : Cut
-    K = cut keep program layer store s m.thread f r thread there framed n st k p w
+  top : Topmost program (layer + 1) thread.state f
+  top = topmost program (layer + 1) thread.state f framed
 
-    abbrev B : Begun
-    B = b keep program layer store s m.thread f r thread there framed n st k p w
+  s_kept : IsKept (program_at program layer) s.config
+  s_kept = run_is_kept keep program layer store r.checked r.moves s.config r.are r.runs
 
-    abbrev here : Standing
-    here = record { place = place_in (sizes_of f.0.body) (drop 1 (rest_at f.0.body n)); state = beginning B }
+  now : frame_at program (layer + 1) s.config.threads t ≡ Some f
+  now = ap (frame_in program (layer + 1)) there ∙ framed
 
-    rest_is : rest_at f.0.body here.place ≡ k
-    rest_is =
-        ap (λ (x : Rest). rest_at f.0.body (place_in (sizes_of f.0.body) (drop 1 x))) w.place ∙ own_place f.0.body k belongs.1
+  -- ---- the chain
 
-    alike : StandsAlike program (layer + 1) f.0 here s.config.store f.1
-    alike = record {
-      spot = spot_of_rest f.0.body here.place ∙ (ap (head_of (sizes_of f.0.body)) rest_is ∙ (sym (skips_head (sizes_of f.0.body) (rest_of f) k (skips_then (rest_of f) ((n, st) ∷ k) k w.skips (passes skipped stays))) ∙ sym (spot_of_rest f.0.body f.1.place)));
-      locals = w.locals;
-      stores = layer_agrees keep program layer store s m.thread f r thread there framed n st k p w;
+  kind_is : (st : Stmt) (x : CutKind) (q : stmt.Stmt-F Stmt) (y : CutKind) → out-Stmt st ≡ q → cut_kind st ≡ Some x → form_cut q ≡ Some y → x ≡ y
+  kind_is st x q y is c h = same_Some x y (sym c ∙ (ap form_cut is ∙ h))
+
+  no_cut : (st : Stmt) (x : CutKind) (q : stmt.Stmt-F Stmt) → out-Stmt st ≡ q → cut_kind st ≡ Some x → form_cut q ≡ None → ⊥
+  no_cut st x q is c h = none-some x (sym (ap form_cut is ∙ h) ∙ c)
+
+  chain : (bound n : ℕ) (st : Stmt) (k : Rest) (p : Progress) → WaitsAt program layer s t f n st k p → SaidAt p → Belongs f.0.body ((n, st) ∷ k) → length ((n, st) ∷ k) < bound → Ends
+  chain zero n st k p w so belongs less = absurd (omega (arith, less))
+  chain (suc bound) n st k p w so belongs less = by_form (out-Stmt st) refl (λ i u j q v z a l. chain bound i u j q v z a l)
+    where
+      by_form : (q : stmt.Stmt-F Stmt) → out-Stmt st ≡ q → ((i : ℕ) (u : Stmt) (j : Rest) (x : Progress) → WaitsAt program layer s t f i u j x → SaidAt x → Belongs f.0.body ((i, u) ∷ j) → length ((i, u) ∷ j) < bound → Ends) → Ends
+      by_form (stmt.Yield i) is ih = by_yield (at_yield k) refl
+        where
+          form : w.kind ≡ kind.Yield
+          form = kind_is st w.kind (stmt.Yield i) kind.Yield is w.cut refl
+
+          skipped : is_skipped st ≡ true
+          skipped = ap skip_layer is
+
+          glide : (x : Progress) → glided (course_of program layer f.0) ((n, st) ∷ k) x ≡ glided (course_of program layer f.0) k x
+          glide x = ap (λ (y : stmt.Stmt-F Stmt). glided_layer (course_of program layer f.0) y x (glided (course_of program layer f.0) k)) is
+
+          begins : WaitsAtYield program layer s t f n st k p
+          begins = record { waits = w; form = form; skipped = skipped; glide = glide; belongs = belongs }
+
+          by_yield : (x : Bool) → at_yield k ≡ x → Ends
+          by_yield false q = inl (record { n = n; st = st; k = k; p = p; begins = begins; away = q; so = so })
+          by_yield true q =
+              let later = yield_head k q in
+              let shorter = later_shorter keep program layer store s t f r thread there framed n st k p begins later in
+              ih later.number later.stmt later.behind _ (waits_later keep program layer store s t f r thread there framed n st k p begins later)
+              (later_so keep program layer store s t f r thread there framed n st k p begins later says keeps so)
+              (later_belongs keep program layer store s t f r thread there framed n st k p begins later) (omega (arith, shorter, less))
+      by_form (stmt.YieldLoop x i a) is ih =
+          inr (record {
+            n = n;
+            st = st;
+            k = k;
+            p = p;
+            waits = w;
+            form = kind_is st w.kind (stmt.YieldLoop x i a) kind.YieldLoop is w.cut refl;
+            head = ap (layer_head n) is;
+            shown = ap skip_layer is;
+            glide = ap (λ (y : stmt.Stmt-F Stmt). glided_layer (course_of program layer f.0) y p (glided (course_of program layer f.0) k)) is;
+            so = so;
+          })
+      by_form (stmt.RankLoop x v i a) is ih = absurd (false≢true (sym (ap is_yield_cut (kind_is st w.kind (stmt.RankLoop x v i a) kind.RankLoop is w.cut refl)) ∙ w.yields))
+      by_form (stmt.Assign v x) is ih = absurd (no_cut st w.kind (stmt.Assign v x) is w.cut refl)
+      by_form (stmt.Assert x) is ih = absurd (no_cut st w.kind (stmt.Assert x) is w.cut refl)
+      by_form (stmt.If x a b) is ih = absurd (no_cut st w.kind (stmt.If x a b) is w.cut refl)
+      by_form (stmt.While x a) is ih = absurd (no_cut st w.kind (stmt.While x a) is w.cut refl)
+      by_form (stmt.Call v es rs) is ih = absurd (no_cut st w.kind (stmt.Call v es rs) is w.cut refl)
+      by_form (stmt.Spawn v es) is ih = absurd (no_cut st w.kind (stmt.Spawn v es) is w.cut refl)
+      by_form stmt.Commit is ih = absurd (no_cut st w.kind stmt.Commit is w.cut refl)
+      by_form (stmt.Intro v x) is ih = absurd (no_cut st w.kind (stmt.Intro v x) is w.cut refl)
+
+  -- ---- where it begins
+
+  module _ (calm : AllIsCalm program layer s) (unchallenged : is_challenged program layer s ≡ false) (yields : at_yield (rest_of f) ≡ true) where
+    head : Head (rest_of f)
+    head = yield_head (rest_of f) yields
+
+    abbrev P : Progress
+    P = progress_in program layer t s.config.store s.shadow f.1
+
+    belongs : Belongs f.0.body ((head.number, head.stmt) ∷ head.behind)
+    belongs = subst (Belongs f.0.body) head.is (settled_belongs f.0.body (rest_of f) (rest_belongs f.0.body f.1.place))
+
+    by_bools : (a b c : Bool) → b ≡ true → (not a && (b && not c)) ≡ false → (a || c) ≡ true
+    by_bools true b c y h = refl
+    by_bools false true true y h = refl
+    by_bools false true false y h = absurd (false≢true (sym h))
+    by_bools false false c y h = absurd (false≢true y)
+
+    gate : (s.shadow.done t || allows program (seen program layer s) f.0 f.1.locals) ≡ true
+    gate =
+        let thread_not = not_challenged program layer (seen program layer s) s.shadow.done s.config.threads t thread unchallenged there in
+        let frame_not = (or_parts (call_challenged program (layer + 1) (seen program layer s) (doing (program_at program layer) thread)) _ thread_not).1 in
+        by_bools (s.shadow.done t) (at_yield (rest_of f)) (allows program (seen program layer s) f.0 f.1.locals) yields
+        (sym (ap (frame_challenged program (seen program layer s) (s.shadow.done t)) framed) ∙ frame_not)
+
+    first : WaitsAt program layer s t f head.number head.stmt head.behind P
+    first = record {
+      place = own_place f.0.body ((head.number, head.stmt) ∷ head.behind) belongs;
+      skips = subst (Skips (rest_of f)) head.is (settled_skips (rest_of f));
+      kind = head.kind;
+      cut = head.cut;
+      yields = head.yields;
+      fits = merged_fit program layer s.config.store s.shadow.store s_kept.of_plain.store calm.fits;
+      old = merged_is_old program layer s.config.store s.shadow.store s_kept.of_plain.store calm.fits;
+      locals = refl;
+      calm = record { invariants = calm.calm.invariants; frames = λ u q. calm.calm.frames u (λ x. none-some u x) };
+      own = subst (FrameIsCalm program (layer + 1) (seen program layer s) (s.shadow.done t)) now (calm.calm.frames t (λ x. none-some t x)) (cut_number f.0 head.number) (record { statement = head.number; kind = head.kind }) (stands_at program (layer + 1) f top.of head);
+      gate = gate;
+      glides = ap (λ (x : Rest). bare (glided (course_of program layer f.0) x P)) (sym head.is);
     }
 
-    opened : IsOpen program (layer + 1) f.1.procedure (cut_number f.0 n) f.0 K B 0 here s.config.store f.1
-    opened =
-        blocks_open_behind_yields program (layer + 1) f.1.procedure (cut_number f.0 n) f.0 K B here s.config.store f.1
-        (assumes keep program layer store s m.thread f r thread there framed n st k p w) form
-        (ap (λ (x : CutKind). begins_by (lower_course program (layer + 1) f.0 B.chosen) n x (beginning B)) form) alike
-
-    abbrev H : Progress
-    H = led_here program (layer + 1) f.0 here
-
-    -- the same by the shadow's own words
-    led_is : bare H ≡ bare (led (course_of program layer f.0) k p)
-    led_is =
-        ap (λ (x : Rest). bare (led (lower_course program (layer + 1) f.0 (λ number. [])) x (beginning B))) rest_is
-        ∙ led_alike program (layer + 1) layer f.0 (λ number. []) k (beginning B) p refl
-
-    layered : IsLayered program
-    layered = let q = r.checked in q.layered
-
-    H_fits : IsStore program.globals H.store
-    H_fits = led_sorted program (layer + 1) f.1.procedure f.0 layered of.there here w.fits (subst (λ (ls : List Value). HaveSorts ls (frame_sorts f.0)) (sym w.locals) (sorts keep program layer store s m.thread f r thread there framed n st k p w))
-
-    H_old : AgreeOn (is_old (layer + 1)) program.globals H.store.values s.config.store.values
-    H_old = led_old program f.1.procedure (layer + 1) f.0 layered of s.config.store.values here.place (beginning B) w.old
-
-    H_locals : H.locals ≡ f.1.locals
-    H_locals = locals_stay (lower_course program (layer + 1) f.0 (λ number. [])) (rest_at f.0.body here.place) (beginning B) ∙ w.locals
-
-    -- ---- where no yield comes then, the block is open
-
-    module _ (away : at_yield k ≡ false) where
-      all_is : bare all ≡ bare H
-      all_is =
-          sym w.glides
-          ∙ (ap bare (glide p ∙ glided_stops (course_of program layer f.0) k p away) ∙ sym led_is)
-
-      store_is : all.store ≡ H.store
-      store_is = ap (λ (x : Progress). x.store) all_is
-
-      block : BlockIsOpen program layer g m.thread
-      block = record {
-        thread = thread;
-        there = there;
-        f = f;
-        framed = framed;
-        c = cut_number f.0 n;
-        cut = K;
-        b = B;
-        bound = 0;
-        here = here;
-        opened = opened;
-        store = sym (merged_itself program layer s.config.store all.store (subst (λ (x : Store). AgreeOn (is_old (layer + 1)) program.globals x.values s.config.store.values) (sym store_is) H_old) ∙ store_is);
-        done = sym (done_own s.shadow.done m.thread all.done ∙ ap (λ (x : Progress). x.done) all_is);
-        fits = subst (IsStore program.globals) (sym store_is) H_fits;
-        calm = record {
-          invariants = w.calm.invariants;
-          frames = λ u q.
-              subst (λ (z : Bool). FrameIsCalm program (layer + 1) p.store z (frame_at program (layer + 1) s.config.threads u)) (sym (done_other s.shadow.done m.thread all.done u (λ x. q (ap Some (sym x))))) (w.calm.frames u q);
-        };
-        apart = apart keep program layer store s m.thread f r thread there framed n st k p w;
-      }
-
-      pub step_open : StepLeaves program layer (stepped program layer g m d) m.thread
-      unfolding block
-      step_open = open_blocks_step keep in_roots program layer store g m d (record { checked = r.checked; moves = r.moves; are = r.are; runs = r.runs }) mv e block (ap at_yield rest_is ∙ away)
-
-    -- ---- where one comes, the block has no step, and the frame waits there
-
-    module _ (later : Head k) where
-      abbrev j : ℕ
-      j = later.number
-
-      abbrev end : ℕ
-      end = cut_number f.0 later.number
-
-      ahead : cut_ahead f.0.body here.place ≡ Some j
-      ahead = yield_ahead f.0.body here.place later.number later.stmt later.behind later.kind (ap settled rest_is ∙ later.is) later.cut later.yields
-
-      concludes : Concludes program (layer + 1) (cut_number f.0 n) f.0 K B end H
-      concludes = (open_blocks_conclude program (layer + 1) f.1.procedure (cut_number f.0 n) f.0 K B 0 here s.config.store f.1 (sound program layer store r.checked) opened).0 later.number ahead
-
-      pub later_belongs : Belongs f.0.body ((later.number, later.stmt) ∷ later.behind)
-      later_belongs = subst (Belongs f.0.body) later.is (settled_belongs f.0.body k belongs.1)
-
-      later_place : rest_at f.0.body later.number ≡ (later.number, later.stmt) ∷ later.behind
-      later_place = own_place f.0.body ((later.number, later.stmt) ∷ later.behind) later_belongs
-
-      stands : slice_get (proc_cuts f.0) end ≡ Some (record { statement = later.number; kind = later.kind })
-      stands = cut_there program f.1.procedure (layer + 1) f.0 of later.number later.stmt later.kind (begins_stands f.0.body later.number later.stmt later.behind later_place) later.cut
-
-      ends : ends_block f.0 end ≡ true
-      ends = ap (λ (x : Option Cut). option_map_or (λ (y : Cut). not (is_rank_loop y.kind)) x true) stands ∙ parts later.kind later.yields
-
-      steady : IsSteady program (layer + 1) (owned program f.0 (cut_number f.0 n) B) p.store H.store
-      steady = is_steady program (layer + 1) (owned program f.0 (cut_number f.0 n) B) p.store H.store (λ target others among of_it apart_so. concludes.keeps target others among of_it ends apart_so)
-
-      other_calm : (u : ℕ) → u ≢ m.thread → (x : Option (Proc × Activation)) → frame_at program (layer + 1) s.config.threads u ≡ x → FrameIsCalm program (layer + 1) H.store (s.shadow.done u) x
-      other_calm u ne None is = tt
-      other_calm u ne (Some q) is = λ y other at.
-          let z = thread_of program (layer + 1) s.config.threads u q is in
-          let tp = topmost program (layer + 1) z.0.state q z.2 in
-          let ch = r.checked in
-          let hk = run_is_kept keep program layer store ch r.moves s.config r.are r.runs in
-          let kn = known program layer s.config ch.layered ch.linear hk u z.0 tp.below q z.1 tp.is tp.of.there in
-          let so = subst (λ (x : Proc). HaveSorts q.1.locals (frame_sorts x)) kn.proc kn.locals.locals in
-          steady.yields q.1.procedure y q.0 other (record { locals = q.1.locals; done = s.shadow.done u }) (record { at = at.at; yields = at.yields; locals = so })
-          (apart keep program layer store s m.thread f r thread there framed n st k p w u q y other ne is at)
-          (subst (λ (x : Option (Proc × Activation)). FrameIsCalm program (layer + 1) p.store (s.shadow.done u) x) is (w.calm.frames u (λ x. ne (sym (same_Some m.thread u x)))) y other at)
-
-      own : note_holds (steady_note_values program.globals f.0 H.store H.locals H.done) (cut_invariant f.0 (record { statement = later.number; kind = later.kind })) ≡ true
-      own =
-          subst (λ (z : Scope). note_holds z (cut_invariant f.0 (record { statement = later.number; kind = later.kind })) ≡ true)
-          (ap (λ (z : Bool). if z then steady_note_values program.globals f.0 H.store H.locals H.done else note_values program.globals f.0 H.store H.locals H.done B.old B.old_outs B.old_done) ends)
-          (concludes.invariant (record { statement = later.number; kind = later.kind }) stands)
-
-      -- the gate, by stutter
-      gate : (H.done || allows program H.store f.0 H.locals) ≡ true
-      gate = by_done H.done refl
-        where
-          stays_done : p.done ≡ true → H.done ≡ true
-          stays_done q = (led_stays program f.1.procedure (layer + 1) f.0 layered of s.config.store (λ number. []) here.place (beginning B) alike.stores).done q
-
-          before_not : H.done ≡ false → p.done ≡ false
-          before_not q = go p.done refl
-            where
-              go : (x : Bool) → p.done ≡ x → p.done ≡ false
-              go true y = absurd (false≢true (sym q ∙ stays_done y))
-              go false y = y
-
-          allowed_before : p.done ≡ false → allows program p.store f.0 p.locals ≡ true
-          allowed_before q = ap (λ (x : Bool). x || allows program p.store f.0 p.locals) (sym q) ∙ w.gate
-
-          by_done : (x : Bool) → H.done ≡ x → (H.done || allows program H.store f.0 H.locals) ≡ true
-          by_done true q = ap (λ (x : Bool). x || allows program H.store f.0 H.locals) q
-          by_done false q =
-              let was = before_not q in
-              let same = concludes.stutter ends (q ∙ sym was) in
-              ap (λ (x : Bool). x || allows program H.store f.0 H.locals) q
-              ∙ (ap (allows program H.store f.0) (H_locals ∙ sym w.locals)
-              ∙ (gates_stay program f.1.procedure (layer + 1) f.0 p.store H.store p.locals layered of w.fits H_fits same ∙ allowed_before was))
-
-      pub waits_later : WaitsAt program layer s m.thread f later.number later.stmt later.behind H
-      waits_later = record {
-        place = later_place;
-        skips = skips_then (rest_of f) k ((later.number, later.stmt) ∷ later.behind) (skips_then (rest_of f) ((n, st) ∷ k) k w.skips (passes skipped stays)) (subst (Skips k) later.is (settled_skips k));
-        kind = later.kind;
-        cut = later.cut;
-        yields = later.yields;
-        fits = H_fits;
-        old = H_old;
-        locals = H_locals;
-        calm = record {
-          invariants = steady.invariants (owned_apart program (layer + 1) f.0 (cut_number f.0 n) K B (let a = assumes keep program layer store s m.thread f r thread there framed n st k p w in a.holds));
-          frames = λ u q. other_calm u (λ x. q (ap Some (sym x))) (frame_at program (layer + 1) s.config.threads u) refl;
-        };
-        own = own;
-        gate = gate;
-        glides =
-            glided_alike program layer f.0 ((later.number, later.stmt) ∷ later.behind) H (led (course_of program layer f.0) k p) led_is
-            ∙ (ap bare (ap (λ (x : Rest). glided (course_of program layer f.0) x (led (course_of program layer f.0) k p)) (sym later.is) ∙ (sym (glided_led (course_of program layer f.0) k p) ∙ sym (glide p))) ∙ w.glides);
-      }
-
-      pub later_shorter : length ((later.number, later.stmt) ∷ later.behind) ≤ length k
-      later_shorter =
-          let a = settled_length k in
-          let q : length (settled k) ≡ length ((later.number, later.stmt) ∷ later.behind) = ap length later.is in
-          omega (arith, a, q)
+    pub chain_ends : says f.0 (inputs_of f.0 f.1.locals) (seen program layer s) (s.shadow.done t) (outs_in f.0 f.1.locals) → ChainEnds says program layer s t f
+    chain_ends so = chain (suc (length ((head.number, head.stmt) ∷ head.behind))) head.number head.stmt head.behind P first so belongs (omega arith)

@@ -30,7 +30,7 @@ use Rattle.civl_conditions.specs.Assumed.{inputs_of}
 use Rattle.civl_permissions.proofs.Flags.{or_cases}
 use Rattle.civl_staged.specs.Chains.{GatesStay}
 
-same_is_equality : (v w : Value) → IsTrue (same_value v w) ↔ (v ≡ w)
+pub same_is_equality : (v w : Value) → IsTrue (same_value v w) ↔ (v ≡ w)
 same_is_equality = search rules
 
 -- lists of values of the globals' sorts that are the same on some globals

@@ -16,6 +16,7 @@ use Rattle.civl_firing.specs.Stores.{IsStore}
 use Rattle.civl_meaning.specs.declared.config.Activation.{Activation}
 use Rattle.civl_meaning.specs.declared.config.Running.{Running}
 use Rattle.civl_meaning.specs.Permissions.{pairwise_disjoint}
+use Rattle.civl_meaning.specs.Places.{is_skipped}
 use Rattle.civl_meaning.specs.Rest.{Rest, rest_at}
 use Rattle.civl_meaning.specs.Change.{outs_in}
 use Rattle.civl_meaning.specs.Layers.{program_at}
@@ -27,6 +28,7 @@ use Rattle.civl_footprints.specs.Agreement.{AgreeOn, StoresAgree, exists_at}
 use Rattle.civl_paths.specs.NoteValues.{steady_note_values}
 use Rattle.civl_paths.specs.Paths.{Progress}
 use Rattle.civl_paths.specs.Ends.{is_yield_cut, cut_number}
+use Rattle.civl_paths.proofs.Belonging.{Belongs}
 use Rattle.civl_conditions.specs.Invariants.{invariants_hold}
 use Rattle.civl_conditions.specs.Variables.{passed_choices}
 use Rattle.civl_conditions.specs.Values.{Begun}
@@ -83,6 +85,14 @@ pub record WaitsAt (program : Program) (layer : ℕ) (s : Shadowed) (t : ℕ) (f
   pub own : note_holds (steady_note_values program.globals f.0 p.store p.locals p.done) (cut_invariant f.0 (record { statement = n; kind = kind })) ≡ true
   pub gate : (p.done || allows program p.store f.0 p.locals) ≡ true
   pub glides : bare (glided (course_of program layer f.0) ((n, stmt) ∷ k) p) ≡ bare (glided (course_of program layer f.0) (settled (rest_of f)) (progress_in program layer t s.config.store s.shadow f.1))
+
+-- it waits at a yield, from which a block begins
+pub record WaitsAtYield (program : Program) (layer : ℕ) (s : Shadowed) (t : ℕ) (f : Proc × Activation) (n : ℕ) (stmt : Stmt) (k : Rest) (p : Progress) : Type 0 where
+  pub waits : WaitsAt program layer s t f n stmt k p
+  pub form : waits.kind ≡ kind.Yield
+  pub skipped : is_skipped stmt ≡ true
+  pub glide : (x : Progress) → glided (course_of program layer f.0) ((n, stmt) ∷ k) x ≡ glided (course_of program layer f.0) k x
+  pub belongs : Belongs f.0.body ((n, stmt) ∷ k)
 
 five : (a b c d e : Bool) → a ≡ true → b ≡ true → c ≡ true → d ≡ true → e ≡ true → (a && (b && (c && (d && e)))) ≡ true
 five a b c d e p q r s t =

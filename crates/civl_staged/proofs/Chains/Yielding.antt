@@ -1,13 +1,10 @@
 -- A step of a thread whose frame stands at a yield: the chain of blocks from there, and the block that opens at its end.
-use Rattle.std.proofs.Common.{◌≡◌, ℕ, zero, suc, ◌+◌, ◌<◌, Bool, true, false, not, ◌&&◌, ◌||◌, List, ◌∷◌, length, Option, None, Some, slice_get, refl, sym, ap, ◌∙◌, subst, arith, inl}
+use Rattle.std.proofs.Common.{◌≡◌, ℕ, ◌+◌, ◌<◌, Bool, true, false, ◌&&◌, ◌||◌, List, ◌∷◌, Option, Some, slice_get, refl, sym, ap, ◌∙◌, subst, inl, inr}
 use Rattle.std.specs.Prelude.{if◌then◌else◌}
-use Rattle.std.proofs.lemmas.Bool.{false≢true, or_parts}
-use Rattle.std.proofs.lemmas.Option.{same_Some, none-some}
 use Rattle.civl_bits.specs.declared.value.Value.{Value}
 use Rattle.civl_tree.specs.declared.program.Proc.{Proc}
 use Rattle.civl_tree.specs.declared.program.Program.{Program}
 use Rattle.civl_tree.specs.declared.stmt.Stmt.{Stmt, out-Stmt}
-use Rattle.civl_tree.specs.declared.stmt.Stmt.TheOpen as stmt
 use Rattle.civl_tree.specs.Numbering.{sizes_of}
 use Rattle.civl_firing.specs.declared.store.Store.{Store}
 use Rattle.civl_firing.specs.Stores.{IsStore}
@@ -21,9 +18,9 @@ use Rattle.civl_meaning.specs.declared.config.Stepped.{Stepped}
 use Rattle.civl_meaning.specs.declared.config.Stepped.TheVariants as answer
 use Rattle.civl_meaning.specs.declared.config.Change.{Change}
 use Rattle.civl_meaning.specs.declared.config.Change.TheVariants as change
-use Rattle.civl_meaning.specs.Places.{Spot, is_skipped, skip_layer, spot_at}
+use Rattle.civl_meaning.specs.Places.{Spot, is_skipped, spot_at}
 use Rattle.civl_meaning.specs.Rest.{Rest, place_in, head_of}
-use Rattle.civl_meaning.specs.Change.{change_of}
+use Rattle.civl_meaning.specs.Change.{change_of, outs_in}
 use Rattle.civl_meaning.specs.Step.{thread_after, state_after, config_after, step_with, step_in, step_of}
 use Rattle.civl_meaning.specs.Failing.{IsMove}
 use Rattle.civl_meaning.specs.Layers.{program_at}
@@ -31,13 +28,11 @@ use Rattle.civl_meaning.specs.Config.{ThreadIsSorted, IsStacked}
 use Rattle.civl_meaning.proofs.Rests.{spot_of_rest}
 use Rattle.civl_soundness.proofs.Fitting.{all_at}
 use Rattle.civl_layers.specs.declared.cut.Cut.{Cut}
-use Rattle.civl_layers.specs.declared.cut.CutKind.{CutKind}
 use Rattle.civl_layers.specs.declared.cut.CutKind.TheVariants as kind
-use Rattle.civl_layers.specs.Cuts.{form_cut, cut_kind}
 use Rattle.civl_paths.specs.Paths.{Progress}
-use Rattle.civl_paths.specs.Ends.{is_yield_cut, cut_number}
-use Rattle.civl_paths.proofs.Belonging.{Belongs, own_place, rest_belongs}
+use Rattle.civl_paths.specs.Ends.{cut_number}
 use Rattle.civl_conditions.specs.Values.{Begun}
+use Rattle.civl_conditions.specs.Assumed.{inputs_of}
 use Rattle.civl_permissions.proofs.Staying.{IsKept}
 use Rattle.civl_checked.specs.Checked.{ActionsKeepPermissions, SpawnsAreInRoots}
 use Rattle.civl_blocks.specs.Blocks.{at_yield, frame_of_layer, rest_of}
@@ -45,28 +40,27 @@ use Rattle.civl_open_blocks.specs.Following.{layer_head}
 use Rattle.civl_open_blocks.specs.Following as following
 use Rattle.civl_open_blocks.specs.Open.{IsTopmost, IsOpen, OpensInLoop, beginning}
 use Rattle.civl_open_blocks.proofs.Open.Opening.{blocks_open_in_loops}
-use Rattle.civl_exchanges.specs.Doing.{doing}
 use Rattle.civl_blocks.specs.Cuts.{frame_in, frame_at, settled}
-use Rattle.civl_blocks.specs.Shadow.{Shadow, Shadowed, course_of, glided_layer, glided, progress_in, shadow_with, before_frame, merged, seen}
-use Rattle.civl_blocks.specs.Challenged.{allows, call_challenged, frame_challenged, is_challenged}
-use Rattle.civl_staged.proofs.Pausing.Cutting.{Head, yield_head, Topmost, topmost, stands_at}
-use Rattle.civl_staged.proofs.Pausing.Holding.{settled_skips, Skips}
+use Rattle.civl_blocks.specs.Shadow.{Shadow, Shadowed, course_of, glided, progress_in, shadow_with, before_frame, before_step, merged, seen}
+use Rattle.civl_blocks.specs.Challenged.{is_challenged}
+use Rattle.civl_staged.proofs.Pausing.Cutting.{Topmost, topmost}
 use Rattle.civl_staged.proofs.Pausing.Apart.{run_is_kept}
-use Rattle.civl_blocks.proofs.Merged.Merging.{merged_fit}
 use Rattle.civl_staged.specs.Calm.{FrameIsCalm, IsCalm, AllIsCalm}
 use Rattle.civl_staged.proofs.Calm.Outside.{thread_of, done_other}
-use Rattle.civl_staged.specs.Opened.{stepped, StepLeaves, IsReached, YieldsStep}
+use Rattle.civl_staged.specs.Opened.{stepped, IsReached, YieldsStep}
+use Rattle.civl_staged.proofs.Opened.Beginning.{LeavesSo, nothing_said, leaves_it}
+use Rattle.civl_staged.proofs.Opened.Round.{open_blocks_leave}
 use Rattle.civl_staged.proofs.Opened.Noting.{bare}
-use Rattle.civl_staged.proofs.Opened.Old.{merged_itself, merged_is_old}
+use Rattle.civl_staged.proofs.Opened.Old.{merged_itself}
 use Rattle.civl_staged.proofs.Opened.Next.{done_own, leaves_open}
 use Rattle.civl_staged.proofs.Opened.Stepping.{same_layer, set_same, framed_there}
-use Rattle.civl_staged.proofs.Opened.Entering.{not_challenged}
-use Rattle.civl_staged.proofs.Chains.Gliding.{settled_belongs, skips_head}
-use Rattle.civl_staged.proofs.Chains.Waiting.{WaitsAt, cut, b, assumes, apart, layer_agrees}
-use Rattle.civl_staged.proofs.Chains.Chaining.{step_open, later_belongs, waits_later, later_shorter}
+use Rattle.civl_staged.proofs.Chains.Gliding.{skips_head}
+use Rattle.civl_staged.proofs.Chains.Waiting.{WaitsAt, WaitsAtYield, cut, b, assumes, apart, layer_agrees}
+use Rattle.civl_staged.proofs.Chains.Quiet.{BlocksKeep, rest_is, block}
+use Rattle.civl_staged.proofs.Chains.Chaining.{ChainEnds, chain_ends}
 
 module _ (keep : ActionsKeepPermissions) (in_roots : SpawnsAreInRoots) (program : Program) (layer : ℕ) (store : Store) (s : Shadowed) (m : Move) (d : Config) (f : Proc × Activation) (r : IsReached program layer store s.config) (mv : IsMove m) (e : step_of (program_at program layer) s.config m ≡ (answer.Moved, d))
-    (thread : Running) (there : slice_get s.config.threads m.thread ≡ Some thread) (framed : frame_of_layer program (layer + 1) thread ≡ Some f) where
+    (thread : Running) (there : slice_get s.config.threads m.thread ≡ Some thread) (framed : frame_of_layer program (layer + 1) thread ≡ Some f) (says : Proc → List Value → Store → Bool → List Value → Type 0) where
   abbrev A : Progress
   A = glided (course_of program layer f.0) (settled (rest_of f)) (progress_in program layer m.thread s.config.store s.shadow f.1)
 
@@ -74,7 +68,7 @@ module _ (keep : ActionsKeepPermissions) (in_roots : SpawnsAreInRoots) (program 
   G = record { config = s.config; shadow = shadow_with s.shadow m.thread (glided (course_of program layer f.0) (settled (rest_of f)) (progress_in program layer m.thread s.config.store s.shadow f.1)) }
 
   abbrev Result : Type 0
-  Result = StepLeaves program layer (stepped program layer (record { config = s.config; shadow = shadow_with s.shadow m.thread (glided (course_of program layer f.0) (settled (rest_of f)) (progress_in program layer m.thread s.config.store s.shadow f.1)) }) m d) m.thread
+  Result = LeavesSo says program layer s.config (stepped program layer (record { config = s.config; shadow = shadow_with s.shadow m.thread (glided (course_of program layer f.0) (settled (rest_of f)) (progress_in program layer m.thread s.config.store s.shadow f.1)) }) m d) m.thread
 
   top : Topmost program (layer + 1) thread.state f
   top = topmost program (layer + 1) thread.state f framed
@@ -160,8 +154,8 @@ module _ (keep : ActionsKeepPermissions) (in_roots : SpawnsAreInRoots) (program 
         sym (merged_itself program layer s.config.store p.store w.old)
         ∙ (ap (merged program layer s.config.store) (sym store_is) ∙ ap (λ (z : Store). merged program layer z G.shadow.store) (sym stays))
 
-    pub step_in_loop : Result
-    step_in_loop =
+    step_in_loop : says f.0 (inputs_of f.0 f.1.locals) p.store p.done (outs_in f.0 p.locals) → Result
+    step_in_loop so =
         leaves_open keep program layer store G m d (record { checked = r.checked; moves = r.moves; are = r.are; runs = r.runs }) mv e (Some f) now p.store calm_then (subst (IsStore program.globals) (sym store_is) w.fits) new there_now f.0 frame framed_now
         (cut_number f.0 n) K B (n + 1) (record { place = in_loop.0; state = beginning B })
         (subst (λ (z : Store). IsOpen program (layer + 1) f.1.procedure (cut_number f.0 n) f.0 K B (n + 1) (record { place = in_loop.0; state = beginning B }) z frame) (sym stays) in_loop.2)
@@ -169,100 +163,37 @@ module _ (keep : ActionsKeepPermissions) (in_roots : SpawnsAreInRoots) (program 
         (ap (λ (z : Store). record { store = z; locals = p.locals; done = p.done; again = false }) merged_is
         ∙ (ap (λ (ls : List Value). record { store = merged program layer d.store G.shadow.store; locals = ls; done = p.done; again = false }) w.locals
         ∙ ap (λ (x : Bool). record { store = merged program layer d.store G.shadow.store; locals = f.1.locals; done = x; again = false }) (sym (done_own s.shadow.done m.thread A.done ∙ ap (λ (x : Progress). x.done) all_is))))
-        refl (apart keep program layer store s m.thread f r thread there framed n st k p w)
+        refl (apart keep program layer store s m.thread f r thread there framed n st k p w) says (subst (λ (is : List Value). says f.0 is p.store p.done (outs_in f.0 p.locals)) (sym (ap (inputs_of f.0) w.locals)) so)
 
-  -- ---- the chain
+  -- ---- from a yield
 
-  kind_is : (st : Stmt) (x : CutKind) (q : stmt.Stmt-F Stmt) (y : CutKind) → out-Stmt st ≡ q → cut_kind st ≡ Some x → form_cut q ≡ Some y → x ≡ y
-  kind_is st x q y is c h = same_Some x y (sym c ∙ (ap form_cut is ∙ h))
+  module _ (n : ℕ) (st : Stmt) (k : Rest) (p : Progress) (begins : WaitsAtYield program layer s m.thread f n st k p) (away : at_yield k ≡ false) where
+    step_open : says f.0 (inputs_of f.0 f.1.locals) p.store p.done (outs_in f.0 p.locals) → Result
+    step_open so =
+        open_blocks_leave keep in_roots program layer store G m d (record { checked = r.checked; moves = r.moves; are = r.are; runs = r.runs }) mv e
+        (block keep program layer store s m.thread f r thread there framed n st k p begins away) (ap at_yield (rest_is keep program layer store s m.thread f r thread there framed n st k p begins) ∙ away)
+        says (subst (λ (is : List Value). says f.0 is p.store p.done (outs_in f.0 p.locals)) (sym (ap (inputs_of f.0) begins.waits.locals)) so)
 
-  no_cut : (st : Stmt) (x : CutKind) (q : stmt.Stmt-F Stmt) → out-Stmt st ≡ q → cut_kind st ≡ Some x → form_cut q ≡ None → ⊥
-  no_cut st x q is c h = none-some x (sym (ap form_cut is ∙ h) ∙ c)
+  -- ---- at the end of the chain
 
-  chain : (bound n : ℕ) (st : Stmt) (k : Rest) (p : Progress) → WaitsAt program layer s m.thread f n st k p → Belongs f.0.body ((n, st) ∷ k) → length ((n, st) ∷ k) < bound → Result
-  chain zero n st k p w belongs less = absurd (omega (arith, less))
-  chain (suc bound) n st k p w belongs less = by_form (out-Stmt st) refl (λ i t j q v a l. chain bound i t j q v a l)
-    where
-      by_form : (q : stmt.Stmt-F Stmt) → out-Stmt st ≡ q → ((i : ℕ) (t : Stmt) (j : Rest) (x : Progress) → WaitsAt program layer s m.thread f i t j x → Belongs f.0.body ((i, t) ∷ j) → length ((i, t) ∷ j) < bound → Result) → Result
-      by_form (stmt.Yield i) is ih = by_yield (at_yield k) refl
-        where
-          form : w.kind ≡ kind.Yield
-          form = kind_is st w.kind (stmt.Yield i) kind.Yield is w.cut refl
+  at_end : ChainEnds says program layer s m.thread f → Result
+  at_end (inl x) = step_open x.n x.st x.k x.p x.begins x.away x.so
+  at_end (inr x) = step_in_loop x.n x.st x.k x.p x.waits x.form x.head x.shown x.glide x.so
 
-          skipped : is_skipped st ≡ true
-          skipped = ap skip_layer is
-
-          glide : (x : Progress) → glided (course_of program layer f.0) ((n, st) ∷ k) x ≡ glided (course_of program layer f.0) k x
-          glide x = ap (λ (y : stmt.Stmt-F Stmt). glided_layer (course_of program layer f.0) y x (glided (course_of program layer f.0) k)) is
-
-          by_yield : (x : Bool) → at_yield k ≡ x → Result
-          by_yield false q = step_open keep in_roots program layer store s m d f r mv e thread there framed n st k p w form skipped glide belongs q
-          by_yield true q =
-              let later = yield_head k q in
-              let shorter = later_shorter keep in_roots program layer store s m d f r mv e thread there framed n st k p w form skipped glide belongs later in
-              ih later.number later.stmt later.behind _ (waits_later keep in_roots program layer store s m d f r mv e thread there framed n st k p w form skipped glide belongs later)
-              (later_belongs keep in_roots program layer store s m d f r mv e thread there framed n st k p w form skipped glide belongs later) (omega (arith, shorter, less))
-      by_form (stmt.YieldLoop t i a) is ih =
-          step_in_loop n st k p w (kind_is st w.kind (stmt.YieldLoop t i a) kind.YieldLoop is w.cut refl) (ap (layer_head n) is) (ap skip_layer is)
-          (ap (λ (y : stmt.Stmt-F Stmt). glided_layer (course_of program layer f.0) y p (glided (course_of program layer f.0) k)) is)
-      by_form (stmt.RankLoop t v i a) is ih = absurd (false≢true (sym (ap is_yield_cut (kind_is st w.kind (stmt.RankLoop t v i a) kind.RankLoop is w.cut refl)) ∙ w.yields))
-      by_form (stmt.Assign v x) is ih = absurd (no_cut st w.kind (stmt.Assign v x) is w.cut refl)
-      by_form (stmt.Assert x) is ih = absurd (no_cut st w.kind (stmt.Assert x) is w.cut refl)
-      by_form (stmt.If t a b) is ih = absurd (no_cut st w.kind (stmt.If t a b) is w.cut refl)
-      by_form (stmt.While t a) is ih = absurd (no_cut st w.kind (stmt.While t a) is w.cut refl)
-      by_form (stmt.Call v es rs) is ih = absurd (no_cut st w.kind (stmt.Call v es rs) is w.cut refl)
-      by_form (stmt.Spawn v es) is ih = absurd (no_cut st w.kind (stmt.Spawn v es) is w.cut refl)
-      by_form stmt.Commit is ih = absurd (no_cut st w.kind stmt.Commit is w.cut refl)
-      by_form (stmt.Intro v x) is ih = absurd (no_cut st w.kind (stmt.Intro v x) is w.cut refl)
-
-  -- ---- where it begins
-
-  module _ (calm : AllIsCalm program layer s) (unchallenged : is_challenged program layer s ≡ false) (yields : at_yield (rest_of f) ≡ true) where
-    head : Head (rest_of f)
-    head = yield_head (rest_of f) yields
-
-    abbrev P : Progress
-    P = progress_in program layer m.thread s.config.store s.shadow f.1
-
-    belongs : Belongs f.0.body ((head.number, head.stmt) ∷ head.behind)
-    belongs = subst (Belongs f.0.body) head.is (settled_belongs f.0.body (rest_of f) (rest_belongs f.0.body f.1.place))
-
-    by_bools : (a b c : Bool) → b ≡ true → (not a && (b && not c)) ≡ false → (a || c) ≡ true
-    by_bools true b c y h = refl
-    by_bools false true true y h = refl
-    by_bools false true false y h = absurd (false≢true (sym h))
-    by_bools false false c y h = absurd (false≢true y)
-
-    gate : (s.shadow.done m.thread || allows program (seen program layer s) f.0 f.1.locals) ≡ true
-    gate =
-        let thread_not = not_challenged program layer (seen program layer s) s.shadow.done s.config.threads m.thread thread unchallenged there in
-        let frame_not = (or_parts (call_challenged program (layer + 1) (seen program layer s) (doing (program_at program layer) thread)) _ thread_not).1 in
-        by_bools (s.shadow.done m.thread) (at_yield (rest_of f)) (allows program (seen program layer s) f.0 f.1.locals) yields
-        (sym (ap (frame_challenged program (seen program layer s) (s.shadow.done m.thread)) framed) ∙ frame_not)
-
-    first : WaitsAt program layer s m.thread f head.number head.stmt head.behind P
-    first = record {
-      place = own_place f.0.body ((head.number, head.stmt) ∷ head.behind) belongs;
-      skips = subst (Skips (rest_of f)) head.is (settled_skips (rest_of f));
-      kind = head.kind;
-      cut = head.cut;
-      yields = head.yields;
-      fits = merged_fit program layer s.config.store s.shadow.store s_kept.of_plain.store calm.fits;
-      old = merged_is_old program layer s.config.store s.shadow.store s_kept.of_plain.store calm.fits;
-      locals = refl;
-      calm = record { invariants = calm.calm.invariants; frames = λ u q. calm.calm.frames u (λ x. none-some u x) };
-      own = subst (FrameIsCalm program (layer + 1) (seen program layer s) (s.shadow.done m.thread)) now (calm.calm.frames m.thread (λ x. none-some m.thread x)) (cut_number f.0 head.number) (record { statement = head.number; kind = head.kind }) (stands_at program (layer + 1) f top.of head);
-      gate = gate;
-      glides = ap (λ (x : Rest). bare (glided (course_of program layer f.0) x P)) (sym head.is);
-    }
-
-    pub from_yield : Result
-    from_yield = chain (suc (length ((head.number, head.stmt) ∷ head.behind))) head.number head.stmt head.behind P first belongs (omega arith)
+-- what is said of the yield is said of where the block began, where blocks keep it
+pub yields_leave : ActionsKeepPermissions → SpawnsAreInRoots → (program : Program) (layer : ℕ) (store : Store) (s : Shadowed) (m : Move) (d : Config) (f : Proc × Activation) → IsReached program layer store s.config → IsMove m → step_of (program_at program layer) s.config m ≡ (answer.Moved, d)
+    → AllIsCalm program layer s → is_challenged program layer s ≡ false → frame_at program (layer + 1) s.config.threads m.thread ≡ Some f → at_yield (rest_of f) ≡ true
+    → (says : Proc → List Value → Store → Bool → List Value → Type 0) → BlocksKeep says program layer f.1.procedure f.0 → says f.0 (inputs_of f.0 f.1.locals) (seen program layer s) (s.shadow.done m.thread) (outs_in f.0 f.1.locals)
+    → LeavesSo says program layer s.config (stepped program layer (record { config = s.config; shadow = before_step program layer m.thread s.config s.shadow }) m d) m.thread
+yields_leave keep in_roots program layer store s m d f r mv e calm unchallenged now yields says keeps so =
+    let z = thread_of program (layer + 1) s.config.threads m.thread f now in
+    subst (λ (x : Shadow). LeavesSo says program layer s.config (stepped program layer (record { config = s.config; shadow = x }) m d) m.thread)
+    (sym (ap (before_frame program layer m.thread s.config.store s.shadow) now
+    ∙ ap (λ (x : Bool). if x then shadow_with s.shadow m.thread (glided (course_of program layer f.0) (settled (rest_of f)) (progress_in program layer m.thread s.config.store s.shadow f.1)) else s.shadow) yields))
+    (at_end keep in_roots program layer store s m d f r mv e z.0 z.1 z.2 says
+    (chain_ends keep program layer store s m.thread f r z.0 z.1 z.2 says keeps calm unchallenged yields so))
 
 pub yields_step : ActionsKeepPermissions → SpawnsAreInRoots → YieldsStep
 yields_step keep in_roots program layer store s m d f r mv e calm unchallenged now yields =
-    let z = thread_of program (layer + 1) s.config.threads m.thread f now in
-    subst (λ (x : Shadow). StepLeaves program layer (stepped program layer (record { config = s.config; shadow = x }) m d) m.thread)
-    (sym (ap (before_frame program layer m.thread s.config.store s.shadow) now
-    ∙ ap (λ (x : Bool). if x then shadow_with s.shadow m.thread (glided (course_of program layer f.0) (settled (rest_of f)) (progress_in program layer m.thread s.config.store s.shadow f.1)) else s.shadow) yields))
-    (from_yield keep in_roots program layer store s m d f r mv e z.0 z.1 z.2 calm unchallenged yields)
+    leaves_it program layer s.config (stepped program layer (record { config = s.config; shadow = before_step program layer m.thread s.config s.shadow }) m d) m.thread
+    (yields_leave keep in_roots program layer store s m d f r mv e calm unchallenged now yields nothing_said (λ c cut b end p assumed concludes ends done fits sorts so. so) tt)

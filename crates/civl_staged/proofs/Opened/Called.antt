@@ -50,7 +50,7 @@ use Rattle.civl_conditions.specs.Values.{Begun}
 use Rattle.civl_conditions.specs.Variables.{passed_choices}
 use Rattle.civl_tree.specs.declared.action.Choice.{Choice}
 use Rattle.civl_conditions.specs.Permissions.{in_store, held_at, of_held}
-use Rattle.civl_conditions.specs.Assumed.{owned}
+use Rattle.civl_conditions.specs.Assumed.{inputs_of, owned}
 use Rattle.civl_condition_laws.specs.States.{frame_sorts, IsBegun, IsCutOf}
 use Rattle.civl_condition_laws.proofs.Gathering.{have_length}
 use Rattle.civl_condition_laws.proofs.Standing.{sorts_apart}
@@ -83,6 +83,7 @@ use Rattle.civl_staged.proofs.Calm.Stepping.{Leaves, spawned_before, pushed_fram
 use Rattle.civl_staged.proofs.Calm.Stepping as stepping
 use Rattle.civl_staged.proofs.Calm.Outside.{thread_of, done_other}
 use Rattle.civl_staged.specs.Opened.{BlockIsOpen, StandsThere, stepped, IsReached, CallsOpenBlocks}
+use Rattle.civl_staged.proofs.Opened.Beginning.{BeganSo, nothing_said}
 use Rattle.civl_staged.proofs.Opened.Next.{next_kept, done_own, opens}
 use Rattle.civl_staged.proofs.Opened.Forms.{back_outside}
 use Rattle.civl_staged.proofs.Opened.Stepping.{same_layer, set_same, framed_there}
@@ -326,7 +327,7 @@ module _ (keep : ActionsKeepPermissions) (program : Program) (layer : ℕ) (stor
   abbrev b : Begun
   b = record { store = seen program layer s; locals = f.1.locals; done = false; old = seen program layer s; old_outs = outs_in f.0 f.1.locals; old_done = false; chosen = choices.0 }
 
-  fits : IsStore program.globals (seen program layer s)
+  pub fits : IsStore program.globals (seen program layer s)
   fits = merged_fit program layer s.config.store s.shadow.store s_kept.of_plain.store calm.fits
 
   of_cut : IsCutOf program (layer + 1) f.1.procedure 0 f.0 entry_cut
@@ -406,14 +407,17 @@ module _ (keep : ActionsKeepPermissions) (program : Program) (layer : ℕ) (stor
         (calm.calm.frames u (λ q. none-some u q));
   }
 
-  opens_so : (o : BlockIsOpen program layer (stepped program layer s m d) m.thread) × StandsThere o
-  opens_so =
+  pub opens_so : (says : Proc → List Value → Store → Bool → List Value → Type 0) → says f.0 (inputs_of f.0 f.1.locals) (seen program layer s) false (outs_in f.0 f.1.locals)
+      → (o : BlockIsOpen program layer (stepped program layer s m d) m.thread) × StandsThere o × BeganSo says o
+  opens_so says so =
       opens keep program layer store s m d r mv e None before (seen program layer s) calm_then calm.fits k.new k.now f.0 f.1 k.framed 0 entry_cut b 0 (record { place = 0; state = beginning b })
       (blocks_open_at_entries program (layer + 1) f.1.procedure 0 f.0 entry_cut b d.store f.1 assumes refl (record { spot = ap (spot_at f.0.body) (sym at_start); locals = refl; stores = stores }))
       (sym at_start)
       (ap (λ (g : Store). record { store = merged program layer g s.shadow.store; locals = f.1.locals; done = false; again = false }) (sym k.store)
       ∙ ap (λ (z : Bool). record { store = merged program layer d.store s.shadow.store; locals = f.1.locals; done = z; again = false }) (sym (done_own s.shadow.done m.thread false)))
-      refl apart
+      refl apart says so
 
 pub calls_open_blocks : ActionsKeepPermissions → CallsOpenBlocks
-calls_open_blocks keep program layer store s m d f r mv e calm unchallenged before after = opens_so keep program layer store s m d f r mv e calm unchallenged before after
+calls_open_blocks keep program layer store s m d f r mv e calm unchallenged before after =
+    let o = opens_so keep program layer store s m d f r mv e calm unchallenged before after nothing_said tt in
+    (o.0, o.1)

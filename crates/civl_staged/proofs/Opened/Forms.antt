@@ -103,15 +103,15 @@ module _ (program : Program) (layer : ℕ) (layered : IsLayered program) (roots 
 
 -- ---- frames that wait
 
-module _ (program : Program) (layer : ℕ) (layered : IsLayered program) where
-  last_waits : (plain : Plain) (below : List Activation) (top f : Activation) → AreWaiting plain below top → slice_get below (length below - 1) ≡ Some f → Waits plain top.procedure f
-  last_waits plain [] top f w e = absurd (none-some f e)
-  last_waits plain (g ∷ []) top f w e = subst (Waits plain top.procedure) (same_Some g f e) w.0
-  last_waits plain (g ∷ h ∷ fs) top f w e = last_waits plain (h ∷ fs) top f w.1 (sym (ap (slice_get (g ∷ h ∷ fs)) one) ∙ e)
-    where
-      one : length (g ∷ h ∷ fs) - 1 ≡ suc (length (h ∷ fs) - 1)
-      one = omega arith
+pub last_waits : (plain : Plain) (below : List Activation) (top f : Activation) → AreWaiting plain below top → slice_get below (length below - 1) ≡ Some f → Waits plain top.procedure f
+last_waits plain [] top f w e = absurd (none-some f e)
+last_waits plain (g ∷ []) top f w e = subst (Waits plain top.procedure) (same_Some g f e) w.0
+last_waits plain (g ∷ h ∷ fs) top f w e = last_waits plain (h ∷ fs) top f w.1 (sym (ap (slice_get (g ∷ h ∷ fs)) one) ∙ e)
+  where
+    one : length (g ∷ h ∷ fs) - 1 ≡ suc (length (h ∷ fs) - 1)
+    one = omega arith
 
+module _ (program : Program) (layer : ℕ) (layered : IsLayered program) where
   -- a frame that waits in a call that runs a body is of no procedure of the layer above
   waits_outside : (n : ℕ) (f : Activation) → Waits (program_at program layer) n f → (proc : Proc) → slice_get program.procs f.procedure ≡ Some proc → has_layer (layer + 1) proc ≡ true → ⊥
   waits_outside n f w proc there l = by_spot (spot_at proc.body f.place) refl (subst (ProcCalls (program_at program layer) n f.place) there w)

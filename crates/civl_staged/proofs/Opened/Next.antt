@@ -45,7 +45,8 @@ use Rattle.civl_staged.proofs.Pausing.Apart.{kept, run_is_kept, known}
 use Rattle.civl_staged.specs.Calm.{FrameIsCalm, IsCalm}
 use Rattle.civl_staged.proofs.Calm.Stepping.{Leaves, leaves}
 use Rattle.civl_staged.proofs.Calm.Outside.{done_other}
-use Rattle.civl_staged.specs.Opened.{BlockIsOpen, StandsThere, stepped, StepLeaves, IsReached}
+use Rattle.civl_staged.specs.Opened.{BlockIsOpen, StandsThere, stepped, IsReached}
+use Rattle.civl_staged.proofs.Opened.Beginning.{BegunSo, BeganSo, LeavesSo}
 use Rattle.civl_staged.proofs.Opened.Noting.{bare, led_alike}
 use Rattle.civl_staged.proofs.Opened.Old.{is_old, led_old, merged_itself, merged_is_old}
 
@@ -155,12 +156,14 @@ module _ (keep : ActionsKeepPermissions) (program : Program) (layer : ℕ) (stor
       apart = λ u g y other n is stands. apart u g y other n (sym (left.others (layer + 1) u n) ∙ is) stands;
     }
 
-    -- the step leaves it open
-    pub leaves_open : StepLeaves program layer (stepped program layer s m d) m.thread
-    unfolding next_open
-    leaves_open = subst (λ (z : Shadowed). StepLeaves program layer z m.thread) (sym behind_is) (inl (next_open, place))
+    -- with what is said of its beginning
+    module _ (says : Proc → List Value → Store → Bool → List Value → Type 0) (so : BegunSo says proc b) where
+      -- the step leaves it open
+      pub leaves_open : LeavesSo says program layer s.config (stepped program layer s m d) m.thread
+      unfolding next_open
+      leaves_open = subst (λ (z : Shadowed). LeavesSo says program layer s.config z m.thread) (sym behind_is) (inl (next_open, place, so))
 
-    -- as a block, where that is asked
-    pub opens : (o : BlockIsOpen program layer (stepped program layer s m d) m.thread) × StandsThere o
-    unfolding next_open
-    opens = subst (λ (z : Shadowed). (o : BlockIsOpen program layer z m.thread) × StandsThere o) (sym behind_is) (next_open, place)
+      -- as a block, where that is asked
+      pub opens : (o : BlockIsOpen program layer (stepped program layer s m d) m.thread) × StandsThere o × BeganSo says o
+      unfolding next_open
+      opens = subst (λ (z : Shadowed). (o : BlockIsOpen program layer z m.thread) × StandsThere o × BeganSo says o) (sym behind_is) (next_open, place, so)

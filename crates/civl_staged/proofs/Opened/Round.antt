@@ -68,7 +68,9 @@ use Rattle.civl_staged.proofs.Calm.Stepping.{Leaves}
 use Rattle.civl_staged.proofs.Calm.Stepping as stepping
 use Rattle.civl_staged.proofs.Calm.Outside.{thread_of, cases_of}
 use Rattle.civl_blocks.specs.Steady.{IsSteady}
-use Rattle.civl_staged.specs.Opened.{BlockIsOpen, stepped, StepLeaves, IsReached, OpenBlocksStep}
+use Rattle.civl_staged.specs.Opened.{BlockIsOpen, GoesOn, stepped, IsReached, OpenBlocksStep}
+use Rattle.civl_conditions.specs.Assumed.{inputs_of}
+use Rattle.civl_staged.proofs.Opened.Beginning.{BegunSo, BeganSo, HasEnded, LeavesSo, nothing_said, leaves_it}
 use Rattle.civl_staged.proofs.Opened.Noting.{locals_stay}
 use Rattle.civl_staged.proofs.Opened.Concluding.{sound, concluded_steady, others_hold, other_calm}
 use Rattle.civl_staged.proofs.Opened.Forms.{no_yield, not_yield_loop, head_skips, back_outside}
@@ -86,7 +88,7 @@ one_apart program layer config k t one at first low = disjoint_by (of_globals pr
     omega (arith, all, a, c, d, z))
 
 -- the exit ends a block
-exit_ends : (proc : Proc) → ends_block proc (exit_of proc) ≡ true
+pub exit_ends : (proc : Proc) → ends_block proc (exit_of proc) ≡ true
 exit_ends proc = ap (λ (o : Option Cut). option_map_or (λ cut. not (is_rank_loop cut.kind)) o true) (slice_get_past (proc_cuts proc) (length (proc_cuts proc)) (omega arith))
 
 module _ (keep : ActionsKeepPermissions) (in_roots : SpawnsAreInRoots) (program : Program) (layer : ℕ) (store : Store) (s : Shadowed) (m : Move) (d : Config) (r : IsReached program layer store s.config) (mv : IsMove m) (e : step_of (program_at program layer) s.config m ≡ (answer.Moved, d)) (o : BlockIsOpen program layer s m.thread) where
@@ -101,6 +103,9 @@ module _ (keep : ActionsKeepPermissions) (in_roots : SpawnsAreInRoots) (program 
 
   same_locals : H.locals ≡ o.f.1.locals
   same_locals = locals_stay (lower_course program (layer + 1) o.f.0 (λ number. [])) (rest_at o.f.0.body o.here.place) o.here.state ∙ o.opened.follows.alike.locals
+
+  inputs_same : inputs_of o.f.0 H.locals ≡ inputs_of o.f.0 o.b.locals
+  inputs_same = ap (inputs_of o.f.0) (locals_stay (lower_course program (layer + 1) o.f.0 (λ number. [])) (rest_at o.f.0.body o.here.place) o.here.state) ∙ o.opened.inputs
 
   same_spot : spot_at o.f.0.body o.here.place ≡ spot_at o.f.0.body o.f.1.place
   same_spot = o.opened.follows.alike.spot
@@ -165,8 +170,12 @@ module _ (keep : ActionsKeepPermissions) (in_roots : SpawnsAreInRoots) (program 
         (blocks_open_in_loops program (layer + 1) o.f.1.procedure end o.f.0 there (begun_again o.b H again.0) s.config.store o.f.1 o.thread m.choices sp again.1 (inr refl) its_top spot head same_locals
         (let c = r.checked in (led_stays program o.f.1.procedure (layer + 1) o.f.0 c.layered o.opened.assumed.of_cut.of_proc s.config.store (λ number. []) o.here.place o.here.state o.opened.follows.alike.stores).stores))
 
-    pub step_round : StepLeaves program layer (stepped program layer s m d) m.thread
-    step_round =
+    -- it began where it did, with the same inputs
+    began_so : (says : Proc → List Value → Store → Bool → List Value → Type 0) → BeganSo says o → BegunSo says o.f.0 (begun_again o.b H again.0)
+    began_so says so = subst (λ (is : List Value). says o.f.0 is o.b.old o.b.old_done o.b.old_outs) (sym inputs_same) so
+
+    pub step_round : (says : Proc → List Value → Store → Bool → List Value → Type 0) → BeganSo says o → LeavesSo says program layer s.config (stepped program layer s m d) m.thread
+    step_round says so =
         let place = in_loop.0 in
         let x = sym (ap (λ (g : Change). step_with s.config m.thread o.thread g) in_loop.1) ∙ changed keep in_roots program layer store s m d r mv e o in
         let same : d ≡ config_after s.config m.thread o.thread (change.Goes o.f.1.locals in_loop.0) = sym (ap (λ (z : Stepped × Config). z.1) x) in
@@ -179,7 +188,7 @@ module _ (keep : ActionsKeepPermissions) (in_roots : SpawnsAreInRoots) (program 
         (ap (λ (z : Store). record { store = z; locals = H.locals; done = H.done; again = false }) (o.store ∙ ap (λ (z : Store). merged program layer z s.shadow.store) (sym stays))
         ∙ (ap (λ (ls : List Value). record { store = merged program layer d.store s.shadow.store; locals = ls; done = H.done; again = false }) same_locals
         ∙ ap (λ (b : Bool). record { store = merged program layer d.store s.shadow.store; locals = o.f.1.locals; done = b; again = false }) o.done))
-        refl apart
+        refl apart says (began_so says so)
 
   -- ---- at the exit
 
@@ -257,11 +266,17 @@ module _ (keep : ActionsKeepPermissions) (in_roots : SpawnsAreInRoots) (program 
             subst (λ (z : Store). FrameIsCalm program (layer + 1) z (s.shadow.done u) (frame_at program (layer + 1) d.threads u)) (sym next_store)
             (subst (FrameIsCalm program (layer + 1) (seen program layer s) (s.shadow.done u)) (sym (behind.others (layer + 1) u n)) (other_calm keep program layer store s m.thread r o (seen program layer s) steady u n))
 
-    pub step_out : StepLeaves program layer (stepped program layer s m d) m.thread
-    step_out = subst (λ (z : Shadowed). StepLeaves program layer z m.thread) (sym same_shadow) (inr (calm, left_so.0))
+    -- so the block has ended
+    ended : (says : Proc → List Value → Store → Bool → List Value → Type 0) → BeganSo says o → HasEnded says program layer s.config (record { config = d; shadow = s.shadow }) m.thread
+    ended says so = record { before = s; config = refl; block = o; began = so; concludes = concludes; store = next_store; done = refl }
 
-pub open_blocks_step : ActionsKeepPermissions → SpawnsAreInRoots → OpenBlocksStep
-open_blocks_step keep in_roots program layer store s m d r mv e o goes = by_ahead (cut_ahead o.f.0.body o.here.place) refl
+    pub step_out : (says : Proc → List Value → Store → Bool → List Value → Type 0) → BeganSo says o → LeavesSo says program layer s.config (stepped program layer s m d) m.thread
+    step_out says so = subst (λ (z : Shadowed). LeavesSo says program layer s.config z m.thread) (sym same_shadow) (inr (calm, left_so.0, ended says so))
+
+-- what is said of where the block began stays along its steps
+pub open_blocks_leave : ActionsKeepPermissions → SpawnsAreInRoots → (program : Program) (layer : ℕ) (store : Store) (s : Shadowed) (m : Move) (d : Config) → IsReached program layer store s.config → IsMove m → step_of (program_at program layer) s.config m ≡ (answer.Moved, d)
+    → (o : BlockIsOpen program layer s m.thread) → GoesOn o → (says : Proc → List Value → Store → Bool → List Value → Type 0) → BeganSo says o → LeavesSo says program layer s.config (stepped program layer s m d) m.thread
+open_blocks_leave keep in_roots program layer store s m d r mv e o goes says so = by_ahead (cut_ahead o.f.0.body o.here.place) refl
   where
     same : spot_at o.f.0.body o.here.place ≡ spot_at o.f.0.body o.f.1.place
     same = o.opened.follows.alike.spot
@@ -269,9 +284,9 @@ open_blocks_step keep in_roots program layer store s m d r mv e o goes = by_ahea
     none_before : yield_before (rest_at o.f.0.body o.here.place) ≡ None
     none_before = no_yield (rest_at o.f.0.body o.here.place) goes
 
-    by_form : (n : ℕ) → cut_ahead o.f.0.body o.here.place ≡ Some n → (sp : Spot) → spot_at o.f.0.body o.f.1.place ≡ Some sp → (f : stmt.Stmt-F Stmt) → out-Stmt sp.stmt ≡ f → layer_head sp.number f ≡ Some n → layer_at_yield f false ≡ false → StepLeaves program layer (stepped program layer s m d) m.thread
+    by_form : (n : ℕ) → cut_ahead o.f.0.body o.here.place ≡ Some n → (sp : Spot) → spot_at o.f.0.body o.f.1.place ≡ Some sp → (f : stmt.Stmt-F Stmt) → out-Stmt sp.stmt ≡ f → layer_head sp.number f ≡ Some n → layer_at_yield f false ≡ false → LeavesSo says program layer s.config (stepped program layer s m d) m.thread
     by_form n ahead sp spot (stmt.RankLoop t w i a) is q nt =
-        step_round keep in_roots program layer store s m d r mv e o n ahead sp spot (same_Some sp.number n q) (ap form_cut is) (ap (layer_head sp.number) is ∙ q)
+        step_round keep in_roots program layer store s m d r mv e o n ahead sp spot (same_Some sp.number n q) (ap form_cut is) (ap (layer_head sp.number) is ∙ q) says so
     by_form n ahead sp spot (stmt.YieldLoop t i a) is q nt = absurd (false≢true (sym nt))
     by_form n ahead sp spot (stmt.Assign v w) is q nt = absurd (none-some n q)
     by_form n ahead sp spot (stmt.Assert w) is q nt = absurd (none-some n q)
@@ -283,17 +298,21 @@ open_blocks_step keep in_roots program layer store s m d r mv e o goes = by_ahea
     by_form n ahead sp spot stmt.Commit is q nt = absurd (none-some n q)
     by_form n ahead sp spot (stmt.Intro v w) is q nt = absurd (none-some n q)
 
-    by_spot : (n : ℕ) → cut_ahead o.f.0.body o.here.place ≡ Some n → (x : Option Spot) → spot_at o.f.0.body o.here.place ≡ x → head_there x ≡ Some n → StepLeaves program layer (stepped program layer s m d) m.thread
+    by_spot : (n : ℕ) → cut_ahead o.f.0.body o.here.place ≡ Some n → (x : Option Spot) → spot_at o.f.0.body o.here.place ≡ x → head_there x ≡ Some n → LeavesSo says program layer s.config (stepped program layer s m d) m.thread
     by_spot n ahead None q k = absurd (none-some n k)
     by_spot n ahead (Some sp) q k =
         by_form n ahead sp (sym same ∙ q) (out-Stmt sp.stmt) refl k (not_yield_loop (sizes_of o.f.0.body) (rest_at o.f.0.body o.here.place) sp goes (sym (spot_of_rest o.f.0.body o.here.place) ∙ q))
 
-    no_spot : (x : Option Spot) → spot_at o.f.0.body o.f.1.place ≡ x → cut_ahead o.f.0.body o.here.place ≡ None → StepLeaves program layer (stepped program layer s m d) m.thread
-    no_spot None q away = step_out keep in_roots program layer store s m d r mv e o away q
-    no_spot (Some sp) q away = step_away keep in_roots program layer store s m d r mv e o away sp q
+    no_spot : (x : Option Spot) → spot_at o.f.0.body o.f.1.place ≡ x → cut_ahead o.f.0.body o.here.place ≡ None → LeavesSo says program layer s.config (stepped program layer s m d) m.thread
+    no_spot None q away = step_out keep in_roots program layer store s m d r mv e o away q says so
+    no_spot (Some sp) q away = step_away keep in_roots program layer store s m d r mv e o away sp q says so
 
-    by_ahead : (x : Option ℕ) → cut_ahead o.f.0.body o.here.place ≡ x → StepLeaves program layer (stepped program layer s m d) m.thread
+    by_ahead : (x : Option ℕ) → cut_ahead o.f.0.body o.here.place ≡ x → LeavesSo says program layer s.config (stepped program layer s m d) m.thread
     by_ahead None q = no_spot (spot_at o.f.0.body o.f.1.place) refl q
     by_ahead (Some n) q =
         by_spot n q (spot_at o.f.0.body o.here.place) refl
         (sym (ap (λ (y : Option ℕ). option_map_or (λ (z : ℕ). Some z) y (head_there (spot_at o.f.0.body o.here.place))) none_before) ∙ q)
+
+pub open_blocks_step : ActionsKeepPermissions → SpawnsAreInRoots → OpenBlocksStep
+open_blocks_step keep in_roots program layer store s m d r mv e o goes =
+    leaves_it program layer s.config (stepped program layer s m d) m.thread (open_blocks_leave keep in_roots program layer store s m d r mv e o goes nothing_said tt)

@@ -53,7 +53,8 @@ use Rattle.civl_conditions.specs.Assumed.{owned}
 use Rattle.civl_permissions.proofs.Staying.{IsKept}
 use Rattle.civl_blocks.proofs.Merged.Merging.{actions_act_as_there}
 use Rattle.civl_staged.proofs.Calm.Stepping.{Fires, acts_so}
-use Rattle.civl_staged.specs.Opened.{BlockIsOpen, stepped, StepLeaves, IsReached}
+use Rattle.civl_staged.specs.Opened.{BlockIsOpen, stepped, IsReached}
+use Rattle.civl_staged.proofs.Opened.Beginning.{BegunSo, BeganSo, LeavesSo}
 use Rattle.civl_staged.proofs.Opened.Noting.{bare}
 use Rattle.civl_staged.proofs.Opened.Concluding.{sound}
 use Rattle.civl_staged.proofs.Opened.Next.{leaves_open}
@@ -125,9 +126,9 @@ module _ (keep : ActionsKeepPermissions) (in_roots : SpawnsAreInRoots) (program 
         → here.place ≡ place → bare here.state ≡ record { store = merged program layer d.store s.shadow.store; locals = locals; done = s.shadow.done m.thread; again = false } → b.old ≡ o.b.old
         → ((u : ℕ) (q : Proc × Activation) (y : ℕ) (other : Cut) → u ≢ m.thread → frame_at program (layer + 1) s.config.threads u ≡ Some q → StandsAt program (layer + 1) q y other
         → IsTrue (pairwise_disjoint (owned program o.f.0 c b ++ of_held (held_at program q.0 y) q.1.locals)))
-        → StepLeaves program layer (stepped program layer s m d) m.thread
-    goes_open c cut b bound here opened at state was apart =
-        leaves_open keep program layer store s m d r mv e (Some o.f) now o.b.old o.calm o.fits new there_now o.f.0 (following.frame_at o.f.1 locals place) framed_now c cut b bound here opened at state was apart
+        → (says : Proc → List Value → Store → Bool → List Value → Type 0) → BegunSo says o.f.0 b → LeavesSo says program layer s.config (stepped program layer s m d) m.thread
+    goes_open c cut b bound here opened at state was apart says so =
+        leaves_open keep program layer store s m d r mv e (Some o.f) now o.b.old o.calm o.fits new there_now o.f.0 (following.frame_at o.f.1 locals place) framed_now c cut b bound here opened at state was apart says so
 
   -- ---- a step before no cut
 
@@ -177,42 +178,44 @@ module _ (keep : ActionsKeepPermissions) (in_roots : SpawnsAreInRoots) (program 
                 let n = meant_begins program k.layered layer x.action q.meant_so in
                 (n.0, n.1, next_exists program k.layered layer (omega (arith, b)) (in_roots program k.yields) k.linear o.thread sorted stacked x.action x.args x.next)
 
-    by_change : (g : Change) → change_of (program_at program layer) s.config.store m.choices o.thread ≡ g → IsOwn g → step_with s.config m.thread o.thread g ≡ (answer.Moved, d)
-        → StepStaysOpen program (layer + 1) o.f.1.procedure o.c o.f.0 o.cut o.b o.bound o.here s.config.store o.f.1 sp m.choices g → StepLeaves program layer (stepped program layer s m d) m.thread
-    by_change (change.Goes locals place) is fine x on =
-        let same = sym (ap (λ (z : Stepped × Config). z.1) x) in
-        goes_open locals place (change.Goes locals place) (after_is (change.Goes locals place)) (ap (λ (c : Config). c.threads) same)
-        o.c o.cut (choosing o.b on.chosen) on.later on.next
-        (subst (λ (z : Store). IsOpen program (layer + 1) o.f.1.procedure o.c o.f.0 o.cut (choosing o.b on.chosen) on.later on.next z (following.frame_at o.f.1 locals place)) (sym (ap (λ (c : Config). c.store) same)) on.opened)
-        on.place
-        (ap bare on.state ∙ (ap (λ (z : Store). record { store = z; locals = locals; done = H_done; again = false }) (o.store ∙ ap (λ (z : Store). merged program layer z s.shadow.store) (sym (ap (λ (c : Config). c.store) same))) ∙ ap (λ (b : Bool). record { store = merged program layer d.store s.shadow.store; locals = locals; done = b; again = false }) o.done))
-        refl o.apart
-      where
-        H_done : Bool
-        H_done = (led_here program (layer + 1) o.f.0 o.here).done
+    -- what is said of its beginning stays
+    module _ (says : Proc → List Value → Store → Bool → List Value → Type 0) (so : BeganSo says o) where
+      by_change : (g : Change) → change_of (program_at program layer) s.config.store m.choices o.thread ≡ g → IsOwn g → step_with s.config m.thread o.thread g ≡ (answer.Moved, d)
+          → StepStaysOpen program (layer + 1) o.f.1.procedure o.c o.f.0 o.cut o.b o.bound o.here s.config.store o.f.1 sp m.choices g → LeavesSo says program layer s.config (stepped program layer s m d) m.thread
+      by_change (change.Goes locals place) is fine x on =
+          let same = sym (ap (λ (z : Stepped × Config). z.1) x) in
+          goes_open locals place (change.Goes locals place) (after_is (change.Goes locals place)) (ap (λ (c : Config). c.threads) same)
+          o.c o.cut (choosing o.b on.chosen) on.later on.next
+          (subst (λ (z : Store). IsOpen program (layer + 1) o.f.1.procedure o.c o.f.0 o.cut (choosing o.b on.chosen) on.later on.next z (following.frame_at o.f.1 locals place)) (sym (ap (λ (c : Config). c.store) same)) on.opened)
+          on.place
+          (ap bare on.state ∙ (ap (λ (z : Store). record { store = z; locals = locals; done = H_done; again = false }) (o.store ∙ ap (λ (z : Store). merged program layer z s.shadow.store) (sym (ap (λ (c : Config). c.store) same))) ∙ ap (λ (b : Bool). record { store = merged program layer d.store s.shadow.store; locals = locals; done = b; again = false }) o.done))
+          refl o.apart says so
+        where
+          H_done : Bool
+          H_done = (led_here program (layer + 1) o.f.0 o.here).done
 
-        after_is : (g : Change) → thread_after o.thread (change.Goes locals place) ≡ record { callee = o.thread.callee; args = o.thread.args; state = Inside top.below (following.frame_at o.f.1 locals place) }
-        after_is g = ap (λ (x : State). record { callee = o.thread.callee; args = o.thread.args; state = state_after x (change.Goes locals place) }) top.is
-    by_change (change.Acts after locals place) is fine x on =
-        let same = sym (ap (λ (z : Stepped × Config). z.1) x) in
-        let inner_is : on.0 ≡ merged program layer after s.shadow.store = acts_there after on.0 locals locals place place is (inner_does on.0 on.1) in
-        goes_open locals place (change.Acts after locals place) (ap (λ (x : State). record { callee = o.thread.callee; args = o.thread.args; state = state_after x (change.Acts after locals place) }) top.is) (ap (λ (c : Config). c.threads) same)
-        o.c o.cut (choosing o.b on.2.chosen) on.2.later on.2.next
-        (subst (λ (z : Store). IsOpen program (layer + 1) o.f.1.procedure o.c o.f.0 o.cut (choosing o.b on.2.chosen) on.2.later on.2.next z (following.frame_at o.f.1 locals place)) (sym (ap (λ (c : Config). c.store) same)) on.2.opened)
-        on.2.place
-        (ap bare on.2.state ∙ (ap (λ (z : Store). record { store = z; locals = locals; done = (led_here program (layer + 1) o.f.0 o.here).done; again = false }) (inner_is ∙ ap (λ (z : Store). merged program layer z s.shadow.store) (sym (ap (λ (c : Config). c.store) same))) ∙ ap (λ (b : Bool). record { store = merged program layer d.store s.shadow.store; locals = locals; done = b; again = false }) o.done))
-        refl o.apart
-      where
-        inner_does : (inner : Store) → frame_does program (layer + 1) o.f.0 (led_here program (layer + 1) o.f.0 o.here).store m.choices o.f.1 sp ≡ change.Acts inner locals place
-            → change_of (program_at program layer) (merged program layer s.config.store s.shadow.store) m.choices o.thread ≡ change.Acts inner locals place
-        inner_does inner k =
-            does (merged program layer s.config.store s.shadow.store)
-            ∙ (ap (λ (p : Plain). layer_change p (merged program layer s.config.store s.shadow.store) m.choices o.f.0 o.f.1.locals sp.number sp.next (out-Stmt sp.stmt)) (sym lower_is)
-            ∙ (ap (λ (g : Store). frame_does program (layer + 1) o.f.0 g m.choices o.f.1 sp) (sym o.store) ∙ k))
-    by_change (change.Stays a) is fine x on = absurd (fine (ap (λ (z : Stepped × Config). z.0) x))
-    by_change (change.Enters frame place) is fine x on = absurd fine
-    by_change (change.Leaves frame) is fine x on = absurd fine
-    by_change (change.Spawns thread place) is fine x on = absurd fine
+          after_is : (g : Change) → thread_after o.thread (change.Goes locals place) ≡ record { callee = o.thread.callee; args = o.thread.args; state = Inside top.below (following.frame_at o.f.1 locals place) }
+          after_is g = ap (λ (x : State). record { callee = o.thread.callee; args = o.thread.args; state = state_after x (change.Goes locals place) }) top.is
+      by_change (change.Acts after locals place) is fine x on =
+          let same = sym (ap (λ (z : Stepped × Config). z.1) x) in
+          let inner_is : on.0 ≡ merged program layer after s.shadow.store = acts_there after on.0 locals locals place place is (inner_does on.0 on.1) in
+          goes_open locals place (change.Acts after locals place) (ap (λ (x : State). record { callee = o.thread.callee; args = o.thread.args; state = state_after x (change.Acts after locals place) }) top.is) (ap (λ (c : Config). c.threads) same)
+          o.c o.cut (choosing o.b on.2.chosen) on.2.later on.2.next
+          (subst (λ (z : Store). IsOpen program (layer + 1) o.f.1.procedure o.c o.f.0 o.cut (choosing o.b on.2.chosen) on.2.later on.2.next z (following.frame_at o.f.1 locals place)) (sym (ap (λ (c : Config). c.store) same)) on.2.opened)
+          on.2.place
+          (ap bare on.2.state ∙ (ap (λ (z : Store). record { store = z; locals = locals; done = (led_here program (layer + 1) o.f.0 o.here).done; again = false }) (inner_is ∙ ap (λ (z : Store). merged program layer z s.shadow.store) (sym (ap (λ (c : Config). c.store) same))) ∙ ap (λ (b : Bool). record { store = merged program layer d.store s.shadow.store; locals = locals; done = b; again = false }) o.done))
+          refl o.apart says so
+        where
+          inner_does : (inner : Store) → frame_does program (layer + 1) o.f.0 (led_here program (layer + 1) o.f.0 o.here).store m.choices o.f.1 sp ≡ change.Acts inner locals place
+              → change_of (program_at program layer) (merged program layer s.config.store s.shadow.store) m.choices o.thread ≡ change.Acts inner locals place
+          inner_does inner k =
+              does (merged program layer s.config.store s.shadow.store)
+              ∙ (ap (λ (p : Plain). layer_change p (merged program layer s.config.store s.shadow.store) m.choices o.f.0 o.f.1.locals sp.number sp.next (out-Stmt sp.stmt)) (sym lower_is)
+              ∙ (ap (λ (g : Store). frame_does program (layer + 1) o.f.0 g m.choices o.f.1 sp) (sym o.store) ∙ k))
+      by_change (change.Stays a) is fine x on = absurd (fine (ap (λ (z : Stepped × Config). z.0) x))
+      by_change (change.Enters frame place) is fine x on = absurd fine
+      by_change (change.Leaves frame) is fine x on = absurd fine
+      by_change (change.Spawns thread place) is fine x on = absurd fine
 
-    pub step_away : StepLeaves program layer (stepped program layer s m d) m.thread
-    step_away = by_change (change_of (program_at program layer) s.config.store m.choices o.thread) refl own changed stays
+      pub step_away : LeavesSo says program layer s.config (stepped program layer s m d) m.thread
+      step_away = by_change (change_of (program_at program layer) s.config.store m.choices o.thread) refl own changed stays

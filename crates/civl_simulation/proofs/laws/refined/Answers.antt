@@ -1,8 +1,6 @@
 use Rattle.civl_simulation.proofs.Refined.Joining.{nothing_refined, refined_join}
 use Rattle.civl_simulation.proofs.Refined.Concluding.{conclusions_refine}
-use Rattle.civl_simulation.proofs.Carried.Entering.{calls_carry}
-use Rattle.civl_simulation.proofs.Carried.Round.{carried_step}
-use Rattle.civl_simulation.proofs.Carried.Yielding.{yields_carry}
+use Rattle.civl_simulation.proofs.Carried.Steps.{carried_step, calls_carry, yields_carry}
 use Rattle.civl_simulation.proofs.Carried.Blocks.{checked_are_refined}
 use Rattle.civl_simulation.proofs.laws.refined.Goals as goal
 
