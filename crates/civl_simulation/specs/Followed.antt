@@ -1,7 +1,7 @@
 -- The program of a layer fails where the program of the layer below does; so the topmost program does where the lowest does.
 -- (Layered refinement: Hawblitzel, Petrank, Qadeer, Tasiran, CAV 2015; Kragl, Qadeer, CAV 2018. Forward simulation: Lynch,
 -- Vaandrager, 1995.)
-use Rattle.std.specs.Prelude.{ℕ, ◌+◌, ◌<◌, List, map, IsTrue}
+use Rattle.std.specs.Prelude.{ℕ, ◌+◌, ◌<◌, map, IsTrue}
 use Rattle.civl_tree.specs.declared.program.Program.{Program}
 use Rattle.civl_tree.specs.SpellingDomain.{allows_program}
 use Rattle.civl_tree.specs.rules.Rules.{Keeps}

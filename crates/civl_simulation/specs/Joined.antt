@@ -1,5 +1,5 @@
 -- Blocks that are refined, one behind the other, and what the conditions on paths say of one.
-use Rattle.std.specs.Prelude.{ℕ, ◌≡◌, true, false, List, IsTrue}
+use Rattle.std.specs.Prelude.{ℕ, ◌≡◌, true, List, IsTrue}
 use Rattle.civl_bits.specs.declared.value.Value.{Value}
 use Rattle.civl_values.specs.Values.{HaveSorts}
 use Rattle.civl_tree.specs.declared.program.Proc.{Proc}

@@ -1,20 +1,10 @@
 -- Actions that exist in both layers do the same beside.
-use Rattle.std.proofs.Common.{◌≡◌, ℕ, ◌+◌, Bool, true, false, List, map, refl, sym, ap, ◌∙◌, subst, Option, None, Some, slice_get}
-use Rattle.std.specs.Prelude.{if◌then◌else◌}
-use Rattle.std.proofs.lemmas.Option.{none-some, same_Some}
+use Rattle.std.proofs.Common.{◌≡◌, ℕ, ◌+◌, true, List, refl, sym, ap, ◌∙◌, subst, Option, None, Some, slice_get}
 use Rattle.civl_bits.specs.declared.value.Value.{Value}
-use Rattle.civl_values.specs.Values.{is_true}
-use Rattle.civl_tree.specs.declared.name.Name.{Name}
 use Rattle.civl_tree.specs.declared.action.Action.{Action}
-use Rattle.civl_tree.specs.declared.program.Global.{Global}
-use Rattle.civl_tree.specs.declared.program.Proc.{Proc}
 use Rattle.civl_tree.specs.declared.program.Program.{Program}
-use Rattle.civl_tree.specs.rules.Names.{action_named}
 use Rattle.civl_firing.specs.declared.store.Store.{Store}
-use Rattle.civl_firing.specs.Stores.{IsStore}
-use Rattle.civl_firing.specs.Truth.{place_of}
 use Rattle.civl_firing.specs.Fired.{gate_holds, fires}
-use Rattle.civl_firing.proofs.Finding.{found_at}
 use Rattle.civl_layers.specs.Ranges.{exists_in}
 use Rattle.civl_layers.specs.Names.{action_range}
 use Rattle.civl_layers.specs.Layered.{IsLayered}
@@ -22,8 +12,6 @@ use Rattle.civl_footprints.specs.Agreement.{StoresAgree, exists_at}
 use Rattle.civl_footprints.specs.Laws.{FireAlike, ActsAlike}
 use Rattle.civl_footprints.proofs.Acting.{acts_alike}
 use Rattle.civl_footprints.proofs.Existing.{uses_what_exists}
-use Rattle.civl_blocks.specs.Shadow.{merged}
-use Rattle.civl_blocks.specs.Merged.{ActsAsThere, ActionsActAsThere}
 
 module _ (program : Program) (layer : ℕ) (src : IsLayered program) (number : ℕ) (action : Action) (at : slice_get program.actions number ≡ Some action) (high : exists_in (layer + 1) (action_range action) ≡ true)
     (from to : Store) (near : StoresAgree (exists_at (layer + 1)) program.globals from to) (args : List Value) where

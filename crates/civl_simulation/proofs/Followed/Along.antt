@@ -1,12 +1,10 @@
 -- A block is gone through in the frame that its thread's call made, until it ends with the frame or at a yield.
-use Rattle.std.proofs.Common.{◌≡◌, ◌≢◌, ℕ, zero, suc, ◌+◌, Bool, true, false, List, [], ◌∷◌, ◌++◌, refl, sym, ap, ◌∙◌, subst, Option, None, Some, slice_get, slice_set, inl, inr, ◌⊎◌}
+use Rattle.std.proofs.Common.{◌≡◌, ◌≢◌, ℕ, zero, suc, ◌+◌, false, List, [], ◌∷◌, ◌++◌, refl, sym, ap, ◌∙◌, subst, Option, None, Some, slice_get, slice_set, inl, inr, ◌⊎◌}
 use Rattle.std.specs.Prelude.{is_some}
-use Rattle.std.proofs.lemmas.Bool.{false≢true, true≢false}
+use Rattle.std.proofs.lemmas.Bool.{true≢false}
 use Rattle.std.proofs.lemmas.List.{append-nil}
 use Rattle.std.proofs.lemmas.Option.{none-some, same_Some}
 use Rattle.civl_bits.specs.declared.value.Value.{Value}
-use Rattle.civl_tree.specs.declared.name.Name.{Name}
-use Rattle.civl_tree.specs.declared.action.Action.{Action}
 use Rattle.civl_tree.specs.declared.program.Proc.{Proc}
 use Rattle.civl_tree.specs.declared.program.Program.{Program}
 use Rattle.civl_firing.specs.declared.store.Store.{Store}
@@ -21,19 +19,16 @@ use Rattle.civl_meaning.specs.Config.{IsOf, ThreadIsSorted, IsStacked}
 use Rattle.civl_meaning.specs.Layers.{program_at}
 use Rattle.civl_meaning.specs.Step.{goes_on, state_after, thread_after}
 use Rattle.civl_layers.proofs.PlainPrograms.{layered_is_plain}
-use Rattle.civl_conditions.specs.Steps.{has_layer}
 use Rattle.civl_conditions.specs.Assumed.{inputs_of}
 use Rattle.civl_interleavings.specs.Runs.{Opens}
-use Rattle.civl_interleavings.specs.Threads.{Threads, Config, Move, Outcome, inside_in, config_with, step_of}
+use Rattle.civl_interleavings.specs.Threads.{Threads, Config, Move, Outcome, inside_in, step_of}
 use Rattle.civl_exchanges.specs.Doing.{Doing, leaving, doing}
 use Rattle.civl_exchanges.specs.Doing as does
 use Rattle.civl_exchanges.specs.Interleavings.{Chosen, Call}
-use Rattle.civl_permissions.specs.Apart.{SpawnsStandInRoots}
 use Rattle.civl_checked.specs.Checked.{IsChecked}
-use Rattle.civl_blocks.specs.Blocks.{framed_in, framed_state, frame_of_layer, block_in, inside}
+use Rattle.civl_blocks.specs.Blocks.{framed_state, frame_of_layer, block_in, inside}
 use Rattle.civl_blocks.specs.Reduces.{Challenged, layer_threads, layer_system}
 use Rattle.civl_blocks.specs.Cuts.{frame_in, frame_at}
-use Rattle.civl_simulation.specs.Alike.{CallsInstead}
 use Rattle.civl_simulation.specs.Meets.{behind, WasCalled}
 use Rattle.civl_simulation.proofs.Meets.Above.{instead, called_instead}
 use Rattle.civl_simulation.proofs.Meets.Entering.{framed_same, goes_none, leaves_none}
@@ -41,7 +36,7 @@ use Rattle.civl_simulation.proofs.Meets.Frames.{IsFramed, framed, frames, does_i
 use Rattle.civl_simulation.proofs.Meets.Inputs.{StaysIn}
 use Rattle.civl_simulation.proofs.Meets.Returning.{returns_behind}
 use Rattle.civl_simulation.proofs.Followed.Pairs.{get_other, get_same}
-use Rattle.civl_simulation.proofs.Followed.Steps.{Made, made, Fires, Comes, comes_so}
+use Rattle.civl_simulation.proofs.Followed.Steps.{Made, made, Comes, comes_so}
 use Rattle.civl_simulation.proofs.Followed.Fitting.{entered_inputs}
 
 -- the others are as they were

@@ -1,44 +1,38 @@
 -- Blocks, and steps outside the layer's procedures, are followed.
-use Rattle.std.proofs.Common.{◌≡◌, ◌≢◌, ℕ, ◌+◌, Bool, true, false, List, [], ◌∷◌, ◌++◌, map, refl, sym, ap, ◌∙◌, subst, Option, None, Some, slice_get, inl, inr, ◌⊎◌}
+use Rattle.std.proofs.Common.{◌≡◌, ◌≢◌, ℕ, ◌+◌, Bool, true, List, [], ◌∷◌, map, refl, sym, ap, ◌∙◌, subst, Option, None, Some, slice_get, inl, inr}
 use Rattle.std.specs.Prelude.{if◌then◌else◌}
-use Rattle.std.proofs.lemmas.Bool.{false≢true, true≢false, cases_eq}
-use Rattle.std.proofs.lemmas.List.{map-append}
-use Rattle.std.proofs.lemmas.Option.{none-some, same_Some}
+use Rattle.std.proofs.lemmas.Bool.{cases_eq}
 use Rattle.civl_bits.specs.declared.value.Value.{Value}
 use Rattle.civl_tree.specs.declared.program.Proc.{Proc}
 use Rattle.civl_tree.specs.declared.program.Program.{Program}
 use Rattle.civl_firing.specs.declared.store.Store.{Store}
-use Rattle.civl_firing.specs.Stores.{IsStore}
 use Rattle.civl_meaning.specs.declared.config.Plain.{Plain}
 use Rattle.civl_meaning.specs.declared.config.Activation.{Activation}
 use Rattle.civl_meaning.specs.declared.config.Config as meaning
-use Rattle.civl_meaning.specs.declared.config.Move as plain
 use Rattle.civl_meaning.specs.declared.config.Running.{Running}
 use Rattle.civl_meaning.specs.Change.{new_frame, outs_in}
-use Rattle.civl_meaning.specs.Config.{IsOf, ThreadIsSorted, IsStacked}
+use Rattle.civl_meaning.specs.Config.{IsOf}
 use Rattle.civl_meaning.specs.Layers.{program_at}
 use Rattle.civl_conditions.specs.Assumed.{inputs_of}
 use Rattle.civl_footprints.specs.Agreement.{StoresAgree, exists_at}
-use Rattle.civl_soundness.proofs.Fitting.{all_at}
 use Rattle.civl_interleavings.specs.Runs.{RunsTo, Opens}
-use Rattle.civl_interleavings.specs.Threads.{Threads, Config, Move, inside_in, stepping_of, step_of}
-use Rattle.civl_exchanges.specs.Doing.{Doing, doing}
+use Rattle.civl_interleavings.specs.Threads.{Threads, Config, Move, stepping_of, step_of}
+use Rattle.civl_exchanges.specs.Doing.{doing}
 use Rattle.civl_exchanges.specs.Interleavings.{Chosen, Call, as_config}
 use Rattle.civl_permissions.specs.Apart.{SpawnsStandInRoots}
 use Rattle.civl_checked.specs.Checked.{IsChecked}
-use Rattle.civl_blocks.specs.Blocks.{frame_of_layer, block_in, inside}
+use Rattle.civl_blocks.specs.Blocks.{frame_of_layer}
 use Rattle.civl_blocks.specs.Reduces.{Challenged, plain_move, plain_config, layer_threads, layer_system}
 use Rattle.civl_blocks.specs.Cuts.{frame_in, frame_at}
-use Rattle.civl_blocks.specs.Shadow.{Shadowed, merged, seen, shadowed_step, shadowed_from}
-use Rattle.civl_simulation.specs.Meets.{behind, WasCalled, beside, FrameMeets, ThreadMeets, MeetsBeside}
+use Rattle.civl_blocks.specs.Shadow.{Shadowed, seen, shadowed_step, shadowed_from}
+use Rattle.civl_simulation.specs.Meets.{behind, WasCalled, FrameMeets, ThreadMeets, MeetsBeside}
 use Rattle.civl_simulation.proofs.Meets.Above.{called_instead}
 use Rattle.civl_simulation.proofs.Meets.Frames.{framed}
 use Rattle.civl_simulation.specs.Refined.{Sight, IsRefined, sight, sight_before, last_frame, BlockIsRefined}
-use Rattle.civl_simulation.proofs.Followed.Shadows.{shadowed_more, done_other}
-use Rattle.civl_simulation.proofs.Followed.Steps.{Made, made}
-use Rattle.civl_simulation.proofs.Followed.Along.{OthersSame, StandsIn, HasLeft, GoesTo, inside_step, behind_none, none_inside, opens, first_step}
+use Rattle.civl_simulation.proofs.Followed.Shadows.{done_other}
+use Rattle.civl_simulation.proofs.Followed.Along.{OthersSame, StandsIn, HasLeft, behind_none}
 use Rattle.civl_simulation.proofs.Followed.Ending.{stands_beside, Followed, followed}
-use Rattle.civl_simulation.proofs.Followed.Outside.{same_beside, meets_same, of_next, leads_to, outside_follows}
+use Rattle.civl_simulation.proofs.Followed.Outside.{meets_same, of_next, leads_to}
 
 module _ (program : Program) (layer : ℕ) (store : Store) (k : IsChecked program layer store) (roots : SpawnsStandInRoots program) (challenged : Challenged) where
   abbrev lower : Plain

@@ -1,15 +1,14 @@
 -- A block that is refined is followed by no step, or by one of the refined action.
-use Rattle.std.proofs.Common.{◌≡◌, ◌≢◌, ℕ, ◌+◌, ◌≤◌, Bool, true, false, List, [], ◌∷◌, ◌++◌, refl, sym, ap, ◌∙◌, subst, Option, None, Some, slice_get, slice_set}
+use Rattle.std.proofs.Common.{◌≡◌, ℕ, ◌+◌, Bool, true, false, List, [], ◌∷◌, refl, sym, ap, ◌∙◌, subst, Some, slice_get, slice_set}
 use Rattle.std.specs.Prelude.{if◌then◌else◌}
-use Rattle.std.proofs.lemmas.Bool.{false≢true, true≢false}
+use Rattle.std.proofs.lemmas.Bool.{false≢true}
 use Rattle.std.proofs.lemmas.List.{append-nil}
-use Rattle.std.proofs.lemmas.Option.{none-some, same_Some}
+use Rattle.std.proofs.lemmas.Option.{same_Some}
 use Rattle.civl_bits.specs.declared.value.Value.{Value}
 use Rattle.civl_tree.specs.declared.action.Action.{Action}
 use Rattle.civl_tree.specs.declared.program.Proc.{Proc}
 use Rattle.civl_tree.specs.declared.program.Program.{Program}
 use Rattle.civl_firing.specs.declared.store.Store.{Store}
-use Rattle.civl_firing.specs.Fired.{gate_holds, choices_fit, fires}
 use Rattle.civl_meaning.specs.declared.config.Plain.{Plain}
 use Rattle.civl_meaning.specs.declared.config.Activation.{Activation}
 use Rattle.civl_meaning.specs.declared.config.Config as meaning

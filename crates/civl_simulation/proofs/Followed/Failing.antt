@@ -15,13 +15,12 @@ use Rattle.civl_meaning.specs.declared.config.Activation.{Activation}
 use Rattle.civl_meaning.specs.declared.config.Config as meaning
 use Rattle.civl_meaning.specs.declared.config.Running.{Running}
 use Rattle.civl_meaning.specs.Change.{new_frame}
-use Rattle.civl_meaning.specs.Config.{IsOf, ThreadIsSorted, IsStacked}
+use Rattle.civl_meaning.specs.Config.{ThreadIsSorted, IsStacked}
 use Rattle.civl_meaning.specs.Layers.{program_at}
 use Rattle.civl_layers.proofs.PlainPrograms.{layered_is_plain}
 use Rattle.civl_soundness.proofs.Fitting.{all_at}
 use Rattle.civl_conditions.specs.Steps.{has_layer}
 use Rattle.civl_conditions.specs.Assumed.{refined_action, inputs_of}
-use Rattle.civl_interleavings.specs.Systems.{Failing}
 use Rattle.civl_interleavings.specs.Runs.{FailsFrom}
 use Rattle.civl_interleavings.specs.Threads.{Threads, stepping_of, doing_fails, fails_in}
 use Rattle.civl_exchanges.specs.Doing.{Doing, doing}
@@ -31,14 +30,13 @@ use Rattle.civl_permissions.specs.Apart.{SpawnsStandInRoots}
 use Rattle.civl_checked.specs.Checked.{IsChecked}
 use Rattle.civl_blocks.specs.Blocks.{framed_in, frame_of_layer, at_yield, rest_of}
 use Rattle.civl_blocks.specs.Reduces.{layer_threads}
-use Rattle.civl_blocks.specs.Shadow.{Shadowed, merged, seen}
+use Rattle.civl_blocks.specs.Shadow.{Shadowed, seen}
 use Rattle.civl_blocks.specs.Challenged.{allows, refuses, call_challenged, frame_challenged, thread_challenged, some_challenged, is_challenged}
 use Rattle.civl_blocks.proofs.Merged.Merging.{actions_act_as_there}
-use Rattle.civl_simulation.specs.Alike.{CallsInstead}
-use Rattle.civl_simulation.specs.Meets.{behind, WasCalled, FrameMeets, ThreadMeets, MeetsBeside}
+use Rattle.civl_simulation.specs.Meets.{FrameMeets, ThreadMeets, MeetsBeside}
 use Rattle.civl_simulation.proofs.Meets.Meaning.{threads_do_alike}
 use Rattle.civl_simulation.proofs.Meets.Above.{instead, Instead, called_instead}
-use Rattle.civl_simulation.proofs.Meets.Frames.{IsFramed, framed, enters_outside, enters_framed}
+use Rattle.civl_simulation.proofs.Meets.Frames.{framed, enters_outside}
 use Rattle.civl_simulation.proofs.Followed.Acting.{same_gate}
 use Rattle.civl_simulation.proofs.Followed.Known.{Known, does_known}
 use Rattle.civl_simulation.proofs.Followed.Fitting.{entered_inputs}

@@ -1,5 +1,5 @@
 -- A frame that a call makes has the values of the arguments for its parameters.
-use Rattle.std.proofs.Common.{◌≡◌, ℕ, ◌+◌, List, [], ◌∷◌, ◌++◌, length, take, map, refl, sym, ap, ap₂, ◌∙◌, subst, arith, Option, None, Some, slice_get}
+use Rattle.std.proofs.Common.{◌≡◌, ℕ, List, [], ◌∷◌, ◌++◌, length, take, map, refl, sym, ap, ◌∙◌, subst, arith, Some, slice_get}
 use Rattle.std.proofs.lemmas.List.{length-append, length-map}
 use Rattle.std.proofs.lemmas.List.Elements.{All-nil}
 use Rattle.std.proofs.lemmas.Option.{same_Some}
@@ -12,10 +12,7 @@ use Rattle.civl_firing.specs.Scope.{zeros_of_params, zeros_of_locals}
 use Rattle.civl_firing.specs.Stores.{IsStore}
 use Rattle.civl_values.specs.Values.{HaveSorts}
 use Rattle.civl_meaning.specs.declared.config.Plain.{Plain}
-use Rattle.civl_meaning.specs.declared.config.Activation.{Activation}
 use Rattle.civl_meaning.specs.declared.config.Running.{Running}
-use Rattle.civl_meaning.specs.declared.config.Change.{Change}
-use Rattle.civl_meaning.specs.declared.config.Change.TheVariants as change
 use Rattle.civl_meaning.specs.Change.{new_frame}
 use Rattle.civl_meaning.specs.Config.{IsPlain, frame_sorts, HasLocals, ThreadIsSorted, IsStacked}
 use Rattle.civl_soundness.proofs.Fitting.{Fits}

@@ -1,9 +1,8 @@
 -- Behind a block run a block, or a step outside the layer's procedures, is followed.
-use Rattle.std.proofs.Common.{◌≡◌, ◌≢◌, ℕ, ◌+◌, Bool, true, false, List, [], ◌∷◌, ◌++◌, map, refl, sym, ap, ◌∙◌, subst, Option, None, Some, slice_get, inl, inr, ◌⊎◌}
+use Rattle.std.proofs.Common.{◌≡◌, ℕ, ◌+◌, true, List, [], ◌∷◌, ◌++◌, map, refl, sym, ap, ◌∙◌, subst, Option, None, Some, slice_get, inl, inr}
 use Rattle.std.specs.Prelude.{is_some}
-use Rattle.std.proofs.lemmas.Bool.{false≢true, true≢false}
+use Rattle.std.proofs.lemmas.Bool.{false≢true}
 use Rattle.std.proofs.lemmas.List.{map-append}
-use Rattle.std.proofs.lemmas.Option.{none-some, same_Some}
 use Rattle.civl_bits.specs.declared.value.Value.{Value}
 use Rattle.civl_tree.specs.declared.program.Proc.{Proc}
 use Rattle.civl_tree.specs.declared.program.Program.{Program}
@@ -21,18 +20,18 @@ use Rattle.civl_interleavings.specs.Threads.{Threads, Config, Move, inside_in, s
 use Rattle.civl_exchanges.specs.Interleavings.{Chosen, Call, as_config}
 use Rattle.civl_permissions.specs.Apart.{SpawnsStandInRoots}
 use Rattle.civl_checked.specs.Checked.{IsChecked}
-use Rattle.civl_blocks.specs.Blocks.{frame_of_layer, block_in, unended, rest_of, inside}
+use Rattle.civl_blocks.specs.Blocks.{frame_of_layer, block_in, inside}
 use Rattle.civl_blocks.specs.Reduces.{Challenged, plain_move, plain_config, layer_threads, layer_system}
 use Rattle.civl_blocks.specs.Cuts.{frame_in, frame_at}
 use Rattle.civl_blocks.specs.Shadow.{Shadowed, seen, shadowed_step, shadowed_from, shadowed_start, shadowed}
 use Rattle.civl_simulation.specs.Meets.{FrameMeets, ThreadMeets, MeetsBeside}
 use Rattle.civl_simulation.specs.Refined.{Sight, sight, sight_before, BlockIsRefined}
 use Rattle.civl_simulation.proofs.Followed.Shadows.{shadowed_more, shadowed_append}
-use Rattle.civl_simulation.proofs.Followed.Steps.{Made, made}
+use Rattle.civl_simulation.proofs.Followed.Steps.{made}
 use Rattle.civl_simulation.proofs.Followed.Along.{OthersSame, StandsIn, GoesTo, inside_step, opens, first_step}
 use Rattle.civl_simulation.proofs.Followed.Ending.{stands_beside}
 use Rattle.civl_simulation.proofs.Followed.Outside.{same_beside, outside_follows}
-use Rattle.civl_simulation.proofs.Followed.Blocks.{Met, met_in, met_left}
+use Rattle.civl_simulation.proofs.Followed.Blocks.{met_in, met_left}
 
 module _ (program : Program) (layer : ℕ) (store : Store) (k : IsChecked program layer store) (roots : SpawnsStandInRoots program) (challenged : Challenged) where
   abbrev lower : Plain

@@ -1,5 +1,5 @@
 -- What a thread does next is known to the program: the action that it calls is one of it, and what it spawns is before its call.
-use Rattle.std.proofs.Common.{◌≡◌, ℕ, Bool, true, false, List, [], map, refl, sym, ap, ◌∙◌, subst, Option, None, Some, slice_get}
+use Rattle.std.proofs.Common.{◌≡◌, ℕ, Bool, true, false, List, [], map, refl, ap, ◌∙◌, Option, None, Some, slice_get}
 use Rattle.std.specs.Prelude.{if◌then◌else◌}
 use Rattle.civl_bits.specs.declared.value.Value.{Value}
 use Rattle.civl_values.specs.Values.{is_true}

@@ -1,8 +1,7 @@
 -- A step outside the layer's procedures is followed by the same step.
-use Rattle.std.proofs.Common.{◌≡◌, ◌≢◌, ℕ, zero, suc, ◌+◌, ◌≤◌, Bool, true, false, List, [], ◌∷◌, ◌++◌, refl, sym, ap, ◌∙◌, subst, arith, Option, None, Some, slice_get, slice_set, inl, inr, ◌⊎◌}
-use Rattle.std.proofs.lemmas.Bool.{cases_eq}
+use Rattle.std.proofs.Common.{◌≡◌, ℕ, zero, suc, ◌+◌, ◌≤◌, Bool, true, List, [], ◌∷◌, ◌++◌, refl, sym, ap, ◌∙◌, subst, arith, Option, None, Some, slice_get, slice_set, inl, inr, ◌⊎◌}
 use Rattle.std.proofs.lemmas.List.{append-nil}
-use Rattle.std.proofs.lemmas.Option.{none-some, same_Some}
+use Rattle.std.proofs.lemmas.Option.{none-some}
 use Rattle.civl_bits.specs.declared.value.Value.{Value}
 use Rattle.civl_tree.specs.declared.name.Name.{Name}
 use Rattle.civl_tree.specs.declared.action.Action.{Action}
@@ -10,25 +9,19 @@ use Rattle.civl_tree.specs.declared.program.Proc.{Proc}
 use Rattle.civl_tree.specs.declared.program.Program.{Program}
 use Rattle.civl_firing.specs.declared.store.Store.{Store}
 use Rattle.civl_firing.specs.Stores.{IsStore}
-use Rattle.civl_firing.specs.Fired.{gate_holds, fires}
 use Rattle.civl_meaning.specs.declared.config.Plain.{Plain}
 use Rattle.civl_meaning.specs.declared.config.Activation.{Activation}
 use Rattle.civl_meaning.specs.declared.config.Config as meaning
-use Rattle.civl_meaning.specs.declared.config.Move as plain
-use Rattle.civl_meaning.specs.declared.config.State.{State}
-use Rattle.civl_meaning.specs.declared.config.State.TheVariants.{Before, Inside, After}
+use Rattle.civl_meaning.specs.declared.config.State.TheVariants.{Before}
 use Rattle.civl_meaning.specs.declared.config.Running.{Running}
 use Rattle.civl_meaning.specs.declared.config.Stepped.{Stepped}
-use Rattle.civl_meaning.specs.declared.config.Stepped.TheVariants.{Moved}
 use Rattle.civl_meaning.specs.declared.config.Change.TheVariants as change
 use Rattle.civl_meaning.specs.Change.{with_results, new_frame}
 use Rattle.civl_meaning.specs.Config.{IsOf, ThreadIsSorted, IsStacked}
 use Rattle.civl_meaning.specs.Layers.{program_at}
 use Rattle.civl_meaning.specs.Step.{thread_after}
-use Rattle.civl_meaning.specs.Step as steps
 use Rattle.civl_layers.specs.Ranges.{exists_in}
 use Rattle.civl_layers.specs.Names.{action_range}
-use Rattle.civl_layers.specs.Layered.{IsLayered}
 use Rattle.civl_layers.proofs.PlainPrograms.{layered_is_plain}
 use Rattle.civl_footprints.specs.Agreement.{StoresAgree, exists_at}
 use Rattle.civl_soundness.proofs.Fitting.{all_at}
@@ -36,8 +29,8 @@ use Rattle.civl_soundness.proofs.Soundness.{step_is_of}
 use Rattle.civl_interleavings.specs.Threads.{Threads, Config, Move, Outcome, outcome, config_with, step_of}
 use Rattle.civl_exchanges.specs.Doing.{Doing, doing}
 use Rattle.civl_exchanges.specs.Doing as does
-use Rattle.civl_exchanges.specs.Interleavings.{Chosen, Call, whole, as_config, program_threads}
-use Rattle.civl_exchanges.proofs.Exchanging.{config_of, steps_back}
+use Rattle.civl_exchanges.specs.Interleavings.{Chosen, Call, whole, as_config}
+use Rattle.civl_exchanges.proofs.Exchanging.{steps_back}
 use Rattle.civl_permissions.specs.Apart.{SpawnsStandInRoots}
 use Rattle.civl_permissions.proofs.Calls.{next_exists}
 use Rattle.civl_mover_laws.proofs.Configurations.{next_is}
@@ -54,8 +47,8 @@ use Rattle.civl_simulation.proofs.Meets.Frames.{enters_framed}
 use Rattle.civl_simulation.proofs.Followed.Shadows.{done_other, outside_shadow}
 use Rattle.civl_simulation.proofs.Followed.Pairs.{get_same, Ties, set_both, push_both}
 use Rattle.civl_simulation.proofs.Followed.Steps.{Made, made, makes, Fires, Comes, comes_so, calls_so}
-use Rattle.civl_simulation.proofs.Followed.Acting.{same_gate, FiresToo, fires_too}
-use Rattle.civl_simulation.proofs.Followed.Known.{IsThere, Known, does_known}
+use Rattle.civl_simulation.proofs.Followed.Acting.{same_gate, fires_too}
+use Rattle.civl_simulation.proofs.Followed.Known.{Known, does_known}
 
 -- what stands before what is put behind a list
 get_joined : {A : Type 0} (xs ys : List A) (i : ℕ) (a : A) → slice_get xs i ≡ Some a → slice_get (xs ++ ys) i ≡ Some a

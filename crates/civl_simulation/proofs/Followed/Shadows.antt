@@ -1,12 +1,11 @@
 -- The shadow behind one more move.
-use Rattle.std.proofs.Common.{◌≡◌, ◌≢◌, ℕ, ◌+◌, Bool, true, false, List, [], ◌∷◌, ◌++◌, refl, sym, ap, ◌∙◌, subst, Option, None, Some}
-use Rattle.std.specs.Prelude.{nat_eq, if◌then◌else◌}
+use Rattle.std.proofs.Common.{◌≡◌, ◌≢◌, ℕ, ◌+◌, Bool, true, false, List, [], ◌∷◌, ◌++◌, refl, ap, ◌∙◌, Option, None, Some}
+use Rattle.std.specs.Prelude.{if◌then◌else◌}
 use Rattle.std.proofs.lemmas.Bool.{ne_eqb}
 use Rattle.civl_tree.specs.declared.program.Proc.{Proc}
 use Rattle.civl_tree.specs.declared.program.Program.{Program}
 use Rattle.civl_firing.specs.declared.store.Store.{Store}
 use Rattle.civl_meaning.specs.declared.config.Activation.{Activation}
-use Rattle.civl_meaning.specs.declared.config.Config.{Config}
 use Rattle.civl_meaning.specs.declared.config.Move.{Move}
 use Rattle.civl_meaning.specs.Layers.{program_at}
 use Rattle.civl_meaning.specs.Step.{step_of}
@@ -14,7 +13,7 @@ use Rattle.civl_paths.specs.Paths.{Progress}
 use Rattle.civl_paths.specs.Runs.{led}
 use Rattle.civl_blocks.specs.Blocks.{at_yield, rest_of}
 use Rattle.civl_blocks.specs.Cuts.{frame_at, settled}
-use Rattle.civl_blocks.specs.Shadow.{Shadow, Shadowed, with_done, shadow_with, glided, course_of, progress_in, before_frame, before_step, begun_with, after_frame, after_step, shadowed_step, shadowed_from, shadowed_start, shadowed}
+use Rattle.civl_blocks.specs.Shadow.{Shadow, Shadowed, with_done, shadow_with, glided, course_of, progress_in, before_frame, before_step, begun_with, after_frame, shadowed_step, shadowed_from}
 
 pub shadowed_more : (program : Program) (layer : ℕ) (ms : List Move) (m : Move) (s : Shadowed) → shadowed_from program layer (ms ++ m ∷ []) s ≡ shadowed_step program layer (shadowed_from program layer ms s) m
 shadowed_more program layer [] m s = refl

@@ -3,7 +3,6 @@
 use Rattle.std.proofs.Common.{◌≡◌, ℕ, zero, suc, ◌+◌, ◌≤◌, ◌<◌, Bool, true, false, List, [], ◌∷◌, ◌++◌, map, refl, sym, ap, ◌∙◌, subst, arith, add-one, Option, None, Some, slice_get}
 use Rattle.std.specs.Prelude.{nat_eq, if◌then◌else◌}
 use Rattle.std.proofs.lemmas.Bool.{false≢true, true≢false}
-use Rattle.std.proofs.lemmas.Option.{none-some, same_Some}
 use Rattle.civl_bits.specs.declared.value.Value.{Value}
 use Rattle.civl_values.specs.Values.{HaveSorts}
 use Rattle.civl_tree.specs.declared.program.Global.{Global}
@@ -19,14 +18,13 @@ use Rattle.civl_meaning.specs.declared.config.Running.{Running}
 use Rattle.civl_meaning.specs.Failing.{CanFail}
 use Rattle.civl_meaning.specs.Initial.{IsInitial}
 use Rattle.civl_meaning.specs.Layers.{program_at}
-use Rattle.civl_meaning.specs.Preserves.{Preserves}
 use Rattle.civl_meaning.specs.Step.{begun, start}
 use Rattle.civl_meaning.proofs.Begun.{start_is_of}
 use Rattle.civl_layers.proofs.PlainPrograms.{layered_is_plain}
-use Rattle.civl_footprints.specs.Agreement.{AgreeOn, StoresAgree, exists_at}
-use Rattle.civl_interleavings.specs.Systems.{System, Stepping, Failing}
+use Rattle.civl_footprints.specs.Agreement.{AgreeOn, exists_at}
+use Rattle.civl_interleavings.specs.Systems.{System, Failing}
 use Rattle.civl_interleavings.specs.Runs.{RunsTo, FailsFrom, Staged, Opens}
-use Rattle.civl_interleavings.specs.Threads.{Threads, Config, Move, stepping_of, fails_in, step_of}
+use Rattle.civl_interleavings.specs.Threads.{Threads, Config, Move, stepping_of, fails_in}
 use Rattle.civl_interleavings.proofs.Simulating.{simulated}
 use Rattle.civl_exchanges.specs.Interleavings.{Chosen, Call, as_config}
 use Rattle.civl_exchanges.proofs.Reducing.{can_fail_back}
@@ -35,14 +33,13 @@ use Rattle.civl_checked.specs.Checked.{SpawnsAreInRoots, IsChecked}
 use Rattle.civl_blocks.specs.Blocks.{frame_of_layer, inside}
 use Rattle.civl_blocks.specs.Reduces.{plain_move, plain_config, layer_threads, layer_system}
 use Rattle.civl_staged.specs.Reduction.{CheckedReduce}
-use Rattle.civl_blocks.specs.Cuts.{frame_in, frame_at}
-use Rattle.civl_blocks.specs.Shadow.{Shadowed, merged_values, merged, seen, shadowed_step, shadowed_from, shadowed_start, shadowed}
+use Rattle.civl_blocks.specs.Cuts.{frame_in}
+use Rattle.civl_blocks.specs.Shadow.{Shadowed, merged_values, shadowed_from, shadowed}
 use Rattle.civl_blocks.specs.Challenged.{challenged}
 use Rattle.civl_simulation.specs.Meets.{ThreadMeets, MeetsBeside, Meets}
 use Rattle.civl_simulation.specs.Refined.{BlockIsRefined}
 use Rattle.civl_simulation.specs.Sound.{BlocksAreSound}
-use Rattle.civl_simulation.specs.Followed.{LayerIsFollowed, CheckedLayersAreFollowed, LayersAreSound, IsAccepted, AcceptedPreserve}
-use Rattle.civl_simulation.proofs.Followed.Outside.{meets_same}
+use Rattle.civl_simulation.specs.Followed.{LayerIsFollowed, CheckedLayersAreFollowed, LayersAreSound, AcceptedPreserve}
 use Rattle.civl_simulation.proofs.Followed.Failing.{challenged_fail, outside_fail}
 use Rattle.civl_simulation.proofs.Followed.Blocks.{to_leads}
 use Rattle.civl_simulation.proofs.Followed.Following.{all_follow, block_shadows, last_shadow}

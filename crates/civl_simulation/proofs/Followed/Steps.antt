@@ -1,5 +1,5 @@
 -- A step of a layer's program as a system of threads: what the thread does, and what comes of it.
-use Rattle.std.proofs.Common.{◌≡◌, ℕ, Bool, true, false, List, [], ◌∷◌, refl, sym, ap, ◌∙◌, subst, Option, None, Some, slice_get}
+use Rattle.std.proofs.Common.{◌≡◌, ℕ, Bool, true, false, List, [], ◌∷◌, refl, sym, ap, ◌∙◌, Option, None, Some, slice_get}
 use Rattle.std.specs.Prelude.{if◌then◌else◌, option_map}
 use Rattle.std.proofs.lemmas.Option.{none-some, same_Some}
 use Rattle.civl_bits.specs.declared.value.Value.{Value}
@@ -12,10 +12,10 @@ use Rattle.civl_meaning.specs.declared.config.Running.{Running}
 use Rattle.civl_meaning.specs.declared.config.Change.TheVariants as change
 use Rattle.civl_meaning.specs.Change.{with_results}
 use Rattle.civl_meaning.specs.Step.{thread_after}
-use Rattle.civl_interleavings.specs.Threads.{Threads, Config, Move, Outcome, fired, outcome, config_with, step_in, step_of}
+use Rattle.civl_interleavings.specs.Threads.{Config, Move, Outcome, fired, outcome, config_with, step_in, step_of}
 use Rattle.civl_exchanges.specs.Doing.{Doing, doing}
 use Rattle.civl_exchanges.specs.Doing as does
-use Rattle.civl_exchanges.specs.Interleavings.{Chosen, Call, whole, program_threads}
+use Rattle.civl_exchanges.specs.Interleavings.{Chosen, whole, program_threads}
 
 -- the thread that moved, and its outcome
 pub record Made (plain : Plain) (store : Store) (inside : Running → Bool) (c : Config Store Running) (m : Move Chosen) (d : Config Store Running) : Type 0 where

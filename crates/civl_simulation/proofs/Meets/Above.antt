@@ -1,10 +1,10 @@
 -- The upper program enters no body of a procedure of its layer. So where a frame of one was made in the lower program, the upper
 -- one calls the refined action.
 use Rattle.std.proofs.Common.{◌≡◌, ℕ, ◌+◌, Bool, true, false, List, [], ◌∷◌, ◌++◌, length, refl, sym, ap, ◌∙◌, subst, arith, Option, None, Some, slice_get, inl, inr}
-use Rattle.std.specs.Prelude.{option_map, if◌then◌else◌, nat_lt, nat_eq}
-use Rattle.std.proofs.lemmas.Bool.{false≢true, true≢false, ltb-true, eqb-true}
+use Rattle.std.specs.Prelude.{option_map, if◌then◌else◌, nat_eq}
+use Rattle.std.proofs.lemmas.Bool.{true≢false, ltb-true, eqb-true}
 use Rattle.std.proofs.lemmas.List.{length-append}
-use Rattle.std.proofs.lemmas.Option.{slice_get-map, none-some, same_Some}
+use Rattle.std.proofs.lemmas.Option.{slice_get-map, same_Some}
 use Rattle.civl_bits.specs.declared.value.Value.{Value}
 use Rattle.civl_values.specs.Values.{is_true}
 use Rattle.civl_tree.specs.declared.name.Name.{Name}

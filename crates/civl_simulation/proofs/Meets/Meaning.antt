@@ -24,14 +24,14 @@ use Rattle.civl_meaning.specs.declared.config.State.{State}
 use Rattle.civl_meaning.specs.declared.config.State.TheVariants.{Before, Inside, After}
 use Rattle.civl_meaning.specs.declared.config.Running.{Running}
 use Rattle.civl_meaning.specs.Places.{Spot, spot_at}
-use Rattle.civl_meaning.specs.Meaning.{Meaning, Does, Runs, Missing, proc_number, meaning_of_action, refined, meaning_by, meaning_of, meaning_else, called}
-use Rattle.civl_meaning.specs.Change.{caller_of, outs_in, new_frame}
+use Rattle.civl_meaning.specs.Meaning.{Meaning, Does, Runs, proc_number, meaning_of_action, refined, meaning_by, meaning_of, meaning_else, called}
+use Rattle.civl_meaning.specs.Change.{caller_of, outs_in}
 use Rattle.civl_meaning.specs.Layers.{means_body, program_at}
 use Rattle.civl_layers.specs.Layered.{IsLayered}
 use Rattle.civl_conditions.specs.Steps.{has_layer, refines_at}
 use Rattle.civl_conditions.specs.Assumed.{refined_action}
 use Rattle.civl_paths.specs.Choices.{action_meant}
-use Rattle.civl_exchanges.specs.Doing.{Doing, Enters, Calls, call_doing, layer_doing, leaving, spot_doing, proc_doing, state_doing, doing}
+use Rattle.civl_exchanges.specs.Doing.{Doing, call_doing, layer_doing, leaving, spot_doing, proc_doing, state_doing}
 use Rattle.civl_simulation.specs.Alike.{CallsInstead, ThreadsDoAlike}
 
 some_of : {A : Type 0} (o : Option A) → is_none o ≡ false → (x : A) × (o ≡ Some x)

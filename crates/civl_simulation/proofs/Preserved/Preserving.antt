@@ -1,5 +1,4 @@
 -- Accepted programs preserve failures.
-use Rattle.civl_checked.specs.Checked.{IsChecked}
 use Rattle.civl_staged.specs.Inside.{CheckedAreSafeInside}
 use Rattle.civl_simulation.specs.Between.{BetweenAreSafe}
 use Rattle.civl_staged.specs.Reduced.{CheckedEndInside}

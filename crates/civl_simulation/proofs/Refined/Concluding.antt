@@ -1,5 +1,5 @@
 -- What the conditions on paths conclude of a block says that it is refined.
-use Rattle.std.proofs.Common.{◌≡◌, ◌↔◌, ℕ, Bool, true, false, not, ◌&&◌, ◌||◌, List, [], ◌∷◌, map, refl, sym, ap, ◌∙◌, Option, None, Some}
+use Rattle.std.proofs.Common.{◌≡◌, ℕ, Bool, true, false, not, ◌||◌, List, [], ◌∷◌, map, refl, sym, ap, ◌∙◌, Option, None, Some}
 use Rattle.std.specs.Option.{option_map_or}
 use Rattle.std.proofs.lemmas.Bool.{false≢true, and_parts}
 use Rattle.std.proofs.lemmas.Option.{none-some, same_Some}
@@ -14,7 +14,7 @@ use Rattle.civl_tree.specs.declared.program.Program.{Program}
 use Rattle.civl_tree.specs.rules.Names.{action_named}
 use Rattle.civl_firing.specs.declared.store.Store.{Store}
 use Rattle.civl_firing.specs.Eval.{values_of}
-use Rattle.civl_firing.specs.Fired.{gate_holds, fires}
+use Rattle.civl_firing.specs.Fired.{gate_holds}
 use Rattle.civl_firing.specs.Stores.{IsStore}
 use Rattle.civl_firing.proofs.Having.{rest_sorts}
 use Rattle.civl_meaning.specs.Change.{outs_in}

@@ -11,12 +11,11 @@ use Rattle.civl_tree.specs.declared.program.Program.{Program}
 use Rattle.civl_tree.specs.rules.Names.{action_named}
 use Rattle.civl_tree.proofs.Kept.{proc_kept}
 use Rattle.civl_firing.specs.declared.store.Store.{Store}
-use Rattle.civl_firing.specs.Fired.{gate_holds, fires}
-use Rattle.civl_firing.specs.Stores.{IsStore}
+use Rattle.civl_firing.specs.Fired.{fires}
 use Rattle.civl_footprints.specs.Agreement.{StoresAgree, exists_at}
 use Rattle.civl_footprints.specs.Laws.{FireAlike, ActsAlike}
 use Rattle.civl_footprints.proofs.Acting.{acts_alike}
-use Rattle.civl_footprints.proofs.Keeping.{agree_self, agree_back, agree_then}
+use Rattle.civl_footprints.proofs.Keeping.{agree_self, agree_then}
 use Rattle.civl_footprints.proofs.Existing.{uses_what_exists}
 use Rattle.civl_firing.specs.Truth.{place_of}
 use Rattle.civl_firing.proofs.Finding.{found_at}

@@ -1,11 +1,10 @@
 -- The expressions behind `with` have values of the sorts of the refined action's choices.
-use Rattle.std.proofs.Common.{◌≡◌, ℕ, Bool, true, false, List, length, map, refl, sym, ap, ◌∙◌, subst, Option, None, Some, slice_get}
+use Rattle.std.proofs.Common.{◌≡◌, ℕ, Bool, false, List, length, map, sym, ap, ◌∙◌, subst, Option, Some}
 use Rattle.std.proofs.lemmas.Bool.{or_parts, not-false, eqb-true}
 use Rattle.std.proofs.lemmas.List.{length-map}
 use Rattle.civl_bits.specs.declared.value.Value.{Value}
 use Rattle.civl_values.specs.Values.{HaveSorts}
 use Rattle.civl_tree.specs.declared.action.Action.{Action}
-use Rattle.civl_tree.specs.declared.expr.Expr.{Expr}
 use Rattle.civl_tree.specs.declared.program.Proc.{Proc}
 use Rattle.civl_tree.specs.declared.program.Refines.{Refines}
 use Rattle.civl_tree.specs.declared.program.Program.{Program}
@@ -14,8 +13,8 @@ use Rattle.civl_tree.specs.rules.Scopes.{note_scope}
 use Rattle.civl_tree.specs.rules.Uses.{Use, argument_uses, chosen_sorts, with_uses}
 use Rattle.civl_tree.specs.rules.Arity.{with_arity, refines_arity}
 use Rattle.civl_tree.specs.rules.Sorted.{any_missorted}
-use Rattle.civl_tree.specs.rules.Width.{any_width, proc_width}
-use Rattle.civl_tree.specs.rules.Index.{any_index, proc_index}
+use Rattle.civl_tree.specs.rules.Width.{any_width}
+use Rattle.civl_tree.specs.rules.Index.{any_index}
 use Rattle.civl_tree.specs.rules.Typing.{typing_rules, width_rule, sort_rule, index_rule, arity_rule}
 use Rattle.civl_tree.proofs.Kept.{proc_kept, width_among, sort_among, index_among, arity_among}
 use Rattle.civl_firing.specs.declared.store.Store.{Store}

@@ -12,7 +12,7 @@ use Rattle.civl_tree.specs.declared.program.Program.{Program}
 use Rattle.civl_tree.specs.declared.stmt.Stmt as stmt
 use Rattle.civl_firing.specs.examples.Written.{refines, proc}
 use Rattle.civl_meaning.specs.declared.config.Activation.{Activation}
-use Rattle.civl_meaning.specs.declared.config.State.TheVariants.{Before, Inside, After}
+use Rattle.civl_meaning.specs.declared.config.State.TheVariants.{Before, After}
 use Rattle.civl_meaning.specs.declared.config.State.{State}
 use Rattle.civl_meaning.specs.declared.config.Running.{Running}
 use Rattle.civl_meaning.specs.Layers.{program_at}
