@@ -1,5 +1,5 @@
 -- What propagation says of a branch.
-use Rattle.std.specs.Prelude.{◌≡◌, ℕ, ◌<◌, List, Bool, true, false, All, Any, Option, None, length, slice_index_or}
+use Rattle.std.specs.Prelude.{◌≡◌, ℕ, ◌<◌, List, Bool, true, false, All, Any, Option, None, Some, length, slice_index_or}
 use Rattle.civl_cnf.specs.Literal.{Literal}
 use Rattle.civl_cnf.specs.ClauseSet.{ClauseSet}
 use Rattle.civl_rup.specs.Propagation.{Holds, Fails, IsClosed, GivesConflict}
@@ -20,6 +20,11 @@ pub record IsPropagated (marks : List (Option Bool)) (set : ClauseSet) (falses :
 abbrev pub PropagationSays : List (Option Bool) → ClauseSet → List Literal → Bool → Type 0
 PropagationSays marks set falses true = GivesConflict set.clauses falses
 PropagationSays marks set falses false = IsPropagated marks set falses
+
+-- the last variable without a value, or that there is none
+abbrev pub LastOpen : List (Option Bool) → Option ℕ → Type 0
+LastOpen marks (Some v) = (v < length marks) × (slice_index_or marks v None ≡ None) × ((w : ℕ) → v < w → w < length marks → slice_index_or marks w None ≡ None → ⊥)
+LastOpen marks None = (v : ℕ) → v < length marks → slice_index_or marks v None ≡ None → ⊥
 
 -- what the marks say: these bits make the clauses true, or a variable has no value and some clause no true literal
 abbrev pub JudgeSays : List (Option Bool) → ClauseSet → Node → Type 0

@@ -5,10 +5,10 @@ ghost use Rattle.civl_cnf.specs.ClauseSet.{IsBelow, AreBelow};
 ghost use Rattle.civl_rup.specs.Marks.{marked, IsQuiet};
 ghost use Rattle.civl_rup.specs.Occurrences.{AreOccurrences};
 ghost use Rattle.civl_provers.specs.Branch.{IsBranch};
-ghost use Rattle.civl_provers.specs.Node.{PropagationSays, JudgeSays, NodeSays};
+ghost use Rattle.civl_provers.specs.Node.{LastOpen, PropagationSays, JudgeSays, NodeSays};
 
 use crate::memory::Memory;
-use civl_cdcl::{bits_of, choose};
+use civl_cdcl::bits_of;
 use civl_cnf::{Bits, Clause, Cnf, Lit};
 use civl_rup::{Marks, Occurrences, assume, propagate};
 use std::alloc::Global;
@@ -72,6 +72,21 @@ fn propagate_from(
     Ok(conflict)
 }
 
+/// The last variable without a value. The last variables of a clause set are those of its outermost gates, so what is split on is
+/// what the formula says, and not one after the other the bits of its values.
+fn last_open(marks: &[Option<bool>]) -> Option<u32>
+    requires { length marks.now ≤ 2 ^ 31 }
+    ensures { LastOpen marks.now result }
+{
+    let mut last = None;
+    for variable in 0..marks.len() {
+        if marks[variable].is_none() {
+            last = Some(variable as u32);
+        }
+    }
+    last
+}
+
 /// What the marks of a complete propagation say.
 fn judge(alloc: Global, marks: &[Option<bool>], cnf: &Cnf) -> Result<Node, Memory>
     requires size { length marks.now ≡ cnf.now.variables }
@@ -83,8 +98,8 @@ fn judge(alloc: Global, marks: &[Option<bool>], cnf: &Cnf) -> Result<Node, Memor
         let bits = bits_of(alloc, marks)?;
         return Ok(Node::True(bits));
     }
-    match choose(marks) {
-        Some(lit) => Ok(Node::Open(lit.variable())),
+    match last_open(marks) {
+        Some(variable) => Ok(Node::Open(variable)),
         None => {
             let bits = bits_of(alloc, marks)?;
             Ok(Node::True(bits))

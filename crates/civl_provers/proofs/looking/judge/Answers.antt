@@ -14,10 +14,9 @@ returns-in-Some c =
     let marks = c.args.marks.now in
     let set = c.args.cnf.now in
     let size = c.requires.size in
-    let is = c.variable.ensures.is in
     let says = c.in-Some.ensures in (
       (let low = says.0 in omega arith),
-      rw is says.1,
+      says.1,
       not_all marks set.clauses (sym (c.all_hold.ensures ∙ ap (all_marked marks) c.clauses.ensures.is) ∙ c.if-all_hold.false),
     )
 
