@@ -183,15 +183,30 @@ enum Asked<'a> {
     Kept(Kept<'a>),
 }
 
-/// Compares what is asked of the paths from a cut of a procedure, which the given program runs.
-fn compare_in(
+/// Compares what is asked of the paths from a cut.
+fn compare_on<'a>(
     alloc: Alloc,
-    task: Task<'_>,
-    plain: &Plain,
+    made: &Made,
+    course: &'a Course<'a>,
+    cut: usize,
+    asked: Asked<'a>,
+    tally: &mut Tally,
+) -> Result<(), Fail> {
+    match asked {
+        Asked::Part(part) => compare_at_all(alloc, made, Formula::Path(course, part, cut), tally),
+        Asked::Kept(kept) => compare_at_all(alloc, made, Formula::Block(course, cut, kept), tally),
+    }
+}
+
+/// Compares what is asked of the paths from a cut of a procedure, which the given program runs.
+fn compare_in<'a>(
+    alloc: Alloc,
+    task: Task<'a>,
+    plain: &'a Plain,
     step: u32,
     number: u32,
     cut: u32,
-    asked: Asked<'_>,
+    asked: Asked<'a>,
     tally: &mut Tally,
 ) -> Result<(), Fail> {
     if number as usize >= program(task.src).procs.len() {
@@ -219,11 +234,7 @@ fn compare_in(
         held: held_in(task.held, number),
         none: &none,
     };
-    let formula = match asked {
-        Asked::Part(part) => Formula::Path(&course, part, cut as usize),
-        Asked::Kept(kept) => Formula::Block(&course, cut as usize, kept),
-    };
-    compare_at_all(alloc, task.made, formula, tally)
+    compare_on(alloc, task.made, &course, cut as usize, asked, tally)
 }
 
 /// The same, in the lower program of the step.

@@ -1,5 +1,6 @@
 // All kinds of formulas, of programs with small sorts. A row says of the formulas whose names begin so how many there are, at how many of
-// the values of their variables they are true, and at how many the term says otherwise.
+// the values of their variables they are true, and at how many the term says otherwise. Where they are true was counted by hand-written
+// programs in another language too.
 
 use crate::comparing::found_in;
 use std::test::Fail;
@@ -29,7 +30,6 @@ action Look(lend t : word(1)) -> (val o : bool) choose () layers 0 to 1 both
   }
 ";
 
-/// Some threads of these would hold what is in the pool.
 const OF_ACTIONS: &str = "
 initial: 1 formulas, 5 of 8 values, 0 wrong
 K2: 3 formulas, 1 of 80 values, 0 wrong
