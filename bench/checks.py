@@ -3,7 +3,7 @@
 
 Usage: checks.py BINARY [TEXT ..]        (crates/civl/out/civl after `rt run` in crates/civl)
 
-The texts are those of bench/texts.py that have many conditions, where none is named: the spinlock of examples/, and programs of about twenty times its size. Each line that is printed: the text, the command, the seconds by the clock (the least of three runs) and how often those of the first text they are, the greatest size of the process in megabytes, and the last line of the report. bench/parts.py tells where the time goes.
+The texts are those of bench/texts.py that have many conditions, where none is named: the spinlock of examples/, and programs of about twenty times its size. Each line that is printed: the text, the command, the seconds of the processor and by the clock (of the quickest of three runs) and how often those of the processor for the first text they are, the greatest size of the process in megabytes (at least that of this script, of which the process begins as a copy), and the last line of the report. bench/parts.py tells where the time goes.
 """
 import os
 import subprocess
@@ -15,7 +15,7 @@ from texts import many_conditions
 
 
 def timed(binary, words, text):
-    """The seconds by the clock, the greatest size in megabytes, and the last line of the report."""
+    """The seconds of the processor and by the clock, the greatest size in megabytes, and the last line of the report."""
     with tempfile.TemporaryFile() as file:
         file.write(text.encode())
         file.seek(0)
@@ -23,7 +23,7 @@ def timed(binary, words, text):
         child = subprocess.Popen([binary, *words], stdin=file, stdout=subprocess.PIPE)
         report = child.stdout.read().decode()
         _, _, usage = os.wait4(child.pid, 0)
-        return time.perf_counter() - start, usage.ru_maxrss / 1024, report.splitlines()[-1]
+        return usage.ru_utime + usage.ru_stime, time.perf_counter() - start, usage.ru_maxrss / 1024, report.splitlines()[-1]
 
 
 def main():
@@ -33,9 +33,9 @@ def main():
     texts = {path: open(path).read() for path in sys.argv[2:]} or many_conditions()
     for name, text in texts.items():
         for command in ("check", "conditions"):
-            seconds, size, line = min(timed(binary, [command], text) for _ in range(3))
-            ratio = seconds / first.setdefault(command, seconds)
-            print(f"{name}: {len(text)} bytes, {command} {seconds:.3f} s, {ratio:.1f} times, {size:.0f} MB, {line}", flush=True)
+            busy, seconds, size, line = min(timed(binary, [command], text) for _ in range(3))
+            ratio = busy / first.setdefault(command, busy)
+            print(f"{name}: {len(text)} bytes, {command} {busy:.3f} s ({seconds:.3f} by the clock), {ratio:.1f} times, {size:.0f} MB, {line}", flush=True)
 
 
 if __name__ == "__main__":

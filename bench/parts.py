@@ -272,14 +272,14 @@ fn admitted(alloc: Global, program: Program) -> Option<Admitted>
 
 /// What the parts before the formulas take, the number of conditions, and what the others make and take.
 #[derive(Clone, Copy)]
-struct Whole {
+struct Verdict {
     reading: Part,
     rules: Part,
     list: Part,
     parts: Parts,
 }
 
-fn whole(rt: &(impl Clock + AllocGlobal), text: &str) -> Option<Whole> {
+fn take_apart(rt: &(impl Clock + AllocGlobal), text: &str) -> Option<Verdict> {
     let (mut reading, mut rules, mut list) = (NOTHING, NOTHING, NOTHING);
     let start = Instant::now(rt).ok()?;
     let program = spelled(rt.alloc(), text)?;
@@ -293,7 +293,7 @@ fn whole(rt: &(impl Clock + AllocGlobal), text: &str) -> Option<Whole> {
     let conditions = conditions(rt.alloc(), src, held).ok()?;
     list.add(rt, &start, conditions.len());
     let parts = judge_all(rt, src, held, &conditions)?;
-    Some(Whole {
+    Some(Verdict {
         reading,
         rules,
         list,
@@ -313,13 +313,13 @@ fn main(rt: HostRuntime) -> io::Result<()> {
         text.push_str(line.as_str())?;
         text.push_str("\n")?;
     }
-    match whole(&rt, text.as_str()) {
+    match take_apart(&rt, text.as_str()) {
         None => println!(rt; "no verdict"),
-        Some(whole) => {
-            let parts = whole.parts;
-            show(&rt, "reading", whole.reading, 0)?;
-            show(&rt, "rules", whole.rules, 0)?;
-            show(&rt, "list", whole.list, 0)?;
+        Some(found) => {
+            let parts = found.parts;
+            show(&rt, "reading", found.reading, 0)?;
+            show(&rt, "rules", found.rules, 0)?;
+            show(&rt, "list", found.list, 0)?;
             show(&rt, "terms", parts.terms, parts.weight)?;
             show(&rt, "blasting", parts.blasting, parts.variables)?;
             show(&rt, "probe", parts.probe, 0)?;
@@ -353,13 +353,13 @@ pub returns-clause-written : goal.returns-clause-written
 returns-clause-written c = c.in-Ok-parse.ensures.right.fits
 """
 
-WHOLE_ANSWERS = r"""use Rattle.std.proofs.Common.{sym, subst}
+TAKE_APART_ANSWERS = r"""use Rattle.std.proofs.Common.{sym, subst}
 use Rattle.civl_tree.specs.declared.program.Program.{Program}
 use Rattle.civl_tree.specs.rules.Rules.{Keeps}
 use Rattle.civl_linear.specs.LinearRules.{linear_rules}
 use Rattle.civl_yields.specs.YieldRules.{yield_rules}
 use Rattle.civl_verify.proofs.Admitting.{keeps_first}
-use Rattle.civl_parts.proofs.whole.Goals as goal
+use Rattle.civl_parts.proofs.take_apart.Goals as goal
 
 pub judge_all-requires-clause-linear : goal.judge_all-requires-clause-linear
 judge_all-requires-clause-linear g c = subst (λ (p : Program). Keeps linear_rules p) (sym c.source-src.ensures.same) (keeps_first linear_rules yield_rules c.admitted.result c.source-src.ensures.keeps)
@@ -385,7 +385,7 @@ def shared(path):
 FILES = {
     "src/main.rt": PROGRAM,
     "proofs/spelled/Answers.antt": SPELLED_ANSWERS,
-    "proofs/whole/Answers.antt": WHOLE_ANSWERS,
+    "proofs/take_apart/Answers.antt": TAKE_APART_ANSWERS,
     "proofs/decide/Answers.antt": DECIDE_ANSWERS,
     **{path: shared(path) for path in (
         "src/measuring.rt",
