@@ -1,0 +1,12 @@
+pub mod Words
+pub mod Numbers
+pub mod Decoding
+pub mod Typing
+pub mod Drafting
+pub mod Resting
+pub mod Agreeing
+pub mod Setting
+pub mod Steps
+pub mod Viable
+pub mod Outcomes
+pub mod Standing
