@@ -1,0 +1,12 @@
+use Rattle.std.proofs.Common.{◌≡◌}
+use Rattle.civl_cnf.specs.ClauseSet.{IsBelow}
+use Rattle.civl_proofs.specs.Reading.{Setting, IsReadTo, IsSoundWord}
+use Rattle.civl_proofs.proofs.reading.read_set.Given as goal
+
+abbrev pub invariant-bytes : goal.invariant-bytes
+invariant-bytes l = record {
+  variables : l.cnf.variables ≡ l.fn.cnf.variables;
+  lits : IsBelow l.fn.cnf.variables l.open.lits.items;
+  word : IsSoundWord l.fn.cnf.variables l.open.word;
+  read : IsReadTo l.bytes l.at (Setting l.fn.cnf.variables l.count l.spot (record { clauses = l.cnf.clauses; lits = l.open.lits.items; word = l.open.word }));
+}
