@@ -56,13 +56,37 @@ header_first variables count byte line h = (cons_once byte 112 line (h.0 ∷ cod
 header_title : (byte : ℕ) (line : List ℕ) (set : ClauseSet) → IsHeader set.variables (length set.clauses) (byte ∷ line) → IsTitleRest (codes " cnf ") line set
 header_title byte line set h =
     let numbers : List ℕ = decimal set.variables ++ h.2 ∷ decimal (length set.clauses) in
-    let tail = (cons_once byte 112 line (h.0 ∷ codes "cnf" ++ (h.1 ∷ numbers)) h.6).1 in
-    (h.0, codes "cnf" ++ (h.1 ∷ numbers), h.3, tail,
-    (99, codes "nf" ++ (h.1 ∷ numbers), refl, refl,
-    (110, codes "f" ++ (h.1 ∷ numbers), refl, refl,
-    (102, h.1 ∷ numbers, refl, refl,
-    (h.1, numbers, h.4, refl,
-    (h.2, h.5, refl))))))
+    let tail = (cons_once byte 112 line (h.0 ∷ codes "cnf" ++ (h.1 ∷ numbers)) h.6).1 in (
+      h.0,
+      codes "cnf" ++ (h.1 ∷ numbers),
+      h.3,
+      tail,
+      (
+        99,
+        codes "nf" ++ (h.1 ∷ numbers),
+        refl,
+        refl,
+        (
+          110,
+          codes "f" ++ (h.1 ∷ numbers),
+          refl,
+          refl,
+          (
+            102,
+            h.1 ∷ numbers,
+            refl,
+            refl,
+            (
+              h.1,
+              numbers,
+              h.4,
+              refl,
+              (h.2, h.5, refl),
+            ),
+          ),
+        ),
+      ),
+    )
 
 letter : (expected byte : ℕ) (line tail rest : List ℕ) → eqb byte expected ≡ true → line ≡ byte ∷ tail → tail ≡ rest → line ≡ expected ∷ rest
 letter expected byte line tail rest e f g = f ∙ ap₂ (λ (x : ℕ) (xs : List ℕ). x ∷ xs) (eqb-true byte expected e) g
@@ -96,10 +120,12 @@ opening_byte byte line others set log =
     agrees_if (eqb byte 99) (Some Remark) (cond (eqb byte 112) (Some (Title (codes " cnf "))) None) (IsOpeningRest ((byte ∷ line) ∷ others) set log) (λ t. IsRest t line others set log)
     (λ e. (tt, (λ q. rest_of_remark (byte ∷ line) others set log e q), (λ p. as_remark byte line others set log e (opening_case (byte ∷ line) others set log p))))
     (λ e. agrees_if (eqb byte 112) (Some (Title (codes " cnf "))) None (IsOpeningRest ((byte ∷ line) ∷ others) set log) (λ t. IsRest t line others set log)
-        (λ f. (refl,
-            (λ q. rest_of_header (byte ∷ line) others set log (subst (λ (x : ℕ). IsHeader set.variables (length set.clauses) (x ∷ line)) (sym (eqb-true byte 112 f)) (title_header line set q.0)) q.1),
-            (λ p. as_header byte line others set log e (opening_case (byte ∷ line) others set log p))))
-        (λ f p. no_opening byte line others set log e f (opening_case (byte ∷ line) others set log p)))
+    (λ f. (
+      refl,
+      (λ q. rest_of_header (byte ∷ line) others set log (subst (λ (x : ℕ). IsHeader set.variables (length set.clauses) (x ∷ line)) (sym (eqb-true byte 112 f)) (title_header line set q.0)) q.1),
+      (λ p. as_header byte line others set log e (opening_case (byte ∷ line) others set log p)),
+    ))
+    (λ f p. no_opening byte line others set log e f (opening_case (byte ∷ line) others set log p)))
 
 no_empty_opening : (others : List (List ℕ)) (set : ClauseSet) (log : List (List Literal)) → OpeningCase [] others set log → ⊥
 no_empty_opening others set log (remarks e r) = false≢true e
@@ -199,12 +225,12 @@ variables_digit : (value : Option ℕ) (byte : ℕ) (line : List ℕ) (others : 
 variables_digit value byte line others set log few within inked =
     agrees_map (λ n. Variables (Some n)) (counted most_variables value byte) (IsRest (Variables value) (byte ∷ line) others set log) (λ t. IsRest t line others set log)
     (λ h p.
-        let front = longer_front (digits_of value) (decimal set.variables) line (decimal (length set.clauses)) byte p.0.0 (digits_dense most_variables value (omega arith) within) (inked p.0) p.0.1 p.0.2 in
-        counted_none most_variables value byte set.variables front.more (omega arith) within few front.is h)
+    let front = longer_front (digits_of value) (decimal set.variables) line (decimal (length set.clauses)) byte p.0.0 (digits_dense most_variables value (omega arith) within) (inked p.0) p.0.1 p.0.2 in
+    counted_none most_variables value byte set.variables front.more (omega arith) within few front.is h)
     (λ n h.
-        let more = counted_some most_variables value byte n (omega arith) h in
-        let join = more_digits value byte n line more.0 in
-        (more.1, (λ q. ((q.0.0, q.0.1, sym join ∙ q.0.2), q.1)), (λ p. ((p.0.0, p.0.1, join ∙ p.0.2), p.1))))
+    let more = counted_some most_variables value byte n (omega arith) h in
+    let join = more_digits value byte n line more.0 in
+    (more.1, (λ q. ((q.0.0, q.0.1, sym join ∙ q.0.2), q.1)), (λ p. ((p.0.0, p.0.1, join ∙ p.0.2), p.1))))
 
 inked_first : (byte : ℕ) (line : List ℕ) (set : ClauseSet) → set.variables ≤ most_variables → IsNumbersRest [] (byte ∷ line) set → is_blank byte ≡ false
 inked_first byte line set few p =
@@ -218,12 +244,13 @@ variables_byte None byte line others set log e few within = variables_digit None
 variables_byte (Some value) byte line others set log e few within =
     agrees_if (parts_words byte) (Some (Count value None)) (option_map (λ n. Variables (Some n)) (counted most_variables (Some value) byte)) (IsRest (Variables (Some value)) (byte ∷ line) others set log) (λ t. IsRest t line others set log)
     (λ f.
-        let blank : is_blank byte ≡ true = sym (parts_blank byte e) ∙ f in
-        ((within, tt),
-        (λ q. ((byte, blank, ap₂ (λ (n : ℕ) (xs : List ℕ). decimal n ++ byte ∷ xs) q.0 (sym q.1)), q.2)),
-        (λ p.
-            let same = same_fronts (decimal value) (decimal set.variables) line (decimal (length set.clauses)) byte p.0.0 (decimal_dense value (small value within)) (decimal_dense set.variables (small set.variables few)) blank p.0.1 p.0.2 in
-            (decimal_injective value set.variables (omega (arith, within)) (omega (arith, few)) same.0, sym same.1, p.1))))
+    let blank : is_blank byte ≡ true = sym (parts_blank byte e) ∙ f in (
+      (within, tt),
+      (λ q. ((byte, blank, ap₂ (λ (n : ℕ) (xs : List ℕ). decimal n ++ byte ∷ xs) q.0 (sym q.1)), q.2)),
+      (λ p.
+          let same = same_fronts (decimal value) (decimal set.variables) line (decimal (length set.clauses)) byte p.0.0 (decimal_dense value (small value within)) (decimal_dense set.variables (small set.variables few)) blank p.0.1 p.0.2 in
+          (decimal_injective value set.variables (omega (arith, within)) (omega (arith, few)) same.0, sym same.1, p.1)),
+    ))
     (λ f. variables_digit (Some value) byte line others set log few within (λ p. sym (parts_blank byte e) ∙ f))
 
 pub variables_feed : (value : Option ℕ) (line : List ℕ) (others : List (List ℕ)) (set : ClauseSet) (log : List (List Literal)) → set.variables ≤ most_variables → IsWithin most_variables value
@@ -240,9 +267,9 @@ count_digit variables value byte line others set log few low within =
     agrees_map (λ n. Count variables (Some n)) (counted most_clauses value byte) (IsRest (Count variables value) (byte ∷ line) others set log) (λ t. IsRest t line others set log)
     (λ h p. counted_none most_clauses value byte (length set.clauses) line (omega arith) within few p.1 h)
     (λ n h.
-        let more = counted_some most_clauses value byte n (omega arith) h in
-        let join = more_digits value byte n line more.0 in
-        ((low, more.1), (λ q. (q.0, q.1 ∙ join, q.2)), (λ p. (p.0, p.1 ∙ sym join, p.2))))
+    let more = counted_some most_clauses value byte n (omega arith) h in
+    let join = more_digits value byte n line more.0 in
+    ((low, more.1), (λ q. (q.0, q.1 ∙ join, q.2)), (λ p. (p.0, p.1 ∙ sym join, p.2))))
 
 pub count_byte : (variables : ℕ) (value : Option ℕ) (byte : ℕ) (line : List ℕ) (others : List (List ℕ)) (set : ClauseSet) (log : List (List Literal)) → eqb byte 10 ≡ false → length set.clauses ≤ most_clauses → variables ≤ most_variables → IsWithin most_clauses value
     → Agrees (in_count variables value byte) (IsRest (Count variables value) (byte ∷ line) others set log) (λ t. IsRest t line others set log)

@@ -10,3 +10,5 @@ pub mod Steps
 pub mod Viable
 pub mod Outcomes
 pub mod Standing
+pub mod Answering
+pub mod Canonical

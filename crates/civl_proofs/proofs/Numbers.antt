@@ -68,6 +68,7 @@ pub record HasFirst (n : ℕ) : Type 0 where
   pub more : List ℕ
   pub is : decimal n ≡ first ∷ more
   pub digit : 48 ≤ first
+  pub high : first ≤ 57
   pub plain : 0 < n → 48 < first
 
 first_at : (n : ℕ) (text : List ℕ) → n < 2 ^ 32 → decimal n ≡ text → HasFirst n
@@ -80,6 +81,7 @@ first_at n (byte ∷ text) h e =
       more = text;
       is = e;
       digit = (digit_between byte parts.0).0;
+      high = (digit_between byte parts.0).1;
       plain = λ some. subst (λ (xs : List ℕ). 48 < get_or xs 0 0) e (first_decimal n some (omega (arith, h)));
     }
 
@@ -154,10 +156,10 @@ longer front more byte n fits e =
     let digit : is_ascii_digit byte ≡ true = subst (λ (x : ℕ). is_ascii_digit x ≡ true) at (AllPass-from_list_all is_ascii_digit (decimal n) (decimal_digits n fits) (length front) 0 within) in
     let before : take (length front) (decimal n) ≡ front = ap (take (length front)) e ∙ take_at front (byte ∷ more) (length front) refl in
     let next : digits_value 10 (take (length front + 1) (decimal n)) ≡ digits_value 10 front * 10 + (byte - 48) =
-        digits_value_more 10 (decimal n) (length front) within
-        ∙ ap (λ (xs : List ℕ). digits_value 10 xs * 10 + digit_value (get_or (decimal n) (length front) 0)) before
-        ∙ ap (λ (x : ℕ). digits_value 10 front * 10 + digit_value x) at
-        ∙ ap (λ (x : ℕ). digits_value 10 front * 10 + x) (digit_value_is byte digit) in
+    digits_value_more 10 (decimal n) (length front) within
+    ∙ ap (λ (xs : List ℕ). digits_value 10 xs * 10 + digit_value (get_or (decimal n) (length front) 0)) before
+    ∙ ap (λ (x : ℕ). digits_value 10 front * 10 + digit_value x) at
+    ∙ ap (λ (x : ℕ). digits_value 10 front * 10 + x) (digit_value_is byte digit) in
     let most = digits_value-take-le 10 (decimal n) (length front + 1) (omega arith) in
     record {
       digit = digit;

@@ -178,10 +178,18 @@ some_at text (Err place) e = inr (place, read_fault text place e)
 pub one_answer : OneAnswer
 one_answer = record { some = λ text. some_at text (outcome text 0 Opening) refl; not_both = not_both; one_place = one_place }
 
-ok_once : (r : Result Certificate ℕ) (c d : Certificate) → r ≡ Ok c → r ≡ Ok d → c ≡ d
+pub ok_once : (r : Result Certificate ℕ) (c d : Certificate) → r ≡ Ok c → r ≡ Ok d → c ≡ d
 ok_once r c d e f = cc (e, f)
 
 pub one_reading : OneReading
 one_reading text set other log logged h k =
     let both : made set log ≡ made other logged = ok_once (outcome text 0 Opening) (made set log) (made other logged) (certificate_read text set log h) (certificate_read text other logged k) in
     (ap (λ (c : Certificate). c.set) both, ap (λ (c : Certificate). c.log) both)
+
+-- ---- examples
+
+pub certificate_is : (text : List ℕ) (set : ClauseSet) (log : List (List Literal)) → outcome text 0 Opening ≡ Ok (made set log) → IsCertificate text set log
+certificate_is text set log h = read_certificate text (made set log) h
+
+pub fault_is : (text : List ℕ) (place : ℕ) → outcome text 0 Opening ≡ Err place → IsFirstFault text place
+fault_is text place h = read_fault text place h

@@ -29,7 +29,7 @@ no_extension : (variables : ℕ) (d : Draft) (byte : ℕ) (line : List ℕ) (all
 no_extension variables d byte line all more few below sound inked h e =
     let w = words_begun (text_of d.word) line byte (text_dense variables d.word (small variables few) sound.word) inked in
     let found : words_read d ++ (text_of d.word ++ byte ∷ w.more) ∷ (w.others ++ more) ≡ all_words all =
-        sym (append_assoc (words_read d) ((text_of d.word ++ byte ∷ w.more) ∷ w.others) more) ∙ ap (λ (xs : List (List ℕ)). (words_read d ++ xs) ++ more) (sym w.is) ∙ e in
+    sym (append_assoc (words_read d) ((text_of d.word ++ byte ∷ w.more) ∷ w.others) more) ∙ ap (λ (xs : List (List ℕ)). (words_read d ++ xs) ++ more) (sym w.is) ∙ e in
     typed_none variables d.word byte w.more (small variables few) sound.word (no_word_more variables d byte h) (word_is variables all (words_read d) (w.others ++ more) (text_of d.word ++ byte ∷ w.more) below found)
 
 -- where a byte of a word follows, there is room for a clause
@@ -38,7 +38,7 @@ room_left : (variables : ℕ) (d : Draft) (byte : ℕ) (line : List ℕ) (all : 
 room_left variables d byte line all more few below sound inked e =
     let w = words_begun (text_of d.word) line byte (text_dense variables d.word (small variables few) sound.word) inked in
     let found : words_read d ++ (text_of d.word ++ byte ∷ w.more) ∷ (w.others ++ more) ≡ all_words all =
-        sym (append_assoc (words_read d) ((text_of d.word ++ byte ∷ w.more) ∷ w.others) more) ∙ ap (λ (xs : List (List ℕ)). (words_read d ++ xs) ++ more) (sym w.is) ∙ e in
+    sym (append_assoc (words_read d) ((text_of d.word ++ byte ∷ w.more) ∷ w.others) more) ∙ ap (λ (xs : List (List ℕ)). (words_read d ++ xs) ++ more) (sym w.is) ∙ e in
     word_left d.clauses all d.lits (text_of d.word ++ byte ∷ w.more) (w.others ++ more) (small_clauses variables d.clauses (small variables few) sound.clauses) (small_clauses variables all (small variables few) below) found
 
 -- where no word is to come, all is there
@@ -60,27 +60,29 @@ line_byte : (variables count : ℕ) (spot : Spot) (d : Draft) (byte : ℕ) (line
 line_byte variables count spot d byte line others set log e sound held =
     agrees_if (is_blank byte) (option_map (Setting variables count (spot_after byte)) (ended d)) (cond (ltb (length d.clauses) count) (option_map (Setting variables count Inside) (extended variables d byte)) None) (IsRest (Setting variables count Inside d) (byte ∷ line) others set log) (λ t. IsRest t line others set log)
     (λ blank. subst (λ (s : Spot). Agrees (option_map (Setting variables count s) (ended d)) (IsRest (Setting variables count Inside d) (byte ∷ line) others set log) (λ t. IsRest t line others set log)) (sym (spot_is byte e))
-        (agrees_map (Setting variables count Inside) (ended d) (IsRest (Setting variables count Inside d) (byte ∷ line) others set log) (λ t. IsRest t line others set log)
-            (λ h p. torn_blank variables d set.clauses byte line (body_words p.2.body) (small variables sound.few_variables) (subst (λ (n : ℕ). AreBelow n set.clauses) (sym p.0) held.below) blank h p.2.clauses)
-            (λ new h.
-                let is = ended_some variables d new (small variables sound.few_variables) sound.draft h in
-                let same = after_blank variables d new byte line is blank in
-                (record { few_variables = sound.few_variables; few_clauses = sound.few_clauses; draft = is.sound; room = is.room count sound.room; empty = tt },
-                (λ q. (q.0, q.1, subst (λ (r : List (List ℕ)). IsSetRest r others set log) same q.2)),
-                (λ p. (p.0, p.1, subst (λ (r : List (List ℕ)). IsSetRest r others set log) (sym same) p.2))))))
+    (agrees_map (Setting variables count Inside) (ended d) (IsRest (Setting variables count Inside d) (byte ∷ line) others set log) (λ t. IsRest t line others set log)
+    (λ h p. torn_blank variables d set.clauses byte line (body_words p.2.body) (small variables sound.few_variables) (subst (λ (n : ℕ). AreBelow n set.clauses) (sym p.0) held.below) blank h p.2.clauses)
+    (λ new h.
+    let is = ended_some variables d new (small variables sound.few_variables) sound.draft h in
+    let same = after_blank variables d new byte line is blank in (
+      record { few_variables = sound.few_variables; few_clauses = sound.few_clauses; draft = is.sound; room = is.room count sound.room; empty = tt },
+      (λ q. (q.0, q.1, subst (λ (r : List (List ℕ)). IsSetRest r others set log) same q.2)),
+      (λ p. (p.0, p.1, subst (λ (r : List (List ℕ)). IsSetRest r others set log) (sym same) p.2)),
+    ))))
     (λ inked. agrees_if (ltb (length d.clauses) count) (option_map (Setting variables count Inside) (extended variables d byte)) None (IsRest (Setting variables count Inside d) (byte ∷ line) others set log) (λ t. IsRest t line others set log)
-        (λ room. agrees_map (Setting variables count Inside) (extended variables d byte) (IsRest (Setting variables count Inside d) (byte ∷ line) others set log) (λ t. IsRest t line others set log)
-            (λ h p. no_extension variables d byte line set.clauses (body_words p.2.body) sound.few_variables (subst (λ (n : ℕ). AreBelow n set.clauses) (sym p.0) held.below) sound.draft inked h p.2.clauses)
-            (λ new h.
-                let is = extended_some variables d byte new (small variables sound.few_variables) sound.draft h in
-                let same = is.read line in
-                let low : length new.clauses < count = subst (λ (cs : List (List Literal)). length cs < count) (sym is.clauses) (ltb-true (length d.clauses) count room) in
-                (record { few_variables = sound.few_variables; few_clauses = sound.few_clauses; draft = is.sound; room = inl low; empty = tt },
-                (λ q. (q.0, q.1, subst (λ (r : List (List ℕ)). IsSetRest r others set log) same q.2)),
-                (λ p. (p.0, p.1, subst (λ (r : List (List ℕ)). IsSetRest r others set log) (sym same) p.2)))))
-        (λ full p.
-            let less = room_left variables d byte line set.clauses (body_words p.2.body) sound.few_variables (subst (λ (n : ℕ). AreBelow n set.clauses) (sym p.0) held.below) sound.draft inked p.2.clauses in
-            absurd (omega (arith, ltb-false (length d.clauses) count full, less, p.1))))
+    (λ room. agrees_map (Setting variables count Inside) (extended variables d byte) (IsRest (Setting variables count Inside d) (byte ∷ line) others set log) (λ t. IsRest t line others set log)
+    (λ h p. no_extension variables d byte line set.clauses (body_words p.2.body) sound.few_variables (subst (λ (n : ℕ). AreBelow n set.clauses) (sym p.0) held.below) sound.draft inked h p.2.clauses)
+    (λ new h.
+    let is = extended_some variables d byte new (small variables sound.few_variables) sound.draft h in
+    let same = is.read line in
+    let low : length new.clauses < count = subst (λ (cs : List (List Literal)). length cs < count) (sym is.clauses) (ltb-true (length d.clauses) count room) in (
+      record { few_variables = sound.few_variables; few_clauses = sound.few_clauses; draft = is.sound; room = inl low; empty = tt },
+      (λ q. (q.0, q.1, subst (λ (r : List (List ℕ)). IsSetRest r others set log) same q.2)),
+      (λ p. (p.0, p.1, subst (λ (r : List (List ℕ)). IsSetRest r others set log) (sym same) p.2)),
+    )))
+    (λ full p.
+    let less = room_left variables d byte line set.clauses (body_words p.2.body) sound.few_variables (subst (λ (n : ℕ). AreBelow n set.clauses) (sym p.0) held.below) sound.draft inked p.2.clauses in
+    absurd (omega (arith, ltb-false (length d.clauses) count full, less, p.1))))
 
 line_feed : (variables count : ℕ) (spot : Spot) (d : Draft) (line : List ℕ) (others : List (List ℕ)) (set : ClauseSet) (log : List (List Literal)) → IsSoundSet variables count spot d → MayBeHeld set log
     → Agrees (option_map (Setting variables count First) (ended d)) (IsRest (Setting variables count Inside d) [] (line ∷ others) set log) (λ t. IsRest t line others set log)
@@ -88,10 +90,11 @@ line_feed variables count spot d line others set log sound held =
     agrees_map (Setting variables count First) (ended d) (IsRest (Setting variables count Inside d) [] (line ∷ others) set log) (λ t. IsRest t line others set log)
     (λ h p. torn_end variables d set.clauses (body_words p.2.body) (small variables sound.few_variables) (subst (λ (n : ℕ). AreBelow n set.clauses) (sym p.0) held.below) h p.2.clauses)
     (λ new h.
-        let is = ended_some variables d new (small variables sound.few_variables) sound.draft h in
-        (record { few_variables = sound.few_variables; few_clauses = sound.few_clauses; draft = is.sound; room = is.room count sound.room; empty = is.empty },
-        (λ q. (q.0, q.1, subst (λ (r : List (List ℕ)). IsSetRest r (line ∷ others) set log) is.at_end q.2)),
-        (λ p. (p.0, p.1, subst (λ (r : List (List ℕ)). IsSetRest r (line ∷ others) set log) (sym is.at_end) p.2))))
+    let is = ended_some variables d new (small variables sound.few_variables) sound.draft h in (
+      record { few_variables = sound.few_variables; few_clauses = sound.few_clauses; draft = is.sound; room = is.room count sound.room; empty = is.empty },
+      (λ q. (q.0, q.1, subst (λ (r : List (List ℕ)). IsSetRest r (line ∷ others) set log) is.at_end q.2)),
+      (λ p. (p.0, p.1, subst (λ (r : List (List ℕ)). IsSetRest r (line ∷ others) set log) (sym is.at_end) p.2)),
+    ))
 
 -- ---- a line's first byte
 
@@ -135,26 +138,31 @@ first_byte : (variables count : ℕ) (d : Draft) (byte : ℕ) (line : List ℕ) 
     → Agrees (in_set variables count First d byte) (IsRest (Setting variables count First d) (byte ∷ line) others set log) (λ t. IsRest t line others set log)
 first_byte variables count d byte line others set log e sound held =
     agrees_if (eqb byte 99) (Some (Setting variables count Comment d)) (cond (eqb byte 108 && eqb (length d.clauses) count) (Some (Keyword variables d.clauses (codes "og"))) (in_line variables count d byte)) (IsRest (Setting variables count First d) (byte ∷ line) others set log) (λ t. IsRest t line others set log)
-    (λ f.
-        (record { few_variables = sound.few_variables; few_clauses = sound.few_clauses; draft = sound.draft; room = sound.room; empty = sound.empty },
-        (λ q. (q.0, q.1, rest_of_comment (words_read d) (byte ∷ line) others set log f q.2)),
-        (λ p. (p.0, p.1, comment_on variables count d byte line others set log f (set_case (words_read d) (byte ∷ line) others set log p.2)))))
+    (λ f. (
+      record { few_variables = sound.few_variables; few_clauses = sound.few_clauses; draft = sound.draft; room = sound.room; empty = sound.empty },
+      (λ q. (q.0, q.1, rest_of_comment (words_read d) (byte ∷ line) others set log f q.2)),
+      (λ p. (p.0, p.1, comment_on variables count d byte line others set log f (set_case (words_read d) (byte ∷ line) others set log p.2))),
+    ))
     (λ f. agrees_if (eqb byte 108 && eqb (length d.clauses) count) (Some (Keyword variables d.clauses (codes "og"))) (in_line variables count d byte) (IsRest (Setting variables count First d) (byte ∷ line) others set log) (λ t. IsRest t line others set log)
-        (λ g.
-            let parts = and_parts (eqb byte 108) (eqb (length d.clauses) count) g in
-            let l : byte ≡ 108 = eqb-true byte 108 parts.0 in
-            let n : length d.clauses ≡ count = eqb-true (length d.clauses) count parts.1 in
-            let none : words_read d ≡ all_words d.clauses = ap (λ (ls : List Literal). words_read (record d { lits = ls })) (closed_lits count d sound.room n) ∙ append-nil (all_words d.clauses) in
-            (record { few_variables = sound.few_variables; few_clauses = omega (arith, sound.few_clauses, n); below = sound.draft.clauses; one_line = refl },
-            (λ q. (q.0, sym n ∙ ap length (sym q.1),
-                subst (λ (xs : List ℕ). IsSetRest (words_read d) (xs ∷ others) set log) (ap₂ (λ (x : ℕ) (xs : List ℕ). x ∷ xs) (sym l) (sym q.2)) (rest_of_log (words_read d) others set log (none ∙ ap all_words (sym q.1)) q.3))),
-            (λ p.
-                let on = keyword_on variables count d byte line others set log sound held f l n p.0 p.1 (set_case (words_read d) (byte ∷ line) others set log p.2) in
-                (p.0, on.0, on.1, on.2))))
-        (λ g. agrees_from (in_line variables count d byte) (IsRest (Setting variables count First d) (byte ∷ line) others set log) (IsRest (Setting variables count Inside d) (byte ∷ line) others set log) (λ t. IsRest t line others set log)
-            (λ p. (p.0, p.1, subst (λ (r : List (List ℕ)). IsSetRest r others set log) (sym (empty_read d (byte ∷ line) sound.empty)) (line_on variables count d byte line others set log sound held f g p.0 p.1 (set_case (words_read d) (byte ∷ line) others set log p.2))))
-            (λ r. (r.0, r.1, rest_of_line (words_read d) (byte ∷ line) others set log f (subst (λ (s : List (List ℕ)). IsSetRest s others set log) (empty_read d (byte ∷ line) sound.empty) r.2)))
-            (line_byte variables count First d byte line others set log e sound held)))
+    (λ g.
+    let parts = and_parts (eqb byte 108) (eqb (length d.clauses) count) g in
+    let l : byte ≡ 108 = eqb-true byte 108 parts.0 in
+    let n : length d.clauses ≡ count = eqb-true (length d.clauses) count parts.1 in
+    let none : words_read d ≡ all_words d.clauses = ap (λ (ls : List Literal). words_read (record d { lits = ls })) (closed_lits count d sound.room n) ∙ append-nil (all_words d.clauses) in (
+      record { few_variables = sound.few_variables; few_clauses = omega (arith, sound.few_clauses, n); below = sound.draft.clauses; one_line = refl },
+      (λ q. (
+        q.0,
+        sym n ∙ ap length (sym q.1),
+        subst (λ (xs : List ℕ). IsSetRest (words_read d) (xs ∷ others) set log) (ap₂ (λ (x : ℕ) (xs : List ℕ). x ∷ xs) (sym l) (sym q.2)) (rest_of_log (words_read d) others set log (none ∙ ap all_words (sym q.1)) q.3),
+      )),
+      (λ p.
+          let on = keyword_on variables count d byte line others set log sound held f l n p.0 p.1 (set_case (words_read d) (byte ∷ line) others set log p.2) in
+          (p.0, on.0, on.1, on.2)),
+    ))
+    (λ g. agrees_from (in_line variables count d byte) (IsRest (Setting variables count First d) (byte ∷ line) others set log) (IsRest (Setting variables count Inside d) (byte ∷ line) others set log) (λ t. IsRest t line others set log)
+    (λ p. (p.0, p.1, subst (λ (r : List (List ℕ)). IsSetRest r others set log) (sym (empty_read d (byte ∷ line) sound.empty)) (line_on variables count d byte line others set log sound held f g p.0 p.1 (set_case (words_read d) (byte ∷ line) others set log p.2))))
+    (λ r. (r.0, r.1, rest_of_line (words_read d) (byte ∷ line) others set log f (subst (λ (s : List (List ℕ)). IsSetRest s others set log) (empty_read d (byte ∷ line) sound.empty) r.2)))
+    (line_byte variables count First d byte line others set log e sound held)))
 
 empty_on : (read : List (List ℕ)) (others : List (List ℕ)) (set : ClauseSet) (log : List (List Literal)) → SetCase read [] others set log → IsSetRest (read ++ []) others set log
 empty_on read others set log (ends_set is r f) = absurd (cons_some 108 (codes "og") (sym is))
@@ -191,10 +199,11 @@ keyword_byte variables clauses [] byte line others set log e sound =
     subst (λ (b : Bool). Agrees (cond b (Some (Logging variables clauses no_draft)) None) (IsRest (Keyword variables clauses []) (byte ∷ line) others set log) (λ t. IsRest t line others set log)) (sym e) (λ p. cons_some byte line p.2)
 keyword_byte variables clauses (x ∷ more) byte line others set log e sound =
     agrees_if (eqb byte x) (Some (Keyword variables clauses more)) None (IsRest (Keyword variables clauses (x ∷ more)) (byte ∷ line) others set log) (λ t. IsRest t line others set log)
-    (λ f.
-        (record { few_variables = sound.few_variables; few_clauses = sound.few_clauses; below = sound.below; one_line = (and_parts (not (eqb x 10)) (is_one_line more) sound.one_line).1 },
-        (λ q. (q.0, q.1, ap₂ (λ (y : ℕ) (ys : List ℕ). y ∷ ys) (eqb-true byte x f) q.2, q.3)),
-        (λ p. (p.0, p.1, (cons_once byte x line more p.2).1, p.3))))
+    (λ f. (
+      record { few_variables = sound.few_variables; few_clauses = sound.few_clauses; below = sound.below; one_line = (and_parts (not (eqb x 10)) (is_one_line more) sound.one_line).1 },
+      (λ q. (q.0, q.1, ap₂ (λ (y : ℕ) (ys : List ℕ). y ∷ ys) (eqb-true byte x f) q.2, q.3)),
+      (λ p. (p.0, p.1, (cons_once byte x line more p.2).1, p.3)),
+    ))
     (λ f p. eqb-false byte x f (cons_once byte x line more p.2).0)
 
 pub keyword_feed : (variables : ℕ) (clauses : List (List Literal)) (expected : List ℕ) (line : List ℕ) (others : List (List ℕ)) (set : ClauseSet) (log : List (List Literal)) → IsSoundKeyword variables clauses expected
@@ -211,17 +220,17 @@ pub log_byte : (variables : ℕ) (clauses : List (List Literal)) (d : Draft) (by
 log_byte variables clauses d byte line others set log sound held =
     agrees_if (is_blank byte) (option_map (Logging variables clauses) (ended d)) (option_map (Logging variables clauses) (extended variables d byte)) (IsRest (Logging variables clauses d) (byte ∷ line) others set log) (λ t. IsRest t line others set log)
     (λ blank. agrees_map (Logging variables clauses) (ended d) (IsRest (Logging variables clauses d) (byte ∷ line) others set log) (λ t. IsRest t line others set log)
-        (λ h p. torn_blank variables d log byte line (flat_map words_of others) (small variables sound.few_variables) (subst (λ (n : ℕ). AreBelow n log) (sym p.0) held.log_below) blank h p.2)
-        (λ new h.
-            let is = ended_some variables d new (small variables sound.few_variables) sound.draft h in
-            let same = ap (λ (xs : List (List ℕ)). xs ++ flat_map words_of others) (after_blank variables d new byte line is blank) in
-            (record { few_variables = sound.few_variables; few_clauses = sound.few_clauses; below = sound.below; draft = is.sound }, (λ q. (q.0, q.1, sym same ∙ q.2)), (λ p. (p.0, p.1, same ∙ p.2)))))
+    (λ h p. torn_blank variables d log byte line (flat_map words_of others) (small variables sound.few_variables) (subst (λ (n : ℕ). AreBelow n log) (sym p.0) held.log_below) blank h p.2)
+    (λ new h.
+    let is = ended_some variables d new (small variables sound.few_variables) sound.draft h in
+    let same = ap (λ (xs : List (List ℕ)). xs ++ flat_map words_of others) (after_blank variables d new byte line is blank) in
+    (record { few_variables = sound.few_variables; few_clauses = sound.few_clauses; below = sound.below; draft = is.sound }, (λ q. (q.0, q.1, sym same ∙ q.2)), (λ p. (p.0, p.1, same ∙ p.2)))))
     (λ inked. agrees_map (Logging variables clauses) (extended variables d byte) (IsRest (Logging variables clauses d) (byte ∷ line) others set log) (λ t. IsRest t line others set log)
-        (λ h p. no_extension variables d byte line log (flat_map words_of others) sound.few_variables (subst (λ (n : ℕ). AreBelow n log) (sym p.0) held.log_below) sound.draft inked h p.2)
-        (λ new h.
-            let is = extended_some variables d byte new (small variables sound.few_variables) sound.draft h in
-            let same = ap (λ (xs : List (List ℕ)). xs ++ flat_map words_of others) (is.read line) in
-            (record { few_variables = sound.few_variables; few_clauses = sound.few_clauses; below = sound.below; draft = is.sound }, (λ q. (q.0, q.1, sym same ∙ q.2)), (λ p. (p.0, p.1, same ∙ p.2)))))
+    (λ h p. no_extension variables d byte line log (flat_map words_of others) sound.few_variables (subst (λ (n : ℕ). AreBelow n log) (sym p.0) held.log_below) sound.draft inked h p.2)
+    (λ new h.
+    let is = extended_some variables d byte new (small variables sound.few_variables) sound.draft h in
+    let same = ap (λ (xs : List (List ℕ)). xs ++ flat_map words_of others) (is.read line) in
+    (record { few_variables = sound.few_variables; few_clauses = sound.few_clauses; below = sound.below; draft = is.sound }, (λ q. (q.0, q.1, sym same ∙ q.2)), (λ p. (p.0, p.1, same ∙ p.2)))))
 
 pub log_feed : (variables : ℕ) (clauses : List (List Literal)) (d : Draft) (line : List ℕ) (others : List (List ℕ)) (set : ClauseSet) (log : List (List Literal)) → IsSoundLog variables clauses d → MayBeHeld set log
     → Agrees (in_log variables clauses d 10) (IsRest (Logging variables clauses d) [] (line ∷ others) set log) (λ t. IsRest t line others set log)
@@ -229,9 +238,9 @@ log_feed variables clauses d line others set log sound held =
     agrees_map (Logging variables clauses) (ended d) (IsRest (Logging variables clauses d) [] (line ∷ others) set log) (λ t. IsRest t line others set log)
     (λ h p. torn_end variables d log (flat_map words_of (line ∷ others)) (small variables sound.few_variables) (subst (λ (n : ℕ). AreBelow n log) (sym p.0) held.log_below) h p.2)
     (λ new h.
-        let is = ended_some variables d new (small variables sound.few_variables) sound.draft h in
-        let same : (words_read new ++ words_of (text_of new.word ++ line)) ++ flat_map words_of others ≡ (words_read d ++ words_of (text_of d.word ++ [])) ++ flat_map words_of (line ∷ others) =
-            append_assoc (words_read new) (words_of (text_of new.word ++ line)) (flat_map words_of others)
-            ∙ ap (λ (w : Word). words_read new ++ (words_of (text_of w ++ line) ++ flat_map words_of others)) is.empty
-            ∙ ap (λ (xs : List (List ℕ)). xs ++ (words_of line ++ flat_map words_of others)) is.at_end in
-        (record { few_variables = sound.few_variables; few_clauses = sound.few_clauses; below = sound.below; draft = is.sound }, (λ q. (q.0, q.1, sym same ∙ q.2)), (λ p. (p.0, p.1, same ∙ p.2))))
+    let is = ended_some variables d new (small variables sound.few_variables) sound.draft h in
+    let same : (words_read new ++ words_of (text_of new.word ++ line)) ++ flat_map words_of others ≡ (words_read d ++ words_of (text_of d.word ++ [])) ++ flat_map words_of (line ∷ others) =
+    append_assoc (words_read new) (words_of (text_of new.word ++ line)) (flat_map words_of others)
+    ∙ ap (λ (w : Word). words_read new ++ (words_of (text_of w ++ line) ++ flat_map words_of others)) is.empty
+    ∙ ap (λ (xs : List (List ℕ)). xs ++ (words_of line ++ flat_map words_of others)) is.at_end in
+    (record { few_variables = sound.few_variables; few_clauses = sound.few_clauses; below = sound.below; draft = is.sound }, (λ q. (q.0, q.1, sym same ∙ q.2)), (λ p. (p.0, p.1, same ∙ p.2))))

@@ -58,9 +58,9 @@ agrees_at : (s : State) (byte : ℕ) (bytes line : List ℕ) (others : List (Lis
 agrees_at s byte bytes line others set log true e lines sound held =
     subst (λ (x : ℕ). Agrees (step s x) (IsRestOf s (x ∷ bytes) set log) (λ t. IsRestOf t bytes set log)) (sym (eqb-true byte 10 e))
     (agrees_from (step s 10) (IsRestOf s (10 ∷ bytes) set log) (IsRest s [] (line ∷ others) set log) (λ t. IsRestOf t bytes set log)
-        (λ p. rest_at s (10 ∷ bytes) [] (line ∷ others) set log (ap (λ (xs : List (List ℕ)). [] ∷ xs) lines) p)
-        (λ r. ([], line ∷ others, ap (λ (xs : List (List ℕ)). [] ∷ xs) lines, r))
-        (agrees_to (step s 10) bytes line others set log (IsRest s [] (line ∷ others) set log) lines (feed_agrees s line others set log sound held)))
+    (λ p. rest_at s (10 ∷ bytes) [] (line ∷ others) set log (ap (λ (xs : List (List ℕ)). [] ∷ xs) lines) p)
+    (λ r. ([], line ∷ others, ap (λ (xs : List (List ℕ)). [] ∷ xs) lines, r))
+    (agrees_to (step s 10) bytes line others set log (IsRest s [] (line ∷ others) set log) lines (feed_agrees s line others set log sound held)))
 agrees_at s byte bytes line others set log false e lines sound held =
     let longer : lines_of (byte ∷ bytes) ≡ (byte ∷ line) ∷ others = cond-false (eqb byte 10) _ _ e ∙ ap (onto_first byte) lines in
     agrees_from (step s byte) (IsRestOf s (byte ∷ bytes) set log) (IsRest s (byte ∷ line) others set log) (λ t. IsRestOf t bytes set log)
@@ -118,12 +118,13 @@ log_closed : (variables : ℕ) (clauses : List (List Literal)) (d new : Draft) (
 log_closed variables clauses d new true sound h e =
     let is = ended_some variables d new (small variables sound.few_variables) sound.draft h in
     let none : new.lits ≡ [] = nil_from_length new.lits (eqb-true (length new.lits) 0 e) in
-    let read : words_read new ≡ all_words new.clauses = ap (λ (ls : List Literal). words_read (record new { lits = ls })) none ∙ append-nil (all_words new.clauses) in
-    (record { few_variables = sound.few_variables; few_clauses = sound.few_clauses; below = sound.below; log_below = is.sound.clauses },
-    (refl, refl, append-nil (words_read d ++ words_of (text_of d.word ++ [])) ∙ sym is.at_end ∙ read),
-    λ set log held p.
-        let whole = draft_whole variables new log sound.few_variables (subst (λ (n : ℕ). AreBelow n log) (sym p.0) held.log_below) is.sound (is.at_end ∙ sym (append-nil (words_read d ++ words_of (text_of d.word ++ []))) ∙ p.2) in
-        (set_made set variables clauses p.0 p.1, whole.1))
+    let read : words_read new ≡ all_words new.clauses = ap (λ (ls : List Literal). words_read (record new { lits = ls })) none ∙ append-nil (all_words new.clauses) in (
+      record { few_variables = sound.few_variables; few_clauses = sound.few_clauses; below = sound.below; log_below = is.sound.clauses },
+      (refl, refl, append-nil (words_read d ++ words_of (text_of d.word ++ [])) ∙ sym is.at_end ∙ read),
+      λ set log held p.
+          let whole = draft_whole variables new log sound.few_variables (subst (λ (n : ℕ). AreBelow n log) (sym p.0) held.log_below) is.sound (is.at_end ∙ sym (append-nil (words_read d ++ words_of (text_of d.word ++ []))) ∙ p.2) in
+          (set_made set variables clauses p.0 p.1, whole.1),
+    )
 log_closed variables clauses d new false sound h e = λ set log held p.
     let is = ended_some variables d new (small variables sound.few_variables) sound.draft h in
     let whole = draft_whole variables new log sound.few_variables (subst (λ (n : ℕ). AreBelow n log) (sym p.0) held.log_below) is.sound (is.at_end ∙ sym (append-nil (words_read d ++ words_of (text_of d.word ++ []))) ∙ p.2) in

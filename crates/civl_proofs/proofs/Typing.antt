@@ -90,7 +90,7 @@ typed_some variables (Number positive value) byte more few sound h =
     let m = map_some (Number positive) (with_digit variables value byte) more h in
     let one = one_more variables value byte m.value m.is in
     let text : text_of (Number positive m.value) ≡ (sign_of positive ++ decimal value) ++ byte ∷ [] =
-        ap (λ (xs : List ℕ). sign_of positive ++ xs) (more_text variables value byte m.value few sound.0 m.is) ∙ sym (append_assoc (sign_of positive) (decimal value) (byte ∷ [])) in
+    ap (λ (xs : List ℕ). sign_of positive ++ xs) (more_text variables value byte m.value few sound.0 m.is) ∙ sym (append_assoc (sign_of positive) (decimal value) (byte ∷ [])) in
     let above : 0 < m.value = omega (arith, one.is, sound.0) in
     let is_sound : IsSoundWord variables (Number positive m.value) = (above, one.within) in
     record { text = subst (λ (w : Word). text_of w ≡ (sign_of positive ++ decimal value) ++ byte ∷ []) (sym m.gives) text; sound = subst (IsSoundWord variables) (sym m.gives) is_sound }

@@ -39,28 +39,33 @@ enum Next {
 }
 
 /// Ends the open clause's word; where this ends a clause of the clause set, adds it.
-fn end_in_set(alloc: Global, cnf: &mut Cnf, open: &mut OpenClause, at: usize) -> Result<(), CertificateFault>
+fn end_in_set(
+    alloc: Global,
+    cnf: &mut Cnf,
+    draft: &mut OpenClause,
+    at: usize,
+) -> Result<(), CertificateFault>
     requires variables { cnf.old.variables ≤ most_variables }
-    requires lits { IsBelow cnf.old.variables open.old.lits.items }
-    requires word { IsSoundWord cnf.old.variables open.old.word }
+    requires lits { IsBelow cnf.old.variables draft.old.lits.items }
+    requires word { IsSoundWord cnf.old.variables draft.old.word }
     ensures variables { OnOk result (cnf.new.variables ≡ cnf.old.variables) }
-    ensures lits { OnOk result (IsBelow cnf.old.variables open.new.lits.items) }
-    ensures word { OnOk result (open.new.word ≡ Word.Empty) }
-    ensures is { OnOk result (ended (record { clauses = cnf.old.clauses; lits = open.old.lits.items; word = open.old.word }) ≡ Some (record { clauses = cnf.new.clauses; lits = open.new.lits.items; word = open.new.word })) }
-    ensures fault { (b : ℕ) → IsErrOf result (CertificateFault.At b) → (b ≡ at) × (ended (record { clauses = cnf.old.clauses; lits = open.old.lits.items; word = open.old.word }) ≡ None) }
+    ensures lits { OnOk result (IsBelow cnf.old.variables draft.new.lits.items) }
+    ensures word { OnOk result (draft.new.word ≡ Word.Empty) }
+    ensures is { OnOk result (ended (record { clauses = cnf.old.clauses; lits = draft.old.lits.items; word = draft.old.word }) ≡ Some (record { clauses = cnf.new.clauses; lits = draft.new.lits.items; word = draft.new.word })) }
+    ensures fault { (b : ℕ) → IsErrOf result (CertificateFault.At b) → (b ≡ at) × (ended (record { clauses = cnf.old.clauses; lits = draft.old.lits.items; word = draft.old.word }) ≡ None) }
 {
-    match ending_of(open.word, cnf.variables()) {
+    match ending_of(draft.word, cnf.variables()) {
         Ending::Nothing => Ok(()),
         Ending::WholeLiteral(lit) => {
-            open.lits.push(lit)?;
-            open.word = Word::Empty;
+            draft.lits.push(lit)?;
+            draft.word = Word::Empty;
             Ok(())
         }
         Ending::WholeClause => {
-            let clause = Clause::from_slice(alloc, open.lits.as_slice())?;
+            let clause = Clause::from_slice(alloc, draft.lits.as_slice())?;
             cnf.push(clause)?;
-            open.lits.clear();
-            open.word = Word::Empty;
+            draft.lits.clear();
+            draft.word = Word::Empty;
             Ok(())
         }
         Ending::Torn => Err(CertificateFault::At(at)),
@@ -68,25 +73,31 @@ fn end_in_set(alloc: Global, cnf: &mut Cnf, open: &mut OpenClause, at: usize) ->
 }
 
 /// Ends the open clause's word; where this ends a clause of the log, adds it.
-fn end_in_log(alloc: Global, log: &mut Log, open: &mut OpenClause, variables: u32, at: usize) -> Result<(), CertificateFault>
+fn end_in_log(
+    alloc: Global,
+    log: &mut Log,
+    draft: &mut OpenClause,
+    variables: u32,
+    at: usize,
+) -> Result<(), CertificateFault>
     requires variables { variables ≤ most_variables }
-    requires word { IsSoundWord variables open.old.word }
-    ensures word { OnOk result (open.new.word ≡ Word.Empty) }
-    ensures is { OnOk result (ended (record { clauses = log.old; lits = open.old.lits.items; word = open.old.word }) ≡ Some (record { clauses = log.new; lits = open.new.lits.items; word = open.new.word })) }
-    ensures fault { (b : ℕ) → IsErrOf result (CertificateFault.At b) → (b ≡ at) × (ended (record { clauses = log.old; lits = open.old.lits.items; word = open.old.word }) ≡ None) }
+    requires word { IsSoundWord variables draft.old.word }
+    ensures word { OnOk result (draft.new.word ≡ Word.Empty) }
+    ensures is { OnOk result (ended (record { clauses = log.old; lits = draft.old.lits.items; word = draft.old.word }) ≡ Some (record { clauses = log.new; lits = draft.new.lits.items; word = draft.new.word })) }
+    ensures fault { (b : ℕ) → IsErrOf result (CertificateFault.At b) → (b ≡ at) × (ended (record { clauses = log.old; lits = draft.old.lits.items; word = draft.old.word }) ≡ None) }
 {
-    match ending_of(open.word, variables) {
+    match ending_of(draft.word, variables) {
         Ending::Nothing => Ok(()),
         Ending::WholeLiteral(lit) => {
-            open.lits.push(lit)?;
-            open.word = Word::Empty;
+            draft.lits.push(lit)?;
+            draft.word = Word::Empty;
             Ok(())
         }
         Ending::WholeClause => {
-            let clause = Clause::from_slice(alloc, open.lits.as_slice())?;
+            let clause = Clause::from_slice(alloc, draft.lits.as_slice())?;
             log.push(clause)?;
-            open.lits.clear();
-            open.word = Word::Empty;
+            draft.lits.clear();
+            draft.word = Word::Empty;
             Ok(())
         }
         Ending::Torn => Err(CertificateFault::At(at)),
@@ -94,39 +105,55 @@ fn end_in_log(alloc: Global, log: &mut Log, open: &mut OpenClause, variables: u3
 }
 
 /// Adds a byte to the open clause's word.
-fn extend(open: &mut OpenClause, byte: u8, variables: u32, at: usize) -> Result<(), CertificateFault>
+fn extend(
+    draft: &mut OpenClause,
+    byte: u8,
+    variables: u32,
+    at: usize,
+) -> Result<(), CertificateFault>
     requires variables { variables ≤ most_variables }
-    requires word { IsSoundWord variables open.old.word }
-    ensures lits { open.new.lits.items ≡ open.old.lits.items }
-    ensures word { OnOk result (IsSoundWord variables open.new.word) }
-    ensures is { OnOk result ((clauses : List (List Literal)) → extended variables (record { clauses = clauses; lits = open.old.lits.items; word = open.old.word }) byte ≡ Some (record { clauses = clauses; lits = open.new.lits.items; word = open.new.word })) }
-    ensures fault { (b : ℕ) → IsErrOf result (CertificateFault.At b) → (b ≡ at) × ((clauses : List (List Literal)) → extended variables (record { clauses = clauses; lits = open.old.lits.items; word = open.old.word }) byte ≡ None) }
+    requires word { IsSoundWord variables draft.old.word }
+    ensures lits { draft.new.lits.items ≡ draft.old.lits.items }
+    ensures word { OnOk result (IsSoundWord variables draft.new.word) }
+    ensures is { OnOk result ((clauses : List (List Literal)) → extended variables (record { clauses = clauses; lits = draft.old.lits.items; word = draft.old.word }) byte ≡ Some (record { clauses = clauses; lits = draft.new.lits.items; word = draft.new.word })) }
+    ensures fault { (b : ℕ) → IsErrOf result (CertificateFault.At b) → (b ≡ at) × ((clauses : List (List Literal)) → extended variables (record { clauses = clauses; lits = draft.old.lits.items; word = draft.old.word }) byte ≡ None) }
 {
-    match typed(open.word, byte, variables) {
+    match typed(draft.word, byte, variables) {
         None => Err(CertificateFault::At(at)),
         Some(word) => {
-            open.word = word;
+            draft.word = word;
             Ok(())
         }
     }
 }
 
 /// Reads a byte of a line of the clause set that is no comment: where the line was read up to then.
-fn read_in_line(alloc: Global, cnf: &mut Cnf, open: &mut OpenClause, count: u32, byte: u8, at: usize) -> Result<Spot, CertificateFault>
+fn read_in_line(
+    alloc: Global,
+    cnf: &mut Cnf,
+    draft: &mut OpenClause,
+    count: u32,
+    byte: u8,
+    at: usize,
+) -> Result<Spot, CertificateFault>
     requires variables { cnf.old.variables ≤ most_variables }
-    requires lits { IsBelow cnf.old.variables open.old.lits.items }
-    requires word { IsSoundWord cnf.old.variables open.old.word }
+    requires lits { IsBelow cnf.old.variables draft.old.lits.items }
+    requires word { IsSoundWord cnf.old.variables draft.old.word }
     ensures variables { OnOk result (cnf.new.variables ≡ cnf.old.variables) }
-    ensures lits { OnOk result (IsBelow cnf.old.variables open.new.lits.items) }
-    ensures word { OnOk result (IsSoundWord cnf.old.variables open.new.word) }
-    ensures is { IfOk result (λ spot. in_line cnf.old.variables count (record { clauses = cnf.old.clauses; lits = open.old.lits.items; word = open.old.word }) byte ≡ Some (Setting cnf.old.variables count spot (record { clauses = cnf.new.clauses; lits = open.new.lits.items; word = open.new.word }))) }
-    ensures fault { (b : ℕ) → IsErrOf result (CertificateFault.At b) → (b ≡ at) × (in_line cnf.old.variables count (record { clauses = cnf.old.clauses; lits = open.old.lits.items; word = open.old.word }) byte ≡ None) }
+    ensures lits { OnOk result (IsBelow cnf.old.variables draft.new.lits.items) }
+    ensures word { OnOk result (IsSoundWord cnf.old.variables draft.new.word) }
+    ensures is { IfOk result (λ spot. in_line cnf.old.variables count (record { clauses = cnf.old.clauses; lits = draft.old.lits.items; word = draft.old.word }) byte ≡ Some (Setting cnf.old.variables count spot (record { clauses = cnf.new.clauses; lits = draft.new.lits.items; word = draft.new.word }))) }
+    ensures fault { (b : ℕ) → IsErrOf result (CertificateFault.At b) → (b ≡ at) × (in_line cnf.old.variables count (record { clauses = cnf.old.clauses; lits = draft.old.lits.items; word = draft.old.word }) byte ≡ None) }
 {
     if is_blank(byte) {
-        end_in_set(alloc, cnf, open, at)?;
-        if byte == b'\n' { Ok(Spot::First) } else { Ok(Spot::Inside) }
+        end_in_set(alloc, cnf, draft, at)?;
+        if byte == b'\n' {
+            Ok(Spot::First)
+        } else {
+            Ok(Spot::Inside)
+        }
     } else if cnf.len() < count as usize {
-        extend(open, byte, cnf.variables(), at)?;
+        extend(draft, byte, cnf.variables(), at)?;
         Ok(Spot::Inside)
     } else {
         Err(CertificateFault::At(at))
@@ -134,15 +161,23 @@ fn read_in_line(alloc: Global, cnf: &mut Cnf, open: &mut OpenClause, count: u32,
 }
 
 /// Reads a byte of the clause set.
-fn read_in_set(alloc: Global, cnf: &mut Cnf, open: &mut OpenClause, count: u32, spot: Spot, byte: u8, at: usize) -> Result<Next, CertificateFault>
+fn read_in_set(
+    alloc: Global,
+    cnf: &mut Cnf,
+    draft: &mut OpenClause,
+    count: u32,
+    spot: Spot,
+    byte: u8,
+    at: usize,
+) -> Result<Next, CertificateFault>
     requires variables { cnf.old.variables ≤ most_variables }
-    requires lits { IsBelow cnf.old.variables open.old.lits.items }
-    requires word { IsSoundWord cnf.old.variables open.old.word }
+    requires lits { IsBelow cnf.old.variables draft.old.lits.items }
+    requires word { IsSoundWord cnf.old.variables draft.old.word }
     ensures variables { OnOk result (cnf.new.variables ≡ cnf.old.variables) }
-    ensures lits { OnOk result (IsBelow cnf.old.variables open.new.lits.items) }
-    ensures word { OnOk result (IsSoundWord cnf.old.variables open.new.word) }
-    ensures is { IfOk result (λ next. in_set cnf.old.variables count spot (record { clauses = cnf.old.clauses; lits = open.old.lits.items; word = open.old.word }) byte ≡ Some (next_state cnf.old.variables count (record { clauses = cnf.new.clauses; lits = open.new.lits.items; word = open.new.word }) next)) }
-    ensures fault { (b : ℕ) → IsErrOf result (CertificateFault.At b) → (b ≡ at) × (in_set cnf.old.variables count spot (record { clauses = cnf.old.clauses; lits = open.old.lits.items; word = open.old.word }) byte ≡ None) }
+    ensures lits { OnOk result (IsBelow cnf.old.variables draft.new.lits.items) }
+    ensures word { OnOk result (IsSoundWord cnf.old.variables draft.new.word) }
+    ensures is { IfOk result (λ next. in_set cnf.old.variables count spot (record { clauses = cnf.old.clauses; lits = draft.old.lits.items; word = draft.old.word }) byte ≡ Some (next_state cnf.old.variables count (record { clauses = cnf.new.clauses; lits = draft.new.lits.items; word = draft.new.word }) next)) }
+    ensures fault { (b : ℕ) → IsErrOf result (CertificateFault.At b) → (b ≡ at) × (in_set cnf.old.variables count spot (record { clauses = cnf.old.clauses; lits = draft.old.lits.items; word = draft.old.word }) byte ≡ None) }
 {
     match spot {
         Spot::Comment => {
@@ -153,7 +188,7 @@ fn read_in_set(alloc: Global, cnf: &mut Cnf, open: &mut OpenClause, count: u32, 
             }
         }
         Spot::Inside => {
-            let spot = read_in_line(alloc, cnf, open, count, byte, at)?;
+            let spot = read_in_line(alloc, cnf, draft, count, byte, at)?;
             Ok(Next::On(spot))
         }
         Spot::First => {
@@ -163,14 +198,20 @@ fn read_in_set(alloc: Global, cnf: &mut Cnf, open: &mut OpenClause, count: u32, 
             if byte == b'l' && cnf.len() == count as usize {
                 return Ok(Next::Ends);
             }
-            let spot = read_in_line(alloc, cnf, open, count, byte, at)?;
+            let spot = read_in_line(alloc, cnf, draft, count, byte, at)?;
             Ok(Next::On(spot))
         }
     }
 }
 
 /// Reads the clauses of the clause set, so many, into an empty one, and the first byte of `log`: the place behind it.
-fn read_set(alloc: Global, bytes: &[u8], from: usize, count: u32, cnf: &mut Cnf) -> Result<usize, CertificateFault>
+fn read_set(
+    alloc: Global,
+    bytes: &[u8],
+    from: usize,
+    count: u32,
+    cnf: &mut Cnf,
+) -> Result<usize, CertificateFault>
     requires variables { cnf.old.variables ≤ most_variables }
     requires empty { cnf.old.clauses ≡ [] }
     requires from { IsReadTo bytes.now from (Setting cnf.old.variables count Spot.First no_draft) }
@@ -178,13 +219,13 @@ fn read_set(alloc: Global, bytes: &[u8], from: usize, count: u32, cnf: &mut Cnf)
     ensures found { IfOk result (λ at. IsReadTo bytes.now at (Keyword cnf.old.variables cnf.new.clauses (codes "og"))) }
     ensures fault { (b : ℕ) → IsErrOf result (CertificateFault.At b) → IsStuck bytes.now b }
 {
-    let mut open = OpenClause {
+    let mut draft = OpenClause {
         lits: Vec::new(alloc),
         word: Word::Empty,
     };
     let mut spot = Spot::First;
     'bytes: for at in from..bytes.len() {
-        match read_in_set(alloc, cnf, &mut open, count, spot, bytes[at], at)? {
+        match read_in_set(alloc, cnf, &mut draft, count, spot, bytes[at], at)? {
             Next::Ends => return Ok(at + 1),
             Next::On(next) => spot = next,
         }
@@ -204,17 +245,24 @@ fn keyword_end(bytes: &[u8], from: usize, cnf: &Cnf) -> Result<usize, Certificat
 }
 
 /// Reads a byte of the log.
-fn read_in_log(alloc: Global, log: &mut Log, open: &mut OpenClause, variables: u32, byte: u8, at: usize) -> Result<(), CertificateFault>
+fn read_in_log(
+    alloc: Global,
+    log: &mut Log,
+    draft: &mut OpenClause,
+    variables: u32,
+    byte: u8,
+    at: usize,
+) -> Result<(), CertificateFault>
     requires variables { variables ≤ most_variables }
-    requires word { IsSoundWord variables open.old.word }
-    ensures word { OnOk result (IsSoundWord variables open.new.word) }
-    ensures is { OnOk result ((clauses : List (List Literal)) → step (Logging variables clauses (record { clauses = log.old; lits = open.old.lits.items; word = open.old.word })) byte ≡ Some (Logging variables clauses (record { clauses = log.new; lits = open.new.lits.items; word = open.new.word }))) }
-    ensures fault { (b : ℕ) → IsErrOf result (CertificateFault.At b) → (b ≡ at) × ((clauses : List (List Literal)) → step (Logging variables clauses (record { clauses = log.old; lits = open.old.lits.items; word = open.old.word })) byte ≡ None) }
+    requires word { IsSoundWord variables draft.old.word }
+    ensures word { OnOk result (IsSoundWord variables draft.new.word) }
+    ensures is { OnOk result ((clauses : List (List Literal)) → step (Logging variables clauses (record { clauses = log.old; lits = draft.old.lits.items; word = draft.old.word })) byte ≡ Some (Logging variables clauses (record { clauses = log.new; lits = draft.new.lits.items; word = draft.new.word }))) }
+    ensures fault { (b : ℕ) → IsErrOf result (CertificateFault.At b) → (b ≡ at) × ((clauses : List (List Literal)) → step (Logging variables clauses (record { clauses = log.old; lits = draft.old.lits.items; word = draft.old.word })) byte ≡ None) }
 {
     if is_blank(byte) {
-        end_in_log(alloc, log, open, variables, at)
+        end_in_log(alloc, log, draft, variables, at)
     } else {
-        extend(open, byte, variables, at)
+        extend(draft, byte, variables, at)
     }
 }
 
@@ -229,16 +277,18 @@ fn read_log(alloc: Global, bytes: &[u8], from: usize, cnf: &Cnf) -> Result<Log, 
     if from >= bytes.len() {
         return Ok(log);
     }
-    let start = pass(bytes, from, b'\n')?;
-    let mut open = OpenClause {
+    if bytes[from] != b'\n' {
+        return Err(CertificateFault::At(from));
+    }
+    let mut draft = OpenClause {
         lits: Vec::new(alloc),
         word: Word::Empty,
     };
-    'bytes: for at in start..bytes.len() {
-        read_in_log(alloc, &mut log, &mut open, cnf.variables(), bytes[at], at)?;
+    'bytes: for at in from + 1..bytes.len() {
+        read_in_log(alloc, &mut log, &mut draft, cnf.variables(), bytes[at], at)?;
     }
-    end_in_log(alloc, &mut log, &mut open, cnf.variables(), bytes.len())?;
-    if open.lits.len() > 0 {
+    end_in_log(alloc, &mut log, &mut draft, cnf.variables(), bytes.len())?;
+    if draft.lits.len() > 0 {
         return Err(CertificateFault::At(bytes.len()));
     }
     Ok(log)

@@ -71,7 +71,11 @@ fn first_byte(byte: u8, variables: u32) -> Option<Word>
     ensures { result ≡ typed variables Word.Empty byte }
 {
     if byte == b'-' {
-        return if variables > 0 { Some(Word::Minus) } else { None };
+        return if variables > 0 {
+            Some(Word::Minus)
+        } else {
+            None
+        };
     }
     if byte == b'0' {
         return Some(Word::Zero);

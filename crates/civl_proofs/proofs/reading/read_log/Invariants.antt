@@ -3,6 +3,6 @@ use Rattle.civl_proofs.proofs.reading.read_log.Given as goal
 
 abbrev pub invariant-bytes : goal.invariant-bytes
 invariant-bytes l = record {
-  word : IsSoundWord l.cnf.variables l.open.word;
-  read : IsReadTo l.bytes l.at (Logging l.cnf.variables l.cnf.clauses (record { clauses = l.log; lits = l.open.lits.items; word = l.open.word }));
+  word : IsSoundWord l.cnf.variables l.draft.word;
+  read : IsReadTo l.bytes l.at (Logging l.cnf.variables l.cnf.clauses (record { clauses = l.log; lits = l.draft.lits.items; word = l.draft.word }));
 }
