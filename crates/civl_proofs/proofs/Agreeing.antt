@@ -1,26 +1,21 @@
 -- Each byte goes on with just the certificates that go on so: what is still to come before the byte is the byte, and what is still to come behind it.
-use Rattle.std.proofs.Common.{◌≡◌, ◌⊎◌, inl, inr, ℕ, ◌+◌, ◌^◌, ◌<◌, ◌≤◌, zero, suc, Bool, true, false, not, ◌&&◌, cond, List, [], ◌∷◌, ◌++◌, length, Some, None, Option, refl, sym, ap, ap₂, subst, ◌∙◌, arith, append_assoc, eqb, ltb}
+use Rattle.std.proofs.Common.{◌≡◌, inl, inr, ℕ, ◌^◌, ◌<◌, ◌≤◌, zero, suc, Bool, true, false, not, ◌&&◌, cond, List, [], ◌∷◌, ◌++◌, length, Some, None, Option, refl, sym, ap, ap₂, subst, ◌∙◌, arith, append_assoc, eqb}
 use Rattle.std.specs.Prelude.{codes, IsTrue}
 use Rattle.std.specs.Option.{option_map}
-use Rattle.std.specs.List.{flat_map, list_all}
 use Rattle.std.specs.Fmt.{decimal}
 use Rattle.std.proofs.lemmas.List.{append-nil}
 use Rattle.std.proofs.lemmas.Fmt.{decimal_injective}
-use Rattle.std.proofs.lemmas.Bool.{and_parts, and_from, and_left, cond-true, cond-false, false≢true, eqb-true, eqb-false, eq-eqb, ne_eqb, ltb-true, ltb-false, not-true, cases_Bool}
+use Rattle.std.proofs.lemmas.Bool.{and_parts, false≢true, eqb-true, eqb-false, ne_eqb, not-true}
 use Rattle.civl_cnf.specs.Literal.{Literal}
-use Rattle.civl_cnf.specs.ClauseSet.{ClauseSet, IsBelow, AreBelow}
-use Rattle.civl_proofs.specs.declared.word.Word.{Word}
-use Rattle.civl_proofs.specs.declared.word.Word.TheVariants.{Empty, Minus, Zero, Number}
-use Rattle.civl_proofs.specs.declared.reading.Spot.{Spot}
-use Rattle.civl_proofs.specs.declared.reading.Spot.TheVariants.{First, Inside, Comment}
-use Rattle.civl_proofs.specs.Text.{is_blank, is_comment, words_of, all_words, IsHeader, MayBeHeld, most_variables, most_clauses}
-use Rattle.civl_proofs.specs.Reading.{IsWithin, Draft, no_draft, ended, extended, counted, State, Opening, Remark, Title, Variables, Count, Setting, Keyword, Logging, parts_words, meets, after_title, in_title, in_variables, in_count, spot_after, in_line, in_set, in_keyword, in_log, step}
-use Rattle.civl_proofs.proofs.Words.{is_dense, HasFirstWord, words_begun}
+use Rattle.civl_cnf.specs.ClauseSet.{ClauseSet}
+use Rattle.civl_proofs.specs.declared.reading.Spot.TheVariants.{First}
+use Rattle.civl_proofs.specs.Text.{is_blank, IsHeader, most_variables, most_clauses}
+use Rattle.civl_proofs.specs.Reading.{IsWithin, no_draft, counted, State, Opening, Remark, Title, Variables, Count, Setting, parts_words, meets, after_title, in_title, in_variables, in_count, step}
+use Rattle.civl_proofs.proofs.Words.{is_dense}
 use Rattle.civl_proofs.proofs.Numbers.{digits_of, counted_some, counted_none, counted_digit, no_blank, decimal_dense, has_first}
-use Rattle.civl_proofs.proofs.Decoding.{cons_once, cons_some, later_some, small_clause, small_clauses, word_left, all_there, word_is}
-use Rattle.civl_proofs.proofs.Typing.{text_of, text_dense, typed_none}
-use Rattle.civl_proofs.proofs.Drafting.{words_read, IsSoundDraft, no_draft_sound, HasRoom, IsEnded, ended_some, torn_blank, torn_end, IsExtended, extended_some, no_word_more}
-use Rattle.civl_proofs.proofs.Resting.{body_words, IsSetRest, IsOpeningRest, IsNumbersRest, fits, IsTitleRest, IsSpotRest, IsRest, is_one_line, IsSoundTitle, IsEmptyAt, IsSoundSet, IsSoundKeyword, IsSoundLog, IsSound, SetCase, ends_set, passes_by, goes_on, set_case, rest_of_log, rest_of_comment, rest_of_line, OpeningCase, remarks, heads, opening_case, rest_of_remark, rest_of_header}
+use Rattle.civl_proofs.proofs.Decoding.{cons_once, cons_some, later_some}
+use Rattle.civl_proofs.proofs.Drafting.{no_draft_sound, HasRoom}
+use Rattle.civl_proofs.proofs.Resting.{IsSetRest, IsOpeningRest, IsNumbersRest, fits, IsTitleRest, IsRest, is_one_line, IsSoundTitle, IsSound, OpeningCase, remarks, heads, opening_case, rest_of_remark, rest_of_header}
 
 -- There is no next state, and nothing goes on so; or there is one, and just what goes on from there goes on so.
 abbrev pub Agrees : Option State → Type 0 → (State → Type 0) → Type 0

@@ -1,11 +1,11 @@
 -- What is answered where a text was read whole, or reading stopped.
-use Rattle.std.proofs.Common.{◌≡◌, ◌⊎◌, inl, inr, ℕ, List, Ok, Err, Result, refl, sym, ap, subst, ◌∙◌}
-use Rattle.std.specs.Prelude.{IsErrOf, MatchResult}
+use Rattle.std.proofs.Common.{◌≡◌, ◌⊎◌, inl, inr, ℕ, List, Ok, Err, Result, refl, ap}
+use Rattle.std.specs.Prelude.{IsErrOf}
 use Rattle.civl_cnf.specs.Literal.{Literal}
 use Rattle.civl_cnf.specs.ClauseSet.{ClauseSet}
 use Rattle.civl_proofs.specs.declared.fault.CertificateFault.{CertificateFault}
 use Rattle.civl_proofs.specs.declared.fault.CertificateFault.TheVariants.{At, Memory}
-use Rattle.civl_proofs.specs.Text.{IsCertificate, IsFirstFault, IsWhole}
+use Rattle.civl_proofs.specs.Text.{IsCertificate, IsFirstFault}
 use Rattle.civl_proofs.specs.Reading.{Opening, Certificate, outcome, IsReadAs, IsStuck}
 use Rattle.civl_proofs.proofs.Outcomes.{certificate_read, read_certificate, read_fault, one_answer, ok_once, made}
 

@@ -1,18 +1,18 @@
 -- The canonical text is a certificate.
-use Rattle.std.proofs.Common.{◌≡◌, ◌⊎◌, inl, inr, ℕ, ◌+◌, ◌^◌, ◌<◌, ◌≤◌, zero, suc, Bool, true, false, not, cond, ◌&&◌, List, [], ◌∷◌, ◌++◌, length, map, refl, sym, ap, ap₂, subst, ◌∙◌, arith, append_assoc, eqb}
-use Rattle.std.specs.Prelude.{codes, filter, All}
+use Rattle.std.proofs.Common.{◌≡◌, ℕ, ◌+◌, ◌^◌, ◌<◌, Bool, true, false, not, List, [], ◌∷◌, ◌++◌, length, map, refl, sym, ap, ap₂, subst, ◌∙◌, arith, append_assoc, eqb}
+use Rattle.std.specs.Prelude.{codes}
 use Rattle.std.specs.Fmt.{decimal}
-use Rattle.std.specs.List.{flat_map, list_all, slice_split}
+use Rattle.std.specs.List.{flat_map}
 use Rattle.std.proofs.lemmas.List.{append-nil}
 use Rattle.std.proofs.lemmas.List.Concat.{flat_map-append}
 use Rattle.std.proofs.lemmas.List.Elements.{All-head, All-tail}
-use Rattle.std.proofs.lemmas.Bool.{and_parts, and_from, cond-true, cond-false, eqb-true, ne_eqb, false_from_ne_true, not_from_false, not-true, false≢true}
+use Rattle.std.proofs.lemmas.Bool.{and_parts, and_from, cond-true, eqb-true, ne_eqb, false_from_ne_true, not_from_false, not-true, false≢true}
 use Rattle.civl_cnf.specs.Literal.{Literal}
-use Rattle.civl_cnf.specs.ClauseSet.{ClauseSet, IsBelow, AreBelow}
-use Rattle.civl_proofs.specs.Text.{is_blank, is_comment, words_of, lines_of, sign_of, literal_word, clause_words, all_words, clause_line, clause_lines, canonical, MayBeHeld, IsCertificate}
+use Rattle.civl_cnf.specs.ClauseSet.{ClauseSet}
+use Rattle.civl_proofs.specs.Text.{is_blank, is_comment, words_of, lines_of, sign_of, literal_word, clause_words, all_words, clause_line, clause_lines, canonical, MayBeHeld}
 use Rattle.civl_proofs.specs.Laws.{CanonicalIsRead}
-use Rattle.civl_proofs.proofs.Words.{is_dense, onto_parts, words_whole, words_ended}
-use Rattle.civl_proofs.proofs.Numbers.{HasFirst, has_first, decimal_dense}
+use Rattle.civl_proofs.proofs.Words.{is_dense, onto_parts, words_ended}
+use Rattle.civl_proofs.proofs.Numbers.{has_first, decimal_dense}
 use Rattle.civl_proofs.proofs.Decoding.{AreSmall, AllSmall, small_clauses}
 use Rattle.civl_proofs.proofs.Resting.{body_words, is_one_line}
 

@@ -1,9 +1,8 @@
 -- Drafts: clauses that are read word by word.
-use Rattle.std.proofs.Common.{◌≡◌, ◌⊎◌, inl, inr, ℕ, ◌+◌, ◌-◌, ◌^◌, ◌<◌, ◌≤◌, zero, suc, Bool, true, false, List, [], ◌∷◌, ◌++◌, length, map, Some, None, Option, refl, sym, ap, subst, ◌∙◌, arith, append_assoc, length-append}
+use Rattle.std.proofs.Common.{◌≡◌, ◌⊎◌, inl, inr, ℕ, ◌+◌, ◌-◌, ◌^◌, ◌<◌, Bool, true, false, List, [], ◌∷◌, ◌++◌, length, map, Some, None, Option, refl, sym, ap, subst, ◌∙◌, arith, append_assoc, length-append}
 use Rattle.std.specs.Prelude.{codes}
 use Rattle.std.specs.Option.{option_map}
 use Rattle.std.specs.Fmt.{decimal}
-use Rattle.std.specs.List.{flat_map}
 use Rattle.std.proofs.lemmas.Bool.{cases_lt}
 use Rattle.std.proofs.lemmas.List.{append-nil, map-append}
 use Rattle.std.proofs.lemmas.List.Concat.{flat_map-append}
@@ -16,8 +15,8 @@ use Rattle.civl_proofs.specs.Text.{is_blank, sign_of, literal_word, clause_words
 use Rattle.civl_proofs.specs.Reading.{IsSoundWord, Draft, no_draft, literal, typed, ended, ended_as, extended}
 use Rattle.civl_proofs.proofs.Words.{is_dense, words_blank, words_whole, words_ended}
 use Rattle.civl_proofs.proofs.Numbers.{HasFirst, has_first, decimal_dense}
-use Rattle.civl_proofs.proofs.Decoding.{spelled, IsWord, word_is}
-use Rattle.civl_proofs.proofs.Typing.{text_of, text_dense, IsTyped, typed_some, minus_no_word}
+use Rattle.civl_proofs.proofs.Decoding.{spelled, word_is}
+use Rattle.civl_proofs.proofs.Typing.{text_of, typed_some, minus_no_word}
 
 -- the words of a draft that were read whole
 abbrev pub words_read : Draft → List (List ℕ)

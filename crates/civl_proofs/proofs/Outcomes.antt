@@ -1,10 +1,10 @@
 -- What a text is read as: just the certificate that it is, or its first fault.
-use Rattle.std.proofs.Common.{◌≡◌, ◌⊎◌, inl, inr, ⊎_elim, ℕ, ◌+◌, ◌-◌, ◌<◌, ◌≤◌, zero, suc, List, [], ◌∷◌, ◌++◌, length, take, drop, Some, None, Option, Result, Ok, Err, refl, sym, ap, ap₂, subst, ◌∙◌, arith, append_assoc, eqb}
+use Rattle.std.proofs.Common.{◌≡◌, ◌⊎◌, inl, inr, ℕ, ◌+◌, ◌<◌, ◌≤◌, suc, List, [], ◌∷◌, ◌++◌, length, take, drop, Some, None, Option, Result, Ok, Err, refl, sym, ap, ap₂, subst, ◌∙◌, arith, append_assoc, eqb}
 use Rattle.std.proofs.lemmas.Bool.{cases_order}
 use Rattle.std.proofs.lemmas.List.{take-append-drop, take-take}
 use Rattle.civl_cnf.specs.Literal.{Literal}
 use Rattle.civl_cnf.specs.ClauseSet.{ClauseSet}
-use Rattle.civl_proofs.specs.Text.{lines_of, MayBeHeld, IsCertificate, IsWhole, BeginsWhole, IsFirstFault}
+use Rattle.civl_proofs.specs.Text.{MayBeHeld, IsCertificate, IsWhole, BeginsWhole, IsFirstFault}
 use Rattle.civl_proofs.specs.Laws.{OneReading, OneAnswer}
 use Rattle.civl_proofs.specs.Reading.{State, Opening, step, end, Certificate, at_end, on_state, outcome}
 use Rattle.civl_proofs.proofs.Words.{parted}

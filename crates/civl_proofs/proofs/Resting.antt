@@ -1,20 +1,19 @@
 -- What is still to come of a certificate behind a state: the rest of a line, and the lines behind it.
-use Rattle.std.proofs.Common.{◌≡◌, ◌⊎◌, inl, inr, ℕ, ◌+◌, ◌^◌, ◌<◌, ◌≤◌, Bool, true, false, not, ◌&&◌, cond, List, [], ◌∷◌, ◌++◌, length, Some, None, Option, refl, sym, ap, subst, ◌∙◌, arith, append_assoc, eqb}
+use Rattle.std.proofs.Common.{◌≡◌, ℕ, ◌≤◌, Bool, true, false, not, cond, List, [], ◌∷◌, ◌++◌, length, refl, sym, ap, subst, ◌∙◌, append_assoc, eqb}
 use Rattle.std.specs.Prelude.{codes, filter, IsTrue}
 use Rattle.std.specs.List.{flat_map, list_all}
 use Rattle.std.specs.Fmt.{decimal}
 use Rattle.std.proofs.lemmas.List.{append-nil}
-use Rattle.std.proofs.lemmas.Bool.{and_parts, and_from, cond-true, cond-false, false≢true}
+use Rattle.std.proofs.lemmas.Bool.{and_parts, and_from, cond-true, cond-false}
 use Rattle.civl_cnf.specs.Literal.{Literal}
-use Rattle.civl_cnf.specs.ClauseSet.{ClauseSet, IsBelow, AreBelow}
-use Rattle.civl_proofs.specs.declared.word.Word.{Word}
-use Rattle.civl_proofs.specs.declared.word.Word.TheVariants.{Empty, Minus, Zero, Number}
+use Rattle.civl_cnf.specs.ClauseSet.{ClauseSet, AreBelow}
+use Rattle.civl_proofs.specs.declared.word.Word.TheVariants.{Empty}
 use Rattle.civl_proofs.specs.declared.reading.Spot.{Spot}
 use Rattle.civl_proofs.specs.declared.reading.Spot.TheVariants.{First, Inside, Comment}
-use Rattle.civl_proofs.specs.Text.{is_blank, is_comment, words_of, lines_of, literal_word, all_words, IsHeader, MayBeHeld, IsCertificate, most_variables, most_clauses}
-use Rattle.civl_proofs.specs.Reading.{IsWithin, Draft, no_draft, State, Opening, Remark, Title, Variables, Count, Setting, Keyword, Logging}
+use Rattle.civl_proofs.specs.Text.{is_blank, is_comment, words_of, lines_of, all_words, IsHeader, MayBeHeld, IsCertificate, most_variables, most_clauses}
+use Rattle.civl_proofs.specs.Reading.{IsWithin, Draft, State, Opening, Remark, Title, Variables, Count, Setting, Keyword, Logging}
 use Rattle.civl_proofs.proofs.Numbers.{digits_of}
-use Rattle.civl_proofs.proofs.Decoding.{cons_once, cons_some, later_some}
+use Rattle.civl_proofs.proofs.Decoding.{cons_once}
 use Rattle.civl_proofs.proofs.Typing.{text_of}
 use Rattle.civl_proofs.proofs.Drafting.{words_read, IsSoundDraft, HasRoom}
 

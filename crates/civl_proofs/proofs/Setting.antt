@@ -1,24 +1,24 @@
 -- The same behind the header: the lines of the clause set, `log`, and the lines of the log.
-use Rattle.std.proofs.Common.{◌≡◌, ◌⊎◌, inl, inr, ℕ, ◌+◌, ◌^◌, ◌<◌, ◌≤◌, zero, suc, Bool, true, false, not, ◌&&◌, cond, List, [], ◌∷◌, ◌++◌, length, Some, None, Option, refl, sym, ap, ap₂, subst, ◌∙◌, arith, append_assoc, eqb, ltb}
-use Rattle.std.specs.Prelude.{codes, IsTrue}
+use Rattle.std.proofs.Common.{◌≡◌, inl, inr, ℕ, ◌<◌, ◌≤◌, Bool, true, false, not, ◌&&◌, cond, List, [], ◌∷◌, ◌++◌, length, Some, None, refl, sym, ap, ap₂, subst, ◌∙◌, arith, append_assoc, eqb, ltb}
+use Rattle.std.specs.Prelude.{codes}
 use Rattle.std.specs.Option.{option_map}
-use Rattle.std.specs.List.{flat_map, list_all}
+use Rattle.std.specs.List.{flat_map}
 use Rattle.std.proofs.lemmas.List.{append-nil}
-use Rattle.std.proofs.lemmas.Bool.{and_parts, and_from, false≢true, eqb-true, eqb-false, eq-eqb, ne_eqb, ltb-true, ltb-false, not-true}
+use Rattle.std.proofs.lemmas.Bool.{and_parts, and_from, false≢true, eqb-true, eqb-false, eq-eqb, ltb-true, ltb-false, not-true}
 use Rattle.civl_cnf.specs.Literal.{Literal}
-use Rattle.civl_cnf.specs.ClauseSet.{ClauseSet, IsBelow, AreBelow}
+use Rattle.civl_cnf.specs.ClauseSet.{ClauseSet, AreBelow}
 use Rattle.civl_proofs.specs.declared.word.Word.{Word}
-use Rattle.civl_proofs.specs.declared.word.Word.TheVariants.{Empty, Minus, Zero, Number}
+use Rattle.civl_proofs.specs.declared.word.Word.TheVariants.{Empty}
 use Rattle.civl_proofs.specs.declared.reading.Spot.{Spot}
 use Rattle.civl_proofs.specs.declared.reading.Spot.TheVariants.{First, Inside, Comment}
-use Rattle.civl_proofs.specs.Text.{is_blank, is_comment, words_of, all_words, MayBeHeld, most_variables, most_clauses}
-use Rattle.civl_proofs.specs.Reading.{Draft, no_draft, ended, extended, State, Opening, Remark, Title, Variables, Count, Setting, Keyword, Logging, spot_after, in_line, in_set, in_keyword, in_log, step}
-use Rattle.civl_proofs.proofs.Words.{is_dense, HasFirstWord, words_begun}
+use Rattle.civl_proofs.specs.Text.{is_blank, words_of, all_words, MayBeHeld, most_variables}
+use Rattle.civl_proofs.specs.Reading.{Draft, no_draft, ended, extended, Setting, Keyword, Logging, spot_after, in_line, in_set, in_keyword, in_log}
+use Rattle.civl_proofs.proofs.Words.{words_begun}
 use Rattle.civl_proofs.proofs.Numbers.{no_blank}
-use Rattle.civl_proofs.proofs.Decoding.{cons_once, cons_some, later_some, small_clause, small_clauses, word_left, all_there, word_is}
+use Rattle.civl_proofs.proofs.Decoding.{cons_once, cons_some, small_clause, small_clauses, word_left, all_there, word_is}
 use Rattle.civl_proofs.proofs.Typing.{text_of, text_dense, typed_none}
-use Rattle.civl_proofs.proofs.Drafting.{words_read, IsSoundDraft, no_draft_sound, HasRoom, IsEnded, ended_some, torn_blank, torn_end, IsExtended, extended_some, no_word_more}
-use Rattle.civl_proofs.proofs.Resting.{body_words, IsSetRest, IsSpotRest, IsRest, is_one_line, IsEmptyAt, IsSoundSet, IsSoundKeyword, IsSoundLog, IsSound, SetCase, ends_set, passes_by, goes_on, set_case, rest_of_log, rest_of_comment, rest_of_line}
+use Rattle.civl_proofs.proofs.Drafting.{words_read, IsSoundDraft, no_draft_sound, HasRoom, IsEnded, ended_some, torn_blank, torn_end, extended_some, no_word_more}
+use Rattle.civl_proofs.proofs.Resting.{body_words, IsSetRest, IsRest, is_one_line, IsSoundSet, IsSoundKeyword, IsSoundLog, SetCase, ends_set, passes_by, goes_on, set_case, rest_of_log, rest_of_comment, rest_of_line}
 use Rattle.civl_proofs.proofs.Agreeing.{Agrees, agrees_if, agrees_map, agrees_from, small}
 
 -- ---- a draft and a byte

@@ -1,22 +1,22 @@
 -- One byte, or the end: what goes on from a state.
-use Rattle.std.proofs.Common.{◌≡◌, ◌⊎◌, inl, inr, ℕ, ◌+◌, ◌<◌, ◌≤◌, Bool, true, false, cond, List, [], ◌∷◌, ◌++◌, length, Some, None, Option, refl, sym, ap, ap₂, subst, ◌∙◌, arith, eqb}
+use Rattle.std.proofs.Common.{◌≡◌, ℕ, Bool, true, false, cond, List, [], ◌∷◌, ◌++◌, length, Some, None, Option, refl, sym, ap, ap₂, subst, ◌∙◌, eqb}
 use Rattle.std.specs.Prelude.{codes}
 use Rattle.std.specs.Option.{option_map}
-use Rattle.std.specs.List.{flat_map, slice_split, onto_first}
+use Rattle.std.specs.List.{onto_first}
 use Rattle.std.proofs.lemmas.List.{append-nil, nil_from_length}
-use Rattle.std.proofs.lemmas.Bool.{cond-true, cond-false, eqb-true, eq-eqb, false≢true}
+use Rattle.std.proofs.lemmas.Bool.{cond-false, eqb-true, eq-eqb, false≢true}
 use Rattle.std.proofs.lemmas.List.Elements.{All-nil}
 use Rattle.civl_cnf.specs.Literal.{Literal}
 use Rattle.civl_cnf.specs.ClauseSet.{ClauseSet, IsBelow, AreBelow}
 use Rattle.civl_proofs.specs.declared.reading.Spot.{Spot}
 use Rattle.civl_proofs.specs.declared.reading.Spot.TheVariants.{First, Inside, Comment}
-use Rattle.civl_proofs.specs.Text.{words_of, lines_of, all_words, MayBeHeld, most_variables, most_clauses}
-use Rattle.civl_proofs.specs.Reading.{Draft, ended, State, Opening, Remark, Title, Variables, Count, Setting, Keyword, Logging, step, end, Certificate, whole_of, closed, closed_some, at_keyword_end}
-use Rattle.civl_proofs.proofs.Words.{IsParted, parted}
+use Rattle.civl_proofs.specs.Text.{words_of, lines_of, all_words, MayBeHeld}
+use Rattle.civl_proofs.specs.Reading.{Draft, ended, State, Opening, Remark, Title, Variables, Count, Setting, Keyword, Logging, step, end, Certificate, whole_of, closed_some, at_keyword_end}
+use Rattle.civl_proofs.proofs.Words.{parted}
 use Rattle.civl_proofs.proofs.Decoding.{cons_once, cons_some, later_some}
 use Rattle.civl_proofs.proofs.Typing.{text_of}
-use Rattle.civl_proofs.proofs.Drafting.{words_read, IsSoundDraft, IsEnded, ended_some, torn_end}
-use Rattle.civl_proofs.proofs.Resting.{IsSetRest, IsOpeningRest, IsRest, IsSoundTitle, IsSoundSet, IsSoundLog, IsSoundKeyword, IsSound, SetCase, ends_set, passes_by, goes_on, set_case}
+use Rattle.civl_proofs.proofs.Drafting.{words_read, ended_some, torn_end}
+use Rattle.civl_proofs.proofs.Resting.{IsSetRest, IsRest, IsSoundTitle, IsSoundLog, IsSoundKeyword, IsSound, SetCase, ends_set, passes_by, goes_on, set_case}
 use Rattle.civl_proofs.proofs.Agreeing.{Agrees, agrees_from, small, empty_opening, opening_byte, remark_byte, title_byte, title_feed, variables_byte, variables_feed, count_byte, count_feed}
 use Rattle.civl_proofs.proofs.Setting.{draft_whole, set_byte, set_feed, keyword_byte, keyword_feed, log_byte, log_feed}
 

@@ -1,16 +1,15 @@
 -- Words of clauses, byte by byte.
-use Rattle.std.proofs.Common.{◌≡◌, ◌⊎◌, inl, inr, ℕ, ◌+◌, ◌*◌, ◌-◌, ◌^◌, ◌<◌, ◌≤◌, zero, suc, Bool, true, false, cond, not, List, [], ◌∷◌, ◌++◌, length, Some, None, Option, refl, sym, ap, subst, ◌∙◌, arith, eqb, ltb, append_assoc}
+use Rattle.std.proofs.Common.{◌≡◌, ◌⊎◌, inl, inr, ℕ, ◌+◌, ◌^◌, ◌<◌, ◌≤◌, Bool, true, false, cond, List, [], ◌∷◌, ◌++◌, Some, None, Option, refl, sym, ap, subst, ◌∙◌, arith, eqb, ltb, append_assoc}
 use Rattle.std.specs.Prelude.{codes}
 use Rattle.std.specs.Option.{option_map}
 use Rattle.std.specs.Fmt.{decimal}
-use Rattle.std.proofs.lemmas.Bool.{false≢true, eqb-true, eqb-false, ltb-true, lt-ltb, eq-eqb, and_from, not_from_false}
-use Rattle.civl_cnf.specs.Literal.{Literal}
+use Rattle.std.proofs.lemmas.Bool.{false≢true, eqb-true, eqb-false, ltb-true, lt-ltb}
 use Rattle.civl_proofs.specs.declared.word.Word.{Word}
 use Rattle.civl_proofs.specs.declared.word.Word.TheVariants.{Empty, Minus, Zero, Number}
-use Rattle.civl_proofs.specs.Text.{is_blank, sign_of, literal_word}
+use Rattle.civl_proofs.specs.Text.{sign_of}
 use Rattle.civl_proofs.specs.Reading.{with_digit, begun, typed, IsSoundWord}
 use Rattle.civl_proofs.proofs.Words.{is_dense}
-use Rattle.civl_proofs.proofs.Numbers.{IsOneMore, one_more, more_text, first_text, digit_fits, first_fits, cond_split, HasFirst, has_first, no_blank, decimal_dense}
+use Rattle.civl_proofs.proofs.Numbers.{one_more, more_text, first_text, digit_fits, first_fits, cond_split, has_first, decimal_dense}
 use Rattle.civl_proofs.proofs.Decoding.{IsWord, cons_once, cons_some, later_some, no_minus}
 
 -- what was read of the word

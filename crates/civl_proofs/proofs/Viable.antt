@@ -1,20 +1,20 @@
 -- Behind each state that is reached some certificate goes on.
-use Rattle.std.proofs.Common.{◌≡◌, ◌⊎◌, inl, inr, ℕ, ◌+◌, ◌*◌, ◌-◌, ◌<◌, ◌≤◌, zero, suc, Bool, true, false, cond, List, [], ◌∷◌, ◌++◌, length, Some, None, Option, refl, sym, ap, ap₂, subst, ◌∙◌, arith, eqb, ltb, leb, length-append}
+use Rattle.std.proofs.Common.{◌≡◌, inl, inr, ℕ, ◌+◌, ◌-◌, ◌<◌, zero, suc, Bool, true, false, cond, List, [], ◌∷◌, ◌++◌, length, Some, None, Option, refl, sym, ap, subst, ◌∙◌, arith, eqb, leb, length-append}
 use Rattle.std.specs.Prelude.{codes}
 use Rattle.std.specs.Option.{option_map}
 use Rattle.std.proofs.lemmas.Bool.{eqb-true, eq-eqb, lt-ltb, le-leb}
 use Rattle.std.proofs.lemmas.List.Elements.{All-nil}
 use Rattle.civl_cnf.specs.Literal.{Literal}
-use Rattle.civl_cnf.specs.ClauseSet.{ClauseSet, IsBelow, AreBelow}
+use Rattle.civl_cnf.specs.ClauseSet.{ClauseSet, IsBelow}
 use Rattle.civl_proofs.specs.declared.word.Word.{Word}
 use Rattle.civl_proofs.specs.declared.word.Word.TheVariants.{Empty, Minus, Zero, Number}
 use Rattle.civl_proofs.specs.declared.reading.Spot.{Spot}
 use Rattle.civl_proofs.specs.declared.reading.Spot.TheVariants.{First, Inside, Comment}
-use Rattle.civl_proofs.specs.Text.{MayBeHeld, most_variables, most_clauses}
-use Rattle.civl_proofs.specs.Reading.{Draft, no_draft, literal, State, Opening, Remark, Title, Variables, Count, Setting, Keyword, Logging, parts_words, meets, after_title, in_line, step, end, Certificate, whole_of}
+use Rattle.civl_proofs.specs.Text.{MayBeHeld}
+use Rattle.civl_proofs.specs.Reading.{Draft, no_draft, literal, State, Opening, Remark, Title, Variables, Count, Setting, Keyword, Logging, parts_words, meets, in_line, step, end, Certificate, whole_of}
 use Rattle.civl_proofs.proofs.Drafting.{HasRoom}
 use Rattle.civl_proofs.proofs.Decoding.{cons_some}
-use Rattle.civl_proofs.proofs.Resting.{IsRest, IsSound, IsSoundTitle, IsSoundSet, IsSoundLog, IsSoundKeyword}
+use Rattle.civl_proofs.proofs.Resting.{IsRest, IsSound}
 use Rattle.civl_proofs.proofs.Agreeing.{Agrees}
 use Rattle.civl_proofs.proofs.Steps.{IsRestOf, agrees, Closes, closes_at}
 

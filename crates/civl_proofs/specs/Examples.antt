@@ -1,5 +1,5 @@
 -- Worked examples of certificates, and of first faults.
-use Rattle.std.specs.Prelude.{List, [], ◌∷◌, ◌++◌, true, false, codes}
+use Rattle.std.specs.Prelude.{[], ◌∷◌, ◌++◌, true, false, codes}
 use Rattle.civl_cnf.specs.Literal.{Literal}
 use Rattle.civl_proofs.specs.Text.{IsCertificate, IsFirstFault}
 

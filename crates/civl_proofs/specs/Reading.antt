@@ -1,5 +1,5 @@
 -- Serves private functions: how the code reads a certificate, one byte after the other. That it reads just the certificates of `Text`, and stops at just the first faults, is proved.
-use Rattle.std.specs.Prelude.{◌≡◌, ℕ, zero, suc, ◌+◌, ◌*◌, ◌-◌, ◌<◌, ◌≤◌, ◌&&◌, drop, Bool, true, false, not, nat_eq, nat_lt, nat_le, if◌then◌else◌, List, [], ◌∷◌, ◌++◌, length, map, codes, decimal, Option, None, Some, Result, Ok, Err}
+use Rattle.std.specs.Prelude.{◌≡◌, ℕ, ◌+◌, ◌*◌, ◌-◌, ◌<◌, ◌≤◌, ◌&&◌, drop, Bool, true, false, not, nat_eq, nat_lt, nat_le, if◌then◌else◌, List, [], ◌∷◌, ◌++◌, length, codes, Option, None, Some, Result, Ok, Err}
 use Rattle.std.specs.Char.{is_ascii_digit}
 use Rattle.std.specs.Option.{option_map}
 use Rattle.civl_cnf.specs.Literal.{Literal}
@@ -12,7 +12,7 @@ use Rattle.civl_proofs.specs.declared.reading.Next.{Next}
 use Rattle.civl_proofs.specs.declared.reading.Next.TheVariants.{On, Ends}
 use Rattle.civl_proofs.specs.declared.reading.Spot.{Spot}
 use Rattle.civl_proofs.specs.declared.reading.Spot.TheVariants.{First, Inside, Comment}
-use Rattle.civl_proofs.specs.Text.{is_blank, sign_of, literal_word, all_words, most_variables, most_clauses}
+use Rattle.civl_proofs.specs.Text.{is_blank, most_variables, most_clauses}
 
 -- the value with one digit more, if it is within the limit
 abbrev pub with_digit : ℕ → ℕ → ℕ → Option ℕ

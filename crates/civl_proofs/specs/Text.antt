@@ -2,7 +2,7 @@
 use Rattle.std.specs.Prelude.{◌≡◌, ◌⊎◌, ℕ, ◌+◌, ◌<◌, ◌≤◌, ◌||◌, Bool, true, false, not, nat_eq, if◌then◌else◌, IsTrue, List, [], ◌∷◌, ◌++◌, length, take, map, filter, codes, decimal}
 use Rattle.std.specs.List.{list_all, flat_map, slice_split}
 use Rattle.civl_cnf.specs.Literal.{Literal}
-use Rattle.civl_cnf.specs.ClauseSet.{ClauseSet, IsBelow, AreBelow}
+use Rattle.civl_cnf.specs.ClauseSet.{ClauseSet, AreBelow}
 
 -- a tab, a line feed, a carriage return or a space
 abbrev pub is_blank : ℕ → Bool
