@@ -12,3 +12,4 @@ pub mod Outcomes
 pub mod Standing
 pub mod Answering
 pub mod Canonical
+pub mod Leaving

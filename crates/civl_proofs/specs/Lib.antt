@@ -1,4 +1,5 @@
 pub mod Text
 pub mod Reading
+pub mod Lean
 pub mod Laws
 pub mod Examples

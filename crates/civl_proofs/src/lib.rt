@@ -6,10 +6,12 @@ mod heading;
 pub mod laws;
 mod memory;
 mod reading;
+mod trimming;
 mod word;
 mod writing;
 
 pub use fault::CertificateFault;
 pub use memory::Memory;
 pub use reading::read_certificate;
+pub use trimming::trim;
 pub use writing::certificate;

@@ -16,3 +16,15 @@ impl<T: Drop> From<AllocFailed<T>> for Memory {
         Memory
     }
 }
+
+impl From<civl_cnf::Memory> for Memory {
+    fn from(_wanting: civl_cnf::Memory) -> Memory {
+        Memory
+    }
+}
+
+impl From<civl_rup::Memory> for Memory {
+    fn from(_wanting: civl_rup::Memory) -> Memory {
+        Memory
+    }
+}
