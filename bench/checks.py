@@ -3,7 +3,7 @@
 
 Usage: checks.py BINARY [TEXT ..]        (crates/civl/out/civl after `rt run` in crates/civl)
 
-The texts are those of bench/texts.py that have many conditions, where none is named: the spinlock of examples/, and programs of about twenty times its size. Each line that is printed: the text, the command, the seconds of the processor and by the clock (of the quickest of three runs) and how often those of the processor for the first text they are, the greatest size of the process in megabytes (at least that of this script, of which the process begins as a copy), and the last line of the report. bench/parts.py tells where the time goes.
+The texts are those of bench/texts.py that have many conditions, where none is named: the spinlock of examples/, and programs of about twenty times its size. Each line that is printed: the text, the command, the seconds of the processor and by the clock (of the quickest of three runs) and how often those of the processor for the first text they are, the greatest size of the process in megabytes (at least that of this script, of which the process begins as a copy), and the last line of the report.
 """
 import os
 import subprocess

@@ -12,19 +12,6 @@ def write(path, text):
         file.write(text)
 
 
-def closure(names):
-    """These crates and all that they stand on, by crates.txt."""
-    with open(CRATES + ".txt") as file:
-        below = {name: used.split() for name, _, used in (line.strip().partition(":") for line in file) if used}
-    found, left = [], list(names)
-    while left:
-        name = left.pop()
-        if name not in found and os.path.isdir(os.path.join(CRATES, name)):
-            found.append(name)
-            left += below.get(name, [])
-    return sorted(found)
-
-
 def crate_list(name, crates):
     """The lines of crates.txt for the crates that are copied, and one for the program, which may use them all."""
     with open(CRATES + ".txt") as file:
