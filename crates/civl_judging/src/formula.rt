@@ -5,11 +5,13 @@ ghost use Rattle.civl_tree.specs.SpellingDomain.{allows_program};
 ghost use Rattle.civl_tree.specs.rules.Rules.{Keeps};
 ghost use Rattle.civl_linear.specs.LinearRules.{linear_rules};
 ghost use Rattle.civl_linear.specs.Cuts.{all_held};
+ghost use Rattle.civl_bodies.specs.Bodies.{AreBodies};
 ghost use Rattle.civl_conditions.specs.Listed.{conditions};
 ghost use Rattle.civl_verdicts.specs.Formulas.{initial_formula, violation_formula};
 ghost use Rattle.civl_judging.specs.Made.{IsMade};
 
 use crate::memory::Memory;
+use civl_bodies::Bodies;
 use civl_conditions::Condition;
 use civl_layers::{Held, Layered};
 use civl_terms::{Id, Terms};
@@ -30,17 +32,20 @@ pub trait Makes {
     fn initial(&self, alloc: Global, src: &Layered) -> Result<Made, Memory>
         ensures { IfOk result (IsMade (initial_formula src.now)) };
 
-    /// The term of the formula that values violate a condition of the program's list. `held` has what is held at each cut.
+    /// The term of the formula that values violate a condition of the program's list. `held` has what is held at each cut, and
+    /// `bodies` what belongs to each procedure.
     fn violation(
         &self,
         alloc: Global,
         src: &Layered,
         held: &Held,
+        bodies: &Bodies<'_>,
         condition: &Condition,
     ) -> Result<Made, Memory>
         requires written { IsTrue (allows_program src.now) }
         requires linear { Keeps linear_rules src.now }
         requires held { held.now.cuts ≡ all_held src.now }
+        requires bodies { AreBodies src.now bodies.now }
         requires listed { Contains (conditions src.now) condition.now }
         ensures { IfOk result (IsMade (violation_formula src.now condition.now)) };
 }

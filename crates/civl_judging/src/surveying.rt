@@ -5,6 +5,7 @@ ghost use Rattle.civl_tree.specs.SpellingDomain.{allows_program};
 ghost use Rattle.civl_tree.specs.rules.Rules.{Keeps};
 ghost use Rattle.civl_linear.specs.LinearRules.{linear_rules};
 ghost use Rattle.civl_linear.specs.Cuts.{all_held};
+ghost use Rattle.civl_bodies.specs.Bodies.{AreBodies};
 ghost use Rattle.civl_portfolio.specs.First.{KeepsFirst};
 ghost use Rattle.civl_conditions.specs.Listed.{conditions};
 ghost use Rattle.civl_conditions.specs.Weights.{weight, weight_limit, heavy};
@@ -16,6 +17,7 @@ ghost use Rattle.civl_judging.specs.Searches.{SurveyedBy};
 use crate::formula::Makes;
 use crate::memory::Memory;
 use crate::verifying::{decide_initial, decide_violation};
+use civl_bodies::{Bodies, bodies_of};
 use civl_conditions::Condition;
 use civl_decide::Decision;
 use civl_layers::{Held, Layered};
@@ -31,6 +33,7 @@ fn find<M: Makes>(
     makes: &M,
     src: &Layered,
     held: &Held,
+    bodies: &Bodies<'_>,
     condition: &Condition,
     provers: &mut Vec<Box<dyn Prover>>,
     budget: u32,
@@ -38,12 +41,13 @@ fn find<M: Makes>(
     requires written { IsTrue (allows_program src.now) }
     requires linear { Keeps linear_rules src.now }
     requires held { held.now.cuts ≡ all_held src.now }
+    requires bodies { AreBodies src.now bodies.now }
     requires listed { Contains (conditions src.now) condition.now }
     requires light { weight src.now condition.now ≤ weight_limit }
     ensures found { IfOk result (IsFound src.now budget condition.now) }
     ensures asked { IfOk result (λ found. WasAsked provers.old.items provers.new.items budget (record { asked = asked; lacks = lacks; honest = honest; plan = plan })) }
 {
-    match decide_violation(alloc, makes, src, held, condition, provers, budget)? {
+    match decide_violation(alloc, makes, src, held, bodies, condition, provers, budget)? {
         Decision::Never => Ok(Found::Holds),
         Decision::At(values) => {
             let condition = *condition;
@@ -54,6 +58,34 @@ fn find<M: Makes>(
 }
 
 /// What is found of each condition, in the order of the list.
+fn find_each<M: Makes>(
+    alloc: Global,
+    makes: &M,
+    src: &Layered,
+    held: &Held,
+    bodies: &Bodies<'_>,
+    list: &List<Condition>,
+    provers: &mut Vec<Box<dyn Prover>>,
+    budget: u32,
+) -> Result<List<Found>, Memory>
+    requires written { IsTrue (allows_program src.now) }
+    requires linear { Keeps linear_rules src.now }
+    requires held { held.now.cuts ≡ all_held src.now }
+    requires bodies { AreBodies src.now bodies.now }
+    requires listed { list.now ≡ conditions src.now }
+    requires light { heavy src.now ≡ None }
+    ensures found { IfOk result (AreFound src.now budget list.now) }
+    ensures asked { IfOk result (λ found. KeepsFirst provers.old.items provers.new.items (length list.now) (record { asked = asked; lacks = lacks; honest = honest; plan = plan })) }
+{
+    let mut findings = Vec::new(alloc);
+    for condition in list.as_slice() {
+        let found = find(alloc, makes, src, held, bodies, condition, provers, budget)?;
+        findings.push(found)?;
+    }
+    Ok(List::from_vec(findings))
+}
+
+/// The same, with the table of the program's bodies made once.
 fn find_all<M: Makes>(
     alloc: Global,
     makes: &M,
@@ -71,12 +103,9 @@ fn find_all<M: Makes>(
     ensures found { IfOk result (AreFound src.now budget list.now) }
     ensures asked { IfOk result (λ found. KeepsFirst provers.old.items provers.new.items (length list.now) (record { asked = asked; lacks = lacks; honest = honest; plan = plan })) }
 {
-    let mut findings = Vec::new(alloc);
-    for condition in list.as_slice() {
-        let found = find(alloc, makes, src, held, condition, provers, budget)?;
-        findings.push(found)?;
-    }
-    Ok(List::from_vec(findings))
+    let bodies = bodies_of(alloc, src)?;
+    let findings = find_each(alloc, makes, src, held, &bodies, list, provers, budget)?;
+    Ok(findings)
 }
 
 /// What is found of a layered program none of whose formulas weighs too much.

@@ -5,6 +5,7 @@ ghost use Rattle.civl_tree.specs.SpellingDomain.{allows_program};
 ghost use Rattle.civl_tree.specs.rules.Rules.{Keeps};
 ghost use Rattle.civl_linear.specs.LinearRules.{linear_rules};
 ghost use Rattle.civl_linear.specs.Cuts.{all_held};
+ghost use Rattle.civl_bodies.specs.Bodies.{AreBodies};
 ghost use Rattle.civl_conditions.specs.Listed.{conditions};
 ghost use Rattle.civl_conditions.specs.Weights.{weight, initial_weight, weight_limit, heavy};
 ghost use Rattle.civl_weights.specs.Heavy.{IsHeavy};
@@ -15,6 +16,7 @@ ghost use Rattle.civl_judging.specs.Searches.{Searched, SearchedOn};
 
 use crate::formula::{Made, Makes};
 use crate::memory::Memory;
+use civl_bodies::{Bodies, bodies_of};
 use civl_conditions::Condition;
 use civl_decide::{Decision, decide};
 use civl_layers::{Held, Layered};
@@ -51,6 +53,7 @@ pub(crate) fn decide_violation<M: Makes>(
     makes: &M,
     src: &Layered,
     held: &Held,
+    bodies: &Bodies<'_>,
     condition: &Condition,
     provers: &mut Vec<Box<dyn Prover>>,
     budget: u32,
@@ -58,6 +61,7 @@ pub(crate) fn decide_violation<M: Makes>(
     requires written { IsTrue (allows_program src.now) }
     requires linear { Keeps linear_rules src.now }
     requires held { held.now.cuts ≡ all_held src.now }
+    requires bodies { AreBodies src.now bodies.now }
     requires listed { Contains (conditions src.now) condition.now }
     requires light { weight src.now condition.now ≤ weight_limit }
     ensures decided { IfOk result (IsDecided budget (violation_formula src.now condition.now)) }
@@ -67,7 +71,7 @@ pub(crate) fn decide_violation<M: Makes>(
         mut terms,
         id,
         sorts,
-    } = makes.violation(alloc, src, held, condition)?;
+    } = makes.violation(alloc, src, held, bodies, condition)?;
     let decision = decide(alloc, &mut terms, id, sorts.as_slice(), provers, budget)?;
     Ok(decision)
 }
@@ -75,6 +79,40 @@ pub(crate) fn decide_violation<M: Makes>(
 /// The verdict on a layered program that has an initial store: its conditions are decided in their order, up to the first that
 /// doesn't hold or isn't decided.
 fn judge_conditions<M: Makes>(
+    alloc: Global,
+    makes: &M,
+    src: &Layered,
+    held: &Held,
+    bodies: &Bodies<'_>,
+    list: &List<Condition>,
+    provers: &mut Vec<Box<dyn Prover>>,
+    budget: u32,
+) -> Result<Verdict, Memory>
+    requires written { IsTrue (allows_program src.now) }
+    requires linear { Keeps linear_rules src.now }
+    requires held { held.now.cuts ≡ all_held src.now }
+    requires bodies { AreBodies src.now bodies.now }
+    requires listed { list.now ≡ conditions src.now }
+    requires light { heavy src.now ≡ None }
+    requires initial { HasInitial src.now }
+    ensures verdict { IfOk result (IsVerdict src.now budget) }
+    ensures searched { IfOk result (λ verdict. SearchedOn src.now verdict provers.old.items provers.new.items (record { asked = asked; lacks = lacks; honest = honest; plan = plan })) }
+{
+    for condition in list.as_slice() {
+        match decide_violation(alloc, makes, src, held, bodies, condition, provers, budget)? {
+            Decision::Never => {}
+            Decision::At(values) => {
+                let condition = *condition;
+                return Ok(Verdict::Rejected(Counter { condition, values }));
+            }
+            Decision::Spent(log) => return Ok(Verdict::Undecided(Some(*condition), log)),
+        }
+    }
+    Ok(Verdict::Accepted(list.len()))
+}
+
+/// The same, with the table of the program's bodies made once.
+fn judge_all<M: Makes>(
     alloc: Global,
     makes: &M,
     src: &Layered,
@@ -92,17 +130,9 @@ fn judge_conditions<M: Makes>(
     ensures verdict { IfOk result (IsVerdict src.now budget) }
     ensures searched { IfOk result (λ verdict. SearchedOn src.now verdict provers.old.items provers.new.items (record { asked = asked; lacks = lacks; honest = honest; plan = plan })) }
 {
-    for condition in list.as_slice() {
-        match decide_violation(alloc, makes, src, held, condition, provers, budget)? {
-            Decision::Never => {}
-            Decision::At(values) => {
-                let condition = *condition;
-                return Ok(Verdict::Rejected(Counter { condition, values }));
-            }
-            Decision::Spent(log) => return Ok(Verdict::Undecided(Some(*condition), log)),
-        }
-    }
-    Ok(Verdict::Accepted(list.len()))
+    let bodies = bodies_of(alloc, src)?;
+    let verdict = judge_conditions(alloc, makes, src, held, &bodies, list, provers, budget)?;
+    Ok(verdict)
 }
 
 /// The verdict on a layered program none of whose formulas weighs too much.
@@ -127,7 +157,7 @@ fn judge<M: Makes>(
         Decision::Never => Ok(Verdict::NoInitial),
         Decision::Spent(log) => Ok(Verdict::Undecided(None, log)),
         Decision::At(_store) => {
-            let verdict = judge_conditions(alloc, makes, src, held, list, provers, budget)?;
+            let verdict = judge_all(alloc, makes, src, held, list, provers, budget)?;
             Ok(verdict)
         }
     }

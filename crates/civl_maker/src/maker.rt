@@ -3,6 +3,7 @@ ghost use Rattle.std.specs.Prelude.{◌≡◌, IfOk};
 ghost use Rattle.civl_states.specs.Stores.{global_sorts};
 
 use crate::violation::violation;
+use civl_bodies::Bodies;
 use civl_conditions::Condition;
 use civl_interfere::initial;
 use civl_judging::{Made, Makes, Memory};
@@ -40,13 +41,22 @@ impl Makes for Maker {
         alloc: Global,
         src: &Layered,
         held: &Held,
+        bodies: &Bodies<'_>,
         condition: &Condition,
     ) -> Result<Made, Memory> {
         // The program keeps the rules that bound the sorts of its variables.
         let _program = program(src);
-        let mut terms = Terms::new(alloc);
-        let id = violation(alloc, &mut terms, src, held, condition)?;
         let sorts = variable_sorts(alloc, src, condition)?;
+        let mut terms = Terms::new(alloc);
+        let id = violation(
+            alloc,
+            &mut terms,
+            src,
+            held,
+            bodies,
+            sorts.as_slice(),
+            condition,
+        )?;
         Ok(Made { terms, id, sorts })
     }
 }

@@ -4,6 +4,7 @@ ghost use Rattle.std.specs.List.{Contains};
 ghost use Rattle.civl_tree.specs.SpellingDomain.{allows_program};
 ghost use Rattle.civl_tree.specs.rules.Rules.{Keeps};
 ghost use Rattle.civl_linear.specs.Cuts.{all_held};
+ghost use Rattle.civl_bodies.specs.Bodies.{AreBodies};
 ghost use Rattle.civl_linear.specs.LinearRules.{linear_rules};
 ghost use Rattle.civl_terms.specs.Weights.{graph_weight};
 ghost use Rattle.civl_conditions.specs.Listed.{conditions};
@@ -13,10 +14,12 @@ ghost use Rattle.civl_states.specs.Formulas.{sorts_of, IsViolation};
 ghost use Rattle.civl_maker.specs.Kinds.{kind_of};
 
 use crate::makers::{path_violation, steady_violation};
+use civl_bodies::Bodies;
 use civl_conditions::Condition;
 use civl_layers::{Held, Layered};
 use civl_movers::violation as action_violation;
 use civl_terms::{Id, Memory, Terms};
+use civl_tree::Sort;
 use std::alloc::Global;
 
 /// What a condition speaks of.
@@ -46,18 +49,22 @@ fn kind_of(condition: &Condition) -> Kind
 }
 
 /// The term of the formula that values violate a condition of the program's list. The graph's variables are those of the condition,
-/// and the graph's weight rises by at most four times the condition's.
+/// whose sorts are given in their order, and the graph's weight rises by at most four times the condition's.
 pub(crate) fn violation(
     alloc: Global,
     terms: &mut Terms,
     src: &Layered,
     held: &Held,
+    bodies: &Bodies<'_>,
+    sorts: &[Sort],
     condition: &Condition,
 ) -> Result<Id, Memory>
     requires written { IsTrue (allows_program src.now) }
     requires linear { Keeps linear_rules src.now }
     requires held { held.now.cuts ≡ all_held src.now }
+    requires bodies { AreBodies src.now bodies.now }
     requires listed { Contains (conditions src.now) condition.now }
+    requires sorts { sorts.now ≡ sorts_of src.now condition.now }
     requires variables { AreVariablesOf terms.old (sorts_of src.now condition.now) }
     ensures says { IfOk result (λ id. IsViolation terms.new id src.now condition.now) }
     ensures weighs { OnOk result (graph_weight terms.new ≤ graph_weight terms.old + 4 * weight src.now condition.now) }
@@ -68,11 +75,11 @@ pub(crate) fn violation(
             Ok(id)
         }
         Kind::Paths => {
-            let id = path_violation(alloc, terms, src, held, condition)?;
+            let id = path_violation(alloc, terms, src, held, bodies, sorts, condition)?;
             Ok(id)
         }
         Kind::Steadiness => {
-            let id = steady_violation(alloc, terms, src, held, condition)?;
+            let id = steady_violation(alloc, terms, src, held, bodies, sorts, condition)?;
             Ok(id)
         }
     }

@@ -27,6 +27,6 @@ pub use invariants::invariant_of;
 pub use owned::{held_ids, owned_items};
 pub use start::Start;
 pub use steady::steady_note;
-pub use violations::{all_cuts, all_statements, violation};
+pub use violations::violation;
 pub use walking::{Walked, walk_from};
 pub use ways::with_ways;

@@ -1,10 +1,11 @@
 // The violations of the conditions on paths, as terms over their variables.
-ghost use Rattle.std.specs.Prelude.{◌≡◌, ◌+◌, ◌*◌, ◌≤◌, ◌<◌, IfOk, IfSome, OnOk, length, map, slice_get};
+ghost use Rattle.std.specs.Prelude.{◌≡◌, ◌+◌, ◌*◌, ◌≤◌, IfOk, OnOk, map};
 ghost use Rattle.std.specs.List.{Contains};
 ghost use Rattle.civl_tree.specs.Numbering.{statements_of};
 ghost use Rattle.civl_tree.specs.rules.Rules.{Keeps};
 ghost use Rattle.civl_layers.specs.Cuts.{proc_cuts};
 ghost use Rattle.civl_layers.specs.Layered.{IsLayered};
+ghost use Rattle.civl_bodies.specs.Bodies.{AreBodies};
 ghost use Rattle.civl_linear.specs.Cuts.{all_held};
 ghost use Rattle.civl_linear.specs.LinearRules.{linear_rules};
 ghost use Rattle.civl_terms.specs.Building.{Lengthens};
@@ -25,42 +26,12 @@ use crate::failures::failing;
 use crate::finding::start_at;
 use crate::start::Start;
 use crate::walking::walk_from;
+use civl_bodies::{Bodies, body_at};
 use civl_conditions::{Condition, Part};
-use civl_layers::{Cut, Held, Layered, cuts, program};
-use civl_states::variable_sorts;
+use civl_layers::{Cut, Held, Layered, program};
 use civl_terms::{Id, Memory, Terms};
-use civl_tree::{List, Proc, Sort, Stmt};
-use civl_walks::statements;
+use civl_tree::{Sort, Stmt};
 use std::alloc::Global as Alloc;
-
-/// All statements of a procedure, in text order.
-///
-/// # Errors
-///
-/// For want of memory.
-pub fn all_statements<'a>(alloc: Alloc, proc: &'a Proc) -> Result<Vec<&'a Stmt>, Memory>
-    ensures { IfOk result (λ flat. map (λ s. s.now) flat.items ≡ statements_of proc.now.body) }
-{
-    match statements(alloc, &proc.body) {
-        Ok(flat) => Ok(flat),
-        Err(_) => Err(Memory),
-    }
-}
-
-/// All cuts of the procedure with this number, which exists, in their order.
-///
-/// # Errors
-///
-/// For want of memory.
-pub fn all_cuts(alloc: Alloc, src: &Layered, proc: u32) -> Result<List<Cut>, Memory>
-    requires { proc < length src.now.procs }
-    ensures { IfOk result (λ list. IfSome (slice_get src.now.procs proc) (λ p. list ≡ proc_cuts p)) }
-{
-    match cuts(alloc, src, proc) {
-        Ok(list) => Ok(list),
-        Err(_) => Err(Memory),
-    }
-}
 
 /// K9 from a cut: what is assumed there holds, and a part fails on the path from there.
 fn path_at(
@@ -104,6 +75,7 @@ fn path_fails(
     terms: &mut Terms,
     src: &Layered,
     held: &Held,
+    bodies: &Bodies<'_>,
     sorts: &[Sort],
     part: Part,
     step: u32,
@@ -112,6 +84,7 @@ fn path_fails(
 ) -> Result<Id, Memory>
     requires linear { Keeps linear_rules src.now }
     requires held { held.now.cuts ≡ all_held src.now }
+    requires bodies { AreBodies src.now bodies.now }
     requires there { HasCut src.now number place }
     requires sorts { sorts.now ≡ sorts_of src.now (Path part step number place) }
     requires variables { AreVariablesOf terms.old sorts.now }
@@ -121,9 +94,8 @@ fn path_fails(
 {
     let program = program(src);
     let proc = program.procs.get(number as usize);
-    let cuts = all_cuts(alloc, src, number)?;
-    let flat = all_statements(alloc, proc)?;
-    let cut = cuts.as_slice()[place as usize];
+    let body = body_at(bodies, src, number);
+    let cut = body.cuts.as_slice()[place as usize];
     let start = start_at(
         program,
         held,
@@ -132,7 +104,7 @@ fn path_fails(
         proc,
         place,
         cut,
-        flat.as_slice(),
+        body.statements.as_slice(),
     );
     let id = path_at(
         alloc,
@@ -140,16 +112,17 @@ fn path_fails(
         sorts,
         &start,
         part,
-        cuts.as_slice(),
-        flat.as_slice(),
+        body.cuts.as_slice(),
+        body.statements.as_slice(),
     )?;
     Ok(id)
 }
 
-/// The term of the formula that values violate a condition on paths, K9. The graph's variables are those of the condition.
+/// The term of the formula that values violate a condition on paths, K9. The graph's variables are those of the condition, whose
+/// sorts are given in their order.
 ///
-/// The condition is of this kind, and its cut is there; the program keeps the rules E40 to E43, and `held` has what is held at each
-/// cut. The graph's weight rises by at most four times the condition's.
+/// The condition is of this kind, and its cut is there; the program keeps the rules E40 to E43; `held` has what is held at each cut,
+/// and `bodies` what belongs to each procedure. The graph's weight rises by at most four times the condition's.
 ///
 /// # Errors
 ///
@@ -159,29 +132,24 @@ pub fn violation(
     terms: &mut Terms,
     src: &Layered,
     held: &Held,
+    bodies: &Bodies<'_>,
+    sorts: &[Sort],
     condition: &Condition,
 ) -> Result<Id, Memory>
     requires kind { IsOfPaths src.now condition.now }
     requires linear { Keeps linear_rules src.now }
     requires held { held.now.cuts ≡ all_held src.now }
+    requires bodies { AreBodies src.now bodies.now }
+    requires sorts { sorts.now ≡ sorts_of src.now condition.now }
     requires variables { AreVariablesOf terms.old (sorts_of src.now condition.now) }
     ensures says { IfOk result (λ id. IsViolation terms.new id src.now condition.now) }
     ensures weighs { OnOk result (graph_weight terms.new ≤ graph_weight terms.old + 4 * weight src.now condition.now) }
     ensures lengthens { Lengthens terms.old terms.new }
 {
-    let sorts = variable_sorts(alloc, src, condition)?;
     match *condition {
         Condition::Path(part, step, number, place) => {
             let id = path_fails(
-                alloc,
-                terms,
-                src,
-                held,
-                sorts.as_slice(),
-                part,
-                step,
-                number,
-                place,
+                alloc, terms, src, held, bodies, sorts, part, step, number, place,
             )?;
             Ok(id)
         }

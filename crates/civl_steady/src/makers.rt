@@ -7,6 +7,7 @@ ghost use Rattle.civl_tree.specs.rules.Typing.{typing_rules};
 ghost use Rattle.civl_values.specs.Values.{is_sort, is_true};
 ghost use Rattle.civl_meaning.specs.Config.{frame_sorts};
 ghost use Rattle.civl_layers.specs.Cuts.{proc_cuts};
+ghost use Rattle.civl_bodies.specs.Bodies.{AreBodies};
 ghost use Rattle.civl_linear.specs.Cuts.{all_held};
 ghost use Rattle.civl_paths.specs.Ends.{is_yield_cut};
 ghost use Rattle.civl_terms.specs.Building.{Lengthens};
@@ -25,10 +26,11 @@ ghost use Rattle.civl_steady.specs.Making.{EndWith, IsFrameFrom, others_from};
 
 use crate::kept::Kept;
 use crate::yielding::{Frame, Yielding};
+use civl_bodies::{Bodies, body_at};
 use civl_conditions::Target;
 use civl_formulas::variables;
 use civl_layers::{Cut, Held, Layered, program};
-use civl_refine::{all_cuts, all_statements, held_numbers, invariant_of};
+use civl_refine::{held_numbers, invariant_of};
 use civl_terms::{Id, Memory, Terms};
 use civl_tree::{Proc, Program, Sort, Stmt};
 use std::alloc::Global as Alloc;
@@ -106,11 +108,13 @@ fn yield_target<'a>(
     terms: &mut Terms,
     src: &'a Layered,
     held: &'a Held,
+    bodies: &'a Bodies<'a>,
     sorts: &[Sort],
     number: u32,
     place: u32,
 ) -> Result<Kept<'a>, Memory>
     requires held { held.now.cuts ≡ all_held src.now }
+    requires bodies { AreBodies src.now bodies.now }
     requires there { HasYield src.now number place }
     requires end { EndWith sorts.now src.now (target.Yield number place) }
     requires limits { All (λ s. IsTrue (is_sort s)) sorts.now }
@@ -125,10 +129,17 @@ fn yield_target<'a>(
 {
     let program = program(src);
     let proc = program.procs.get(number as usize);
-    let cuts = all_cuts(alloc, src, number)?;
-    let flat = all_statements(alloc, proc)?;
-    let cut = cuts.as_slice()[place as usize];
-    let at = yield_at(program, held, number, proc, place, cut, flat.as_slice());
+    let body = body_at(bodies, src, number);
+    let cut = body.cuts.as_slice()[place as usize];
+    let at = yield_at(
+        program,
+        held,
+        number,
+        proc,
+        place,
+        cut,
+        body.statements.as_slice(),
+    );
     let count = proc.params.len() + (proc.outs.len() + proc.locals.len()) + 1;
     let first = (sorts.len() - count) as u32;
     let frame = frame_from(alloc, terms, sorts, proc, first)?;
@@ -148,10 +159,12 @@ pub(crate) fn kept_of<'a>(
     terms: &mut Terms,
     src: &'a Layered,
     held: &'a Held,
+    bodies: &'a Bodies<'a>,
     sorts: &[Sort],
     target: Target,
 ) -> Result<Kept<'a>, Memory>
     requires held { held.now.cuts ≡ all_held src.now }
+    requires bodies { AreBodies src.now bodies.now }
     requires there { HasTarget src.now target }
     requires end { EndWith sorts.now src.now target }
     requires limits { All (λ s. IsTrue (is_sort s)) sorts.now }
@@ -171,7 +184,7 @@ pub(crate) fn kept_of<'a>(
     match target {
         Target::Invariant(place) => Ok(Kept::Invariant(place)),
         Target::Yield(number, place) => {
-            let kept = yield_target(alloc, terms, src, held, sorts, number, place)?;
+            let kept = yield_target(alloc, terms, src, held, bodies, sorts, number, place)?;
             Ok(kept)
         }
     }

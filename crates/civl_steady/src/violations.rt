@@ -5,6 +5,7 @@ ghost use Rattle.civl_tree.specs.rules.Rules.{Keeps};
 ghost use Rattle.civl_values.specs.Values.{is_sort};
 ghost use Rattle.civl_layers.specs.Cuts.{proc_cuts};
 ghost use Rattle.civl_layers.specs.Layered.{IsLayered};
+ghost use Rattle.civl_bodies.specs.Bodies.{AreBodies};
 ghost use Rattle.civl_linear.specs.Cuts.{all_held};
 ghost use Rattle.civl_linear.specs.LinearRules.{linear_rules};
 ghost use Rattle.civl_terms.specs.Building.{Lengthens};
@@ -32,11 +33,12 @@ use crate::acting::act_loses;
 use crate::blocks::block_loses;
 use crate::kept::Kept;
 use crate::makers::kept_of;
+use civl_bodies::{Bodies, body_at};
 use civl_conditions::{Condition, Target};
 use civl_interfere::violation as interference;
 use civl_layers::{Cut, Held, Layered, program};
-use civl_refine::{Start, all_cuts, all_statements, start_at, walk_from};
-use civl_states::{Existing, existing_count, invocation, store, variable_sorts};
+use civl_refine::{Start, start_at, walk_from};
+use civl_states::{Existing, existing_count, invocation, store};
 use civl_terms::{Id, Memory, Terms};
 use civl_tree::Sort;
 use std::alloc::Global as Alloc;
@@ -47,6 +49,7 @@ fn act_fails(
     terms: &mut Terms,
     src: &Layered,
     held: &Held,
+    bodies: &Bodies<'_>,
     sorts: &[Sort],
     step: u32,
     action: u32,
@@ -54,6 +57,7 @@ fn act_fails(
     place: u32,
 ) -> Result<Id, Memory>
     requires held { held.now.cuts ≡ all_held src.now }
+    requires bodies { AreBodies src.now bodies.now }
     requires action { action < length src.now.actions }
     requires there { HasYield src.now number place }
     requires sorts { sorts.now ≡ sorts_of src.now (Act step action (target.Yield number place)) }
@@ -63,7 +67,15 @@ fn act_fails(
     ensures lengthens { Lengthens terms.old terms.new }
 {
     let program = program(src);
-    let kept = kept_of(alloc, terms, src, held, sorts, Target::Yield(number, place))?;
+    let kept = kept_of(
+        alloc,
+        terms,
+        src,
+        held,
+        bodies,
+        sorts,
+        Target::Yield(number, place),
+    )?;
     let globals = store(alloc, terms, program, sorts, Existing::Near(step), 0)?;
     let first = existing_count(program, Existing::Near(step)) as u32;
     let x = invocation(alloc, terms, program, sorts, action, first)?;
@@ -105,6 +117,7 @@ fn block_fails(
     terms: &mut Terms,
     src: &Layered,
     held: &Held,
+    bodies: &Bodies<'_>,
     sorts: &[Sort],
     step: u32,
     number: u32,
@@ -113,6 +126,7 @@ fn block_fails(
 ) -> Result<Id, Memory>
     requires linear { Keeps linear_rules src.now }
     requires held { held.now.cuts ≡ all_held src.now }
+    requires bodies { AreBodies src.now bodies.now }
     requires cut { HasCut src.now number place }
     requires there { HasTarget src.now target }
     requires sorts { sorts.now ≡ sorts_of src.now (Block step number place target) }
@@ -123,9 +137,8 @@ fn block_fails(
 {
     let program = program(src);
     let proc = program.procs.get(number as usize);
-    let cuts = all_cuts(alloc, src, number)?;
-    let flat = all_statements(alloc, proc)?;
-    let cut = cuts.as_slice()[place as usize];
+    let body = body_at(bodies, src, number);
+    let cut = body.cuts.as_slice()[place as usize];
     let start = start_at(
         program,
         held,
@@ -134,18 +147,18 @@ fn block_fails(
         proc,
         place,
         cut,
-        flat.as_slice(),
+        body.statements.as_slice(),
     );
-    let kept = kept_of(alloc, terms, src, held, sorts, target)?;
-    let id = block_from(alloc, terms, sorts, &start, &kept, cuts.as_slice())?;
+    let kept = kept_of(alloc, terms, src, held, bodies, sorts, target)?;
+    let id = block_from(alloc, terms, sorts, &start, &kept, body.cuts.as_slice())?;
     Ok(id)
 }
 
 /// The term of the formula that values violate a condition that initial stores meet an invariant, or that blocks or actions keep
-/// one, K1, K10 and K11. The graph's variables are those of the condition.
+/// one, K1, K10 and K11. The graph's variables are those of the condition, whose sorts are given in their order.
 ///
-/// The condition is of this kind, and what it names is there; the program keeps the rules E40 to E43, and `held` has what is held at
-/// each cut. The graph's weight rises by at most four times the condition's.
+/// The condition is of this kind, and what it names is there; the program keeps the rules E40 to E43; `held` has what is held at each
+/// cut, and `bodies` what belongs to each procedure. The graph's weight rises by at most four times the condition's.
 ///
 /// # Errors
 ///
@@ -155,17 +168,20 @@ pub fn violation(
     terms: &mut Terms,
     src: &Layered,
     held: &Held,
+    bodies: &Bodies<'_>,
+    sorts: &[Sort],
     condition: &Condition,
 ) -> Result<Id, Memory>
     requires kind { IsOfSteadiness src.now condition.now }
     requires linear { Keeps linear_rules src.now }
     requires held { held.now.cuts ≡ all_held src.now }
+    requires bodies { AreBodies src.now bodies.now }
+    requires sorts { sorts.now ≡ sorts_of src.now condition.now }
     requires variables { AreVariablesOf terms.old (sorts_of src.now condition.now) }
     ensures says { IfOk result (λ id. IsViolation terms.new id src.now condition.now) }
     ensures weighs { OnOk result (graph_weight terms.new ≤ graph_weight terms.old + 4 * weight src.now condition.now) }
     ensures lengthens { Lengthens terms.old terms.new }
 {
-    let sorts = variable_sorts(alloc, src, condition)?;
     match *condition {
         Condition::Start(_, _) => {
             let id = interference(alloc, terms, src, condition)?;
@@ -177,29 +193,13 @@ pub fn violation(
         }
         Condition::Act(step, action, Target::Yield(number, place)) => {
             let id = act_fails(
-                alloc,
-                terms,
-                src,
-                held,
-                sorts.as_slice(),
-                step,
-                action,
-                number,
-                place,
+                alloc, terms, src, held, bodies, sorts, step, action, number, place,
             )?;
             Ok(id)
         }
         Condition::Block(step, number, place, target) => {
             let id = block_fails(
-                alloc,
-                terms,
-                src,
-                held,
-                sorts.as_slice(),
-                step,
-                number,
-                place,
-                target,
+                alloc, terms, src, held, bodies, sorts, step, number, place, target,
             )?;
             Ok(id)
         }

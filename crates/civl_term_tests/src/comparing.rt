@@ -6,6 +6,7 @@ ghost use Rattle.civl_tree.specs.SpellingDomain.{allows_program};
 ghost use Rattle.civl_tree.specs.rules.Rules.{Keeps};
 ghost use Rattle.civl_linear.specs.LinearRules.{linear_rules};
 ghost use Rattle.civl_linear.specs.Cuts.{all_held};
+ghost use Rattle.civl_bodies.specs.Bodies.{AreBodies};
 ghost use Rattle.civl_conditions.specs.Listed.{conditions};
 
 use crate::actions::{Pair, fire_fails, keep_fails, pair_fails};
@@ -15,6 +16,7 @@ use crate::notes::invariant_of;
 use crate::paths::path_fails;
 use crate::reading::{count, is_true, valuation};
 use civl_bits::Value;
+use civl_bodies::{Bodies, bodies_of};
 use civl_conditions::{Condition, Part, Target, listed, name};
 use civl_judging::{Made, Makes};
 use civl_layers::{Held, Layered, at, cuts, layered, program};
@@ -322,15 +324,17 @@ fn compare(
     alloc: Alloc,
     src: &Layered,
     held: &Held,
+    bodies: &Bodies<'_>,
     condition: &Condition,
     tally: &mut Tally,
 ) -> Result<(), Fail>
     requires written { IsTrue (allows_program src.now) }
     requires linear { Keeps linear_rules src.now }
     requires held { held.now.cuts ≡ all_held src.now }
+    requires bodies { AreBodies src.now bodies.now }
     requires listed { Contains (conditions src.now) condition.now }
 {
-    let made = Maker.violation(alloc, src, held, condition)?;
+    let made = Maker.violation(alloc, src, held, bodies, condition)?;
     let task = Task {
         src,
         held,
@@ -356,6 +360,7 @@ fn compare_named(
     alloc: Alloc,
     src: &Layered,
     held: &Held,
+    bodies: &Bodies<'_>,
     list: &List<Condition>,
     front: &str,
     tally: &mut Tally,
@@ -363,11 +368,12 @@ fn compare_named(
     requires written { IsTrue (allows_program src.now) }
     requires linear { Keeps linear_rules src.now }
     requires held { held.now.cuts ≡ all_held src.now }
+    requires bodies { AreBodies src.now bodies.now }
     requires listed { list.now ≡ conditions src.now }
 {
     for condition in list.as_slice() {
         if is_named(alloc, src, condition, front)? {
-            compare(alloc, src, held, condition, tally)?;
+            compare(alloc, src, held, bodies, condition, tally)?;
         }
     }
     Ok(())
@@ -378,12 +384,14 @@ fn line(
     alloc: Alloc,
     src: &Layered,
     held: &Held,
+    bodies: &Bodies<'_>,
     list: &List<Condition>,
     front: &str,
 ) -> Result<String, Fail>
     requires written { IsTrue (allows_program src.now) }
     requires linear { Keeps linear_rules src.now }
     requires held { held.now.cuts ≡ all_held src.now }
+    requires bodies { AreBodies src.now bodies.now }
     requires listed { list.now ≡ conditions src.now }
 {
     let mut tally = Tally {
@@ -395,7 +403,7 @@ fn line(
     if front == "initial" {
         compare_initial(alloc, src, &mut tally)?;
     } else {
-        compare_named(alloc, src, held, list, front, &mut tally)?;
+        compare_named(alloc, src, held, bodies, list, front, &mut tally)?;
     }
     let Tally {
         formulas,
@@ -414,18 +422,20 @@ fn lines(
     alloc: Alloc,
     src: &Layered,
     held: &Held,
+    bodies: &Bodies<'_>,
     list: &List<Condition>,
     rows: &str,
 ) -> Result<String, Fail>
     requires written { IsTrue (allows_program src.now) }
     requires linear { Keeps linear_rules src.now }
     requires held { held.now.cuts ≡ all_held src.now }
+    requires bodies { AreBodies src.now bodies.now }
     requires listed { list.now ≡ conditions src.now }
 {
     let mut lines = String::new(alloc);
     for row in rows.split("\n") {
         if let Some((front, _)) = row.split_once(":") {
-            let line = line(alloc, src, held, list, front)?;
+            let line = line(alloc, src, held, bodies, list, front)?;
             lines.push_str("\n")?;
             lines.push_str(line.as_str())?;
         }
@@ -439,7 +449,8 @@ fn lines_of(alloc: Alloc, admitted: &Admitted, rows: &str) -> Result<String, Fai
 {
     let src = source(admitted);
     let list = listed(alloc, src)?;
-    lines(alloc, src, locals_held(admitted), &list, rows)
+    let bodies = bodies_of(alloc, src)?;
+    lines(alloc, src, locals_held(admitted), &bodies, &list, rows)
 }
 
 /// The program that a text spells.

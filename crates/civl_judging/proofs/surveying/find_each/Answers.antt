@@ -6,7 +6,7 @@ use Rattle.civl_verdicts.specs.Surveys.{IsFound}
 use Rattle.civl_judging.proofs.Lightness.{conditions_are_light}
 use Rattle.civl_judging.proofs.Verdicts.{not_asked, asked_more, asked_as, here_in}
 use Rattle.civl_judging.proofs.Surveys.{found_more}
-use Rattle.civl_judging.proofs.surveying.find_all.Goals as goal
+use Rattle.civl_judging.proofs.surveying.find_each.Goals as goal
 
 pub loop-condition-init : goal.loop-condition-init
 loop-condition-init g c = (rw c.new-findings.ensures.items tt, not_asked _ _)

@@ -1,7 +1,7 @@
 use Rattle.std.specs.Prelude.{take}
 use Rattle.civl_portfolio.specs.First.{KeepsFirst}
 use Rattle.civl_verdicts.specs.Surveys.{AreFound}
-use Rattle.civl_judging.proofs.surveying.find_all.Given as goal
+use Rattle.civl_judging.proofs.surveying.find_each.Given as goal
 
 abbrev pub invariant-loop-condition : goal.invariant-loop-condition
 invariant-loop-condition g l = AreFound l.src l.budget (take l.condition-index l.list) l.findings.items × KeepsFirst l.fn.provers.items l.provers.items l.condition-index (record {
