@@ -1,0 +1,4 @@
+pub mod Trails
+pub mod Cutting
+pub mod Serving
+pub mod Engines

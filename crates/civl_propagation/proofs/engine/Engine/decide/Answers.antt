@@ -1,0 +1,58 @@
+use Rattle.std.proofs.Common.{◌++◌, ◌∷◌, [], ◌<◌, List, length, sym, subst, arith}
+use Rattle.civl_cnf.specs.Literal.{Literal}
+use Rattle.civl_rup.specs.Trail.{IsOpen, open_count}
+use Rattle.civl_propagation.specs.Trail.{IsTrailOver, AreDecided}
+use Rattle.civl_propagation.specs.Propagation.{IsServedTo, PropagationSays}
+use Rattle.civl_propagation.specs.Engine.{EngineState, IsAtRest}
+use Rattle.civl_propagation.proofs.Serving.{trail_decides, served_decide, fewer_decide}
+use Rattle.civl_propagation.proofs.Engines.{decided_grows, decided_more, grows_of, engine_decides, ends_by}
+use Rattle.civl_propagation.proofs.engine.Engine.decide.Goals as goal
+
+pub propagate-requires-clause-trail : goal.propagate-requires-clause-trail
+propagate-requires-clause-trail c =
+    let e : EngineState = record { trail = c.self.inside.trail; clauses = c.self.inside.clauses.items; lists = c.self.inside.occurrences } in
+    let rest = subst IsAtRest (sym c.self.view_is) c.requires.rest in
+    let low = subst (λ (x : EngineState). c.args.lit.variable < length x.trail.marks) (sym c.self.view_is) c.requires.below in
+    let free = subst (λ (x : EngineState). IsOpen x.trail.marks c.args.lit) (sym c.self.view_is) c.requires.open in
+    let t = c.decide.new.self in
+    subst (IsTrailOver t) (sym c.as_slice.ensures.value) (trail_decides e.trail t e.clauses c.args.lit rest.engine.trail rest.quiet c.in_ok-decide.ensures low free)
+
+pub propagate-requires-clause-served : goal.propagate-requires-clause-served
+propagate-requires-clause-served c =
+    let e : EngineState = record { trail = c.self.inside.trail; clauses = c.self.inside.clauses.items; lists = c.self.inside.occurrences } in
+    let rest = subst IsAtRest (sym c.self.view_is) c.requires.rest in
+    let low = subst (λ (x : EngineState). c.args.lit.variable < length x.trail.marks) (sym c.self.view_is) c.requires.below in
+    let free = subst (λ (x : EngineState). IsOpen x.trail.marks c.args.lit) (sym c.self.view_is) c.requires.open in
+    let t = c.decide.new.self in
+    subst (λ (cs : List (List Literal)). IsServedTo t cs c.len-from.result) (sym c.as_slice.ensures.value)
+    (subst (IsServedTo t e.clauses) (sym c.len-from.ensures) (served_decide e.trail t e.clauses c.args.lit rest.engine.trail rest.quiet c.in_ok-decide.ensures low free))
+
+pub returns-clause-decided : goal.returns-clause-decided
+returns-clause-decided c decisions d =
+    let t = c.decide.new.self in
+    let grows = grows_of t c.propagate.new.trail c.as_slice.result.now c.in_ok-ended.ended c.in_ok-ended.ensures in
+    decided_grows t c.propagate.new.trail (decisions ++ c.args.lit ∷ []) grows (decided_more c.self.inside.trail t decisions c.args.lit c.in_ok-decide.ensures
+    (subst (λ (x : EngineState). AreDecided x.trail decisions) (sym c.self.view_is) d))
+
+pub returns-clause-fewer : goal.returns-clause-fewer
+returns-clause-fewer c =
+    let low = subst (λ (x : EngineState). c.args.lit.variable < length x.trail.marks) (sym c.self.view_is) c.requires.below in
+    let free = subst (λ (x : EngineState). IsOpen x.trail.marks c.args.lit) (sym c.self.view_is) c.requires.open in
+    let t = c.decide.new.self in
+    let grows = grows_of t c.propagate.new.trail c.as_slice.result.now c.in_ok-ended.ended c.in_ok-ended.ensures in
+    let less = fewer_decide c.self.inside.trail t c.args.lit c.in_ok-decide.ensures low free in
+    let total = grows.total in
+    let longer = grows.longer in
+    let less' : open_count c.propagate.new.trail.marks < open_count c.self.inside.trail.marks = omega arith in
+    subst (λ (x : EngineState). open_count c.propagate.new.trail.marks < open_count x.trail.marks) c.self.view_is less'
+
+pub returns-clause-ended : goal.returns-clause-ended
+returns-clause-ended c =
+    let e : EngineState = record { trail = c.self.inside.trail; clauses = c.self.inside.clauses.items; lists = c.self.inside.occurrences } in
+    let rest = subst IsAtRest (sym c.self.view_is) c.requires.rest in
+    let low = subst (λ (x : EngineState). c.args.lit.variable < length x.trail.marks) (sym c.self.view_is) c.requires.below in
+    let free = subst (λ (x : EngineState). IsOpen x.trail.marks c.args.lit) (sym c.self.view_is) c.requires.open in
+    let t = c.decide.new.self in
+    let mid : EngineState = record { trail = t; clauses = e.clauses; lists = e.lists } in
+    ends_by mid c.propagate.new.trail c.in_ok-ended.ended (engine_decides e t c.args.lit rest c.in_ok-decide.ensures low free)
+    (subst (λ (cs : List (List Literal)). PropagationSays t c.propagate.new.trail cs c.in_ok-ended.ended) c.as_slice.ensures.value c.in_ok-ended.ensures)

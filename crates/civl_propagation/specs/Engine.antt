@@ -1,0 +1,38 @@
+-- The engine of unit propagation.
+use Rattle.std.specs.Prelude.{◌≡◌, ◌<◌, ◌≤◌, ◌^◌, ℕ, List, All, length, slice_index_or}
+use Rattle.civl_cnf.specs.Literal.{Literal}
+use Rattle.civl_cnf.specs.ClauseSet.{AreBelow}
+use Rattle.civl_rup.specs.Propagation.{IsFalsified}
+use Rattle.civl_rup.specs.Marks.{marked, IsQuiet}
+use Rattle.civl_rup.specs.Occurrences.{OccurrenceLists, AreOccurrences}
+use Rattle.civl_propagation.specs.Trail.{TrailState, before, IsAt, IsTrailOver}
+use Rattle.civl_propagation.specs.declared.propagation.Ended.{Ended}
+use Rattle.civl_propagation.specs.declared.propagation.Ended.TheVariants.{Conflict, Quiet}
+
+-- the trail, the clauses, and where their literals stand
+pub record EngineState : Type 0 where
+  pub trail : TrailState
+  pub clauses : List (List Literal)
+  pub lists : OccurrenceLists
+
+-- what holds of an engine at all times: the trail is one over its clauses, whose variables are the trail's, and the lists are those of the clauses
+pub record IsEngine (e : EngineState) : Type 0 where
+  pub few : length e.trail.marks ≤ 2 ^ 31
+  pub below : AreBelow (length e.trail.marks) e.clauses
+  pub trail : IsTrailOver e.trail e.clauses
+  pub size : length e.lists.variables ≡ length e.trail.marks
+  pub numbers : AreOccurrences e.clauses e.lists
+
+-- propagation is complete: no clause forces anything more, and none is falsified
+pub record IsAtRest (e : EngineState) : Type 0 where
+  pub engine : IsEngine e
+  pub quiet : All (IsQuiet (marked e.trail.marks)) e.clauses
+
+-- below the start of each level the clause forces nothing, and isn't falsified
+abbrev pub IsQuietBelow : TrailState → List Literal → Type 0
+IsQuietBelow t clause = (k : ℕ) → k < length t.starts → IsQuiet (before t.marks t.places (slice_index_or t.starts k 0)) clause
+
+-- how propagation ended: the clause with this number is falsified, or propagation is complete
+abbrev pub EndsBy : EngineState → Ended → Type 0
+EndsBy e (Conflict r) = IsEngine e × IsAt e.clauses r (IsFalsified (marked e.trail.marks))
+EndsBy e Quiet = IsAtRest e

@@ -1,0 +1,30 @@
+// Memory was wanting.
+use std::alloc::{AllocError, AllocFailed};
+
+/// Memory was wanting.
+#[derive(Clone, Copy, Debug, PartialEq, Eq)]
+pub struct Memory;
+
+impl From<AllocError> for Memory {
+    fn from(_error: AllocError) -> Memory {
+        Memory
+    }
+}
+
+impl<T: Drop> From<AllocFailed<T>> for Memory {
+    fn from(_failed: AllocFailed<T>) -> Memory {
+        Memory
+    }
+}
+
+impl From<civl_cnf::Memory> for Memory {
+    fn from(_wanting: civl_cnf::Memory) -> Memory {
+        Memory
+    }
+}
+
+impl From<civl_rup::Memory> for Memory {
+    fn from(_wanting: civl_rup::Memory) -> Memory {
+        Memory
+    }
+}

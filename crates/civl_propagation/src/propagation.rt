@@ -1,0 +1,88 @@
+// Unit propagation along the trail.
+ghost use Rattle.std.specs.Prelude.{◌≡◌, ◌<◌, ◌≤◌, [], All, length, slice_index_or, IfOk};
+ghost use Rattle.civl_cnf.specs.ClauseSet.{AreBelow};
+ghost use Rattle.civl_rup.specs.Occurrences.{AreOccurrences};
+ghost use Rattle.civl_propagation.specs.Trail.{IsTrailOver};
+ghost use Rattle.civl_propagation.specs.Propagation.{VisitSays, VisitsSay, PropagationSays, IsServedTo};
+
+use crate::Memory;
+use crate::trail::Trail;
+use civl_cnf::{Clause, Lit};
+use civl_rup::{Occurrences, Rule, rule_of};
+
+/// How propagation ends: the clause with this number is falsified, or nothing more is forced.
+#[derive(Clone, Copy, Debug, PartialEq, Eq)]
+pub enum Ended {
+    Conflict(usize),
+    Quiet,
+}
+
+/// The literals of the clause with a number.
+fn lits_of(clauses: &[Clause], number: usize) -> &[Lit]
+    requires { number < length clauses.now }
+    ensures { result.now ≡ slice_index_or clauses.now number [] }
+{
+    clauses[number].lits()
+}
+
+/// Makes true what one clause forces.
+pub fn visit(trail: &mut Trail, clauses: &[Clause], number: usize) -> Result<Ended, Memory>
+    requires number { number < length clauses.now }
+    requires below { AreBelow (length trail.old.marks) clauses.now }
+    requires trail { IsTrailOver trail.old clauses.now }
+    ensures { IfOk result (VisitSays trail.old trail.new clauses.now number) }
+{
+    match rule_of(trail.marks(), lits_of(clauses, number)) {
+        Rule::Falsified => Ok(Ended::Conflict(number)),
+        Rule::Quiet => Ok(Ended::Quiet),
+        Rule::Forces(lit) => {
+            trail.push(lit, Some(number))?;
+            Ok(Ended::Quiet)
+        }
+    }
+}
+
+/// Visits the clauses with these numbers, until one is falsified.
+fn visit_all(trail: &mut Trail, clauses: &[Clause], numbers: &[usize]) -> Result<Ended, Memory>
+    requires numbers { All (λ i. i < length clauses.now) numbers.now }
+    requires below { AreBelow (length trail.old.marks) clauses.now }
+    requires trail { IsTrailOver trail.old clauses.now }
+    ensures { IfOk result (VisitsSay trail.old trail.new clauses.now numbers.now) }
+{
+    for number in numbers {
+        let ended = visit(trail, clauses, *number)?;
+        match ended {
+            Ended::Quiet => {}
+            Ended::Conflict(falsified) => return Ok(Ended::Conflict(falsified)),
+        }
+    }
+    Ok(Ended::Quiet)
+}
+
+/// Propagates what was made true from a place of the trail on: for each literal the clauses in which its opposite stands are visited.
+pub fn propagate(
+    trail: &mut Trail,
+    occurrences: &Occurrences,
+    clauses: &[Clause],
+    from: usize,
+) -> Result<Ended, Memory>
+    requires below { AreBelow (length trail.old.marks) clauses.now }
+    requires trail { IsTrailOver trail.old clauses.now }
+    requires size { length occurrences.now.variables ≡ length trail.old.marks }
+    requires numbers { AreOccurrences clauses.now occurrences.now }
+    requires from { from ≤ length trail.old.steps }
+    requires served { IsServedTo trail.old clauses.now from }
+    ensures { IfOk result (PropagationSays trail.old trail.new clauses.now) }
+{
+    let mut at = from;
+    while at < trail.len() {
+        let opposite = trail.step(at).lit.negate();
+        let numbers = occurrences.of(opposite.variable(), opposite.positive());
+        let ended = visit_all(trail, clauses, numbers)?;
+        match ended {
+            Ended::Quiet => at += 1,
+            Ended::Conflict(falsified) => return Ok(Ended::Conflict(falsified)),
+        }
+    }
+    Ok(Ended::Quiet)
+}
