@@ -1,1 +1,4 @@
-pub mod Marks
+pub mod Numbers
+pub mod Fits
+pub mod Once
+pub mod Found

@@ -1,7 +1,13 @@
-//! The words of a command line, and the command that they are those of.
+//! The words of a command line, and the command that they are those of ([`command_of`]).
+//!
+//! The words are read with `clap`: what it does with them is stated in specs/ by its own records (`Line`), and the command that they
+//! are those of by what it finds in them (`Words`).
 #![tactic(auto)]
 
 pub mod laws;
+mod line;
+mod memory;
 mod words;
 
-pub use words::{Command, budget_of, command_of};
+pub use memory::Memory;
+pub use words::{Command, USUAL_BUDGET, command_of};

@@ -1,5 +1,5 @@
-use Rattle.civl_words.proofs.Marks as marks
+use Rattle.civl_words.proofs.Once.{one_command}
 use Rattle.civl_words.proofs.laws.one_command.Goals as goal
 
 pub returns : goal.returns
-returns c = marks.one_command
+returns c = one_command

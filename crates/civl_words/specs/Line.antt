@@ -1,0 +1,64 @@
+-- The command line as `clap` reads it: a program with subcommands, of which one is wanted. Each is given by the records in which
+-- `clap` states what it does with a list of words.
+use Rattle.std.specs.Prelude.{true, codes, Some, pos, [], ◌∷◌}
+use Rattle.clap.specs.Walk.{Rule, Text}
+use Rattle.clap.specs.Simple.{App, on_top, new_app, new_rule, with_rule, with_subcommand}
+use Rattle.clap.specs.declared.builder.value_parser.ValueParser.TheVariants.{Signed}
+
+-- ---- the arguments
+
+-- `--budget N`, N from 0 to 10,000,000
+abbrev pub budget_option : Rule
+budget_option = record (new_rule (codes "budget")) { long = Some (codes "budget"); parser = Some (Signed (pos 0) (pos 10000000)) }
+
+-- the same, with 200,000 where it isn't given
+abbrev pub usual_budget_option : Rule
+usual_budget_option = record budget_option { defaults = codes "200000" ∷ [] }
+
+-- `--at K`, K of 32 bits
+abbrev pub place_option : Rule
+place_option = record (new_rule (codes "at")) { long = Some (codes "at"); parser = Some (Signed (pos 0) (pos 4294967295)) }
+
+-- N, from 1 to 8, which is wanted
+abbrev pub trial_number : Rule
+trial_number = record (new_rule (codes "number")) { required = true; parser = Some (Signed (pos 1) (pos 8)) }
+
+-- a word that is wanted
+abbrev pub wanted_rule : Text → Rule
+wanted_rule id = record (new_rule id) { required = true }
+
+-- ---- the subcommands
+
+abbrev pub check_line : App
+check_line = with_rule (new_app (codes "check")) usual_budget_option
+
+abbrev pub conditions_line : App
+conditions_line = with_rule (new_app (codes "conditions")) usual_budget_option
+
+abbrev pub fmt_line : App
+fmt_line = new_app (codes "fmt")
+
+abbrev pub run_line : App
+run_line = with_rule (new_app (codes "run")) (wanted_rule (codes "end"))
+
+abbrev pub trial_line : App
+trial_line = with_rule (new_app (codes "trial")) trial_number
+
+abbrev pub proof_line : App
+proof_line = with_rule (with_rule (with_rule (new_app (codes "proof")) (wanted_rule (codes "act"))) place_option) budget_option
+
+-- ---- the whole
+
+abbrev pub with_line : App → App → App
+with_line whole part = with_subcommand whole part.top
+
+-- the commands over the text of a program
+abbrev pub text_lines : App
+text_lines = with_line (with_line (with_line (new_app (codes "civl")) check_line) conditions_line) fmt_line
+
+abbrev pub all_lines : App
+all_lines = with_line (with_line (with_line text_lines run_line) trial_line) proof_line
+
+-- the words after the program's name are read, and one of the subcommands is wanted
+abbrev pub command_line : App
+command_line = on_top (λ s. record s { subcommand_required = true }) (on_top (λ s. record s { no_binary_name = true }) all_lines)
