@@ -70,3 +70,62 @@ def long_body(count):
 def many_conditions():
     """The spinlock, and programs of about twenty times its size: of its conditions and of the weight of all formulas."""
     return {"spinlock": spinlock(), "four copies": copies(4), "five copies": copies(5), "twenty rounds in one block": long_body(20)}
+
+
+def cells(count):
+    """So many globals, and true as what is initial."""
+    return "".join("global g%d : word(8) layers 0 to 1;\n" % number for number in range(count)) + "init true;\n"
+
+
+STEP = "civl 2; layers 1; permissions 1;\n"
+
+
+def many_globals(count, actions):
+    """Globals of which each action reads one and writes another, and each pair of actions may be exchanged or not."""
+    both = ["action A%d() -> () choose () layers 0 to 0 both gate (g%d < 9:8) guard true { g%d := (g%d + 1:8); }\n"
+            % (number, 2 * number % count, (2 * number + 1) % count, 2 * number % count) for number in range(actions)]
+    return STEP + cells(count) + "".join(both)
+
+
+def refining(globals_, actions, body, invariants=""):
+    """A procedure with this body, which refines an action that sets the first global."""
+    upper = "action B() -> () choose () layers 1 to 1 atomic gate true guard true { g0 := 0:8; }\n"
+    return (STEP + cells(globals_) + invariants + actions + upper
+            + "proc P() -> () refines B with () layer 1 {\nvar u : word(8);\n" + body + "commit; }\n")
+
+
+READ = "action Read() -> (val v : word(8)) choose () layers 0 to 1 both gate true guard true { v := g0; }\n"
+WRITE = "action Write(val v : word(8)) -> () choose () layers 0 to 1 both gate true guard true { g0 := v; }\n"
+DRAW = "action Draw() -> (val v : word(8)) choose (c : word(8) = 0:8) layers 0 to 0 both gate true guard (c < 9:8) { v := c; }\n"
+IDLE = "action Idle() -> () choose () layers 0 to 0 both gate true guard true { }\n"
+
+
+def balanced(parts):
+    """The conjunction of these."""
+    if len(parts) == 1:
+        return parts[0]
+    half = len(parts) // 2
+    return "(%s && %s)" % (balanced(parts[:half]), balanced(parts[half:]))
+
+
+def other_shapes():
+    """Programs of other shapes, some of them beside a smaller one: the building of a term may take the time of its own size, and not of
+    what its program or its procedure has besides."""
+    turn = "call Read() -> (u);\nu := (u + 1:8);\ncall Write(u) -> ();\n"
+    kept = "".join("invariant 1 (g%d < 200:8);\n" % number for number in range(64))
+    gate = balanced(["(g63 != %d:8)" % number for number in range(200)])
+    long_gate = "action Long() -> () choose () layers 0 to 0 both gate %s guard true { g63 := 1:8; }\n" % gate
+    return {
+        "12 actions of which each names two of 2 globals": many_globals(2, 12),
+        "12 actions of which each names two of 64 globals": many_globals(64, 12),
+        "300 statements in one block, 2 globals": refining(2, READ + WRITE, turn * 100),
+        "300 statements in one block, 64 globals": refining(64, READ + WRITE, turn * 100),
+        "a gate that names the last of 64 globals 200 times": refining(64, READ + WRITE + long_gate, turn),
+        "6 yields, each 15 statements behind the one before": refining(2, READ + WRITE, (turn * 5 + "yield true;\n") * 6),
+        "30 yields, each 3 statements behind the one before": refining(2, READ + WRITE, (turn + "yield true;\n") * 30),
+        "64 invariants, which one block of 30 statements keeps": refining(64, READ + WRITE, turn * 10, kept),
+        "200 calls with a choice in one block": refining(2, DRAW, "call Draw() -> (u);\n" * 200),
+        "2,000 calls with a choice in one block": refining(2, DRAW, "call Draw() -> (u);\n" * 2000),
+        "200 calls that do nothing in one block": refining(2, IDLE, "call Idle() -> ();\n" * 200),
+        "2,000 calls that do nothing in one block": refining(2, IDLE, "call Idle() -> ();\n" * 2000),
+    }
