@@ -23,6 +23,7 @@ mod measuring;
 
 use crate::kinds::{step_of, weigh};
 use crate::measuring::measure;
+use civl_bodies::bodies_of;
 use civl_conditions::Condition;
 use civl_judging::{Made, Makes};
 use civl_layers::{Held, Layered, layered};
@@ -128,13 +129,14 @@ fn measured(
         graphs: 0,
         nanos: 0,
     };
+    let bodies = bodies_of(rt.alloc(), src).ok()?;
     let tables = work_out(rt.alloc(), src, held).ok()?;
     let mut step = first_sums(rt.alloc(), src).ok()?;
     for condition in found.as_slice() {
         step = sums_at(rt.alloc(), src, step, step_of(condition)).ok()?;
         let weight = weigh(rt.alloc(), src, &tables, &step, condition).ok()?;
         let start = now(rt)?;
-        let Made { terms, .. } = Maker.violation(rt.alloc(), src, held, condition).ok()?;
+        let Made { terms, .. } = Maker.violation(rt.alloc(), src, held, &bodies, condition).ok()?;
         part.nanos += now(rt)?.saturating_sub(start);
         part.nodes += terms.len() as u64;
         part.formulas += weight.number as u64;
