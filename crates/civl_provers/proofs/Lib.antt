@@ -1,3 +1,4 @@
+pub mod Standings
 pub mod Tries
 pub mod Branches
 pub mod Nodes

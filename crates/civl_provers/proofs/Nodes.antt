@@ -6,28 +6,16 @@ use Rattle.std.proofs.lemmas.List.Folds.{Any-from_list_any, list_any-from_Any}
 use Rattle.std.proofs.lemmas.List.Sums.{AllPass-from_list_all, list_all-from_AllPass}
 use Rattle.civl_cnf.specs.Literal.{Literal}
 use Rattle.civl_cnf.specs.ClauseSet.{ClauseSet, AreBelow, assignment}
-use Rattle.civl_rup.specs.Propagation.{Holds, IsClosed, GivesConflict}
-use Rattle.civl_rup.specs.Marks.{is_marked, marked, IsQuiet, AreAssumed, Propagates, EndsBy}
-use Rattle.civl_rup.proofs.Propagating.{conflict_grows}
+use Rattle.civl_rup.specs.Propagation.{Holds, IsClosed}
+use Rattle.civl_rup.specs.Marks.{is_marked, marked, IsQuiet}
 use Rattle.civl_cdcl.specs.Turn.{AreBits}
 use Rattle.civl_cdcl.specs.Propagation.{ChoiceSays}
 use Rattle.civl_cdcl.proofs.Outcomes.{satisfied}
 use Rattle.civl_cdcl.proofs.Analysing.{quiet_unfalsified}
 use Rattle.civl_portfolio.specs.Attempt.{MakesTrue}
-use Rattle.civl_provers.specs.Node.{IsPropagated, PropagationSays, JudgeSays, NodeSays}
+use Rattle.civl_provers.specs.Node.{IsPropagated, JudgeSays, NodeSays}
 use Rattle.civl_provers.specs.declared.looking.Node.{Node}
-use Rattle.civl_provers.specs.declared.looking.Node.TheVariants.{Refuted, True, Open}
-
-pub propagated : (first last : List (Option Bool)) (set : ClauseSet) (clauses : List (List Literal)) (falses : List Literal) (conflict : Bool) → clauses ≡ set.clauses → length last ≡ set.variables → AreAssumed first falses → Propagates first last clauses → EndsBy last clauses conflict → PropagationSays last set falses conflict
-propagated first last set clauses falses true same size assumed reached ends =
-    subst (λ (cs : List (List Literal)). GivesConflict cs falses) same
-    (λ s fails closed. conflict_grows (marked last) s clauses (reached.sound s (assumed.no_more s fails) closed) ends)
-propagated first last set clauses falses false same size assumed reached ends = record {
-  size = size;
-  fails = λ k d low. reached.stay (get_or falses k d).variable (not (get_or falses k d).positive) (assumed.hold k d low);
-  least = λ s fails closed. reached.sound s (assumed.no_more s fails) (subst (IsClosed s) (sym same) closed);
-  quiet = subst (All (IsQuiet (marked last))) same ends;
-}
+use Rattle.civl_provers.specs.declared.looking.Node.TheVariants.{True, Open}
 
 -- whether each clause has a true literal
 abbrev pub all_marked : List (Option Bool) → List (List Literal) → Bool
@@ -85,7 +73,6 @@ unmarked (Some a) b e h = cc
 
 -- what the marks say is so of the branch, since they are the least closed set
 pub node_by : (marks : List (Option Bool)) (set : ClauseSet) (falses : List Literal) (node : Node) → IsPropagated marks set falses → JudgeSays marks set node → NodeSays set falses node
-node_by marks set falses Refuted p says = absurd says
 node_by marks set falses (True bits) p says = says
 node_by marks set falses (Open v) p says =
     let closed : IsClosed (marked marks) set.clauses = λ k d low. (p.quiet k d low).0 in (

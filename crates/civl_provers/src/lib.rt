@@ -1,6 +1,7 @@
 //! Two honest provers: one tries given bits, and one splits on variables to a depth.
 #![tactic(auto)]
 
+mod branching;
 mod laws;
 mod looking;
 mod memory;

@@ -23,14 +23,14 @@ impl From<civl_cnf::Memory> for Memory {
     }
 }
 
-impl From<civl_rup::Memory> for Memory {
-    fn from(_wanting: civl_rup::Memory) -> Memory {
+impl From<civl_cdcl::Memory> for Memory {
+    fn from(_wanting: civl_cdcl::Memory) -> Memory {
         Memory
     }
 }
 
-impl From<civl_cdcl::Memory> for Memory {
-    fn from(_wanting: civl_cdcl::Memory) -> Memory {
+impl From<civl_propagation::Memory> for Memory {
+    fn from(_wanting: civl_propagation::Memory) -> Memory {
         Memory
     }
 }

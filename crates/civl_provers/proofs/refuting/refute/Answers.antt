@@ -58,3 +58,17 @@ loop-falses-preserved c =
       tail = last ∷ tail;
       was = c.loop-falses.invariant.was ∙ ap (λ x. x ++ tail) split ∙ append_assoc rest (last ∷ []) tail;
     }
+
+pub returns-then-positive-clause-turned : goal.returns-then-positive-clause-turned
+returns-then-positive-clause-turned c done =
+    let rest = c.pop.new.self.items in
+    let last = c.in-Some.last in
+    let tail = c.loop-falses.invariant.tail in
+    let split : c.loop-falses.falses.items ≡ rest ++ last ∷ [] = c.in-Some.ensures.items in
+    record {
+      rest = rest;
+      last = last;
+      tail = tail;
+      was = c.loop-falses.invariant.was ∙ ap (λ x. x ++ tail) split ∙ append_assoc rest (last ∷ []) tail;
+      now = c.in_ok-push-in-Some.ensures.items ∙ ap (λ x. rest ++ x ∷ []) c.negate.ensures;
+    }

@@ -1,72 +1,146 @@
-use Rattle.std.proofs.Common.{◌≡◌, ◌∙◌, ◌+◌, ◌<◌, ◌++◌, ◌∷◌, [], refl, sym, ap, subst, arith, List, length, true}
+use Rattle.std.proofs.Common.{◌≡◌, ◌∙◌, ◌+◌, ◌<◌, ◌≤◌, ◌++◌, ◌∷◌, [], refl, sym, ap, subst, arith, List, length, get_or, true, false}
+use Rattle.std.specs.Prelude.{All, IsFalse, None}
 use Rattle.std.proofs.lemmas.List.{length_push}
 use Rattle.civl_cnf.specs.Literal.{Literal}
+use Rattle.civl_cnf.specs.ClauseSet.{ClauseSet}
+use Rattle.civl_rup.specs.Marks.{marked, IsQuiet}
 use Rattle.civl_provers.specs.Branch.{IsBranch}
 use Rattle.civl_provers.specs.Splitter.{IsSplit, AfterRefuted, left}
-use Rattle.civl_provers.specs.Node.{NodeSays}
-use Rattle.civl_provers.specs.declared.looking.Node.TheVariants.{Refuted, Open}
+use Rattle.civl_provers.specs.Standing.{LookSays, IsTurning}
+use Rattle.civl_provers.specs.Node.{JudgeSays, NodeSays}
+use Rattle.civl_provers.specs.declared.looking.Node.TheVariants.{True, Open}
 use Rattle.civl_provers.proofs.Branches.{chosen, refuted_by}
+use Rattle.civl_provers.proofs.Nodes.{node_by}
+use Rattle.civl_provers.proofs.Standings.{propagated_at, open_at, turning, split_none}
 use Rattle.civl_provers.proofs.Steps.{choice_fewer}
 use Rattle.civl_provers.proofs.splitting.split.Goals as goal
 
-pub look-requires-clause-branch : goal.look-requires-clause-branch
-look-requires-clause-branch c =
-    subst (IsBranch c.args.cnf.now) (sym c.as_slice.ensures.value) c.loop-log.invariant.split.branch
-
-pub returns-then-len-depth : goal.returns-then-len-depth
-returns-then-len-depth c =
+pub branches-init : goal.branches-init
+branches-init c =
     let set = c.args.cnf.now in
-    let falses = c.loop-log.falses.items in
-    let says = subst (λ (x : List Literal). NodeSays set x (Open c.in-Open.variable)) c.as_slice.ensures.value (subst (NodeSays set c.as_slice.result.now) c.in-Open.is c.in_ok-bits.ensures.node) in
-    let low = c.loop-log.invariant.low in (
-      falses,
-      record {
-        size = omega arith;
-        branch = c.loop-log.invariant.split.branch;
-        unsettled = says.2;
-      },
-    )
-
-pub loop-log-smaller-in-Continue-branch-5 : goal.loop-log-smaller-in-Continue-branch-5
-loop-log-smaller-in-Continue-branch-5 c =
-    let falses = c.loop-log.falses.items in
-    let l : Literal = record { variable = c.in-Open.variable; positive = true } in
-    let now : c.push.new.self.items ≡ falses ++ l ∷ [] = c.in_ok-push-in-Open.ensures.items ∙ ap (λ x. falses ++ x ∷ []) c.new-in-Open.ensures in
-    let low : length falses < c.args.depth = omega arith in
-    subst (λ (x : List Literal). left c.args.depth x < left c.args.depth falses) (sym now) (choice_fewer c.args.depth falses l refl low)
-
-pub loop-log-preserved-in-Continue-branch-5 : goal.loop-log-preserved-in-Continue-branch-5
-loop-log-preserved-in-Continue-branch-5 c =
-    let set = c.args.cnf.now in
-    let falses = c.loop-log.falses.items in
-    let log = c.loop-log.log in
-    let v = c.in-Open.variable in
-    let l : Literal = record { variable = v; positive = true } in
-    let now : c.push.new.self.items ≡ falses ++ l ∷ [] = c.in_ok-push-in-Open.ensures.items ∙ ap (λ x. falses ++ x ∷ []) c.new-in-Open.ensures in
-    let says = subst (λ (x : List Literal). NodeSays set x (Open v)) c.as_slice.ensures.value (subst (NodeSays set c.as_slice.result.now) c.in-Open.is c.in_ok-bits.ensures.node) in
-    let longer : length c.push.new.self.items ≡ length falses + 1 = ap length now ∙ length_push falses l in
+    let falses : c.new-falses.result.items ≡ [] = c.new-falses.ensures.items in
+    let log : c.new-log.result ≡ [] = c.new-log.ensures in
     record {
-      size = c.in_ok-bits.ensures.size;
-      split = subst (λ (x : List Literal). IsSplit set x log) (sym now) (chosen set falses v log says.0 says.1 c.loop-log.invariant.split);
-      low = omega arith;
+      split = subst (λ (x : List Literal). IsSplit set x c.new-log.result) (sym falses) (subst (IsSplit set []) (sym log) (split_none set));
+      low = omega (arith, ap length falses);
+      looks = subst (λ (x : List Literal). LookSays c.load.new.engine set x c.in_ok-conflict.conflict) (sym falses) c.in_ok-conflict.ensures;
     }
 
 pub returns-then-branch : goal.returns-then-branch
 returns-then-branch c =
     let set = c.args.cnf.now in
-    let falses = c.loop-log.falses.items in
-    let says = subst (λ (x : List Literal). NodeSays set x Refuted) c.as_slice.ensures.value (subst (NodeSays set c.as_slice.result.now) c.in-Refuted.is c.in_ok-bits.ensures.node) in
-    subst (AfterRefuted set c.refute.new.falses.items c.refute.new.log) c.if-branch.true
-    (c.in_ok-refute-in-Refuted.ensures.after set (refuted_by set falses c.loop-log.log c.loop-log.invariant.split says))
+    let falses = c.branches.falses.items in
+    let inv = c.branches.invariant in
+    let looks = subst (LookSays c.branches.engine set falses) c.if-conflict.true inv.looks in
+    subst (AfterRefuted set c.refute.new.falses.items c.refute.new.log) c.if-branch.true (c.in_ok-refute.ensures.after set (refuted_by set falses c.branches.log inv.split looks.0))
 
-pub loop-log-preserved : goal.loop-log-preserved
-loop-log-preserved c =
+pub turn-requires : goal.turn-requires
+turn-requires c =
     let set = c.args.cnf.now in
-    let falses = c.loop-log.falses.items in
-    let says = subst (λ (x : List Literal). NodeSays set x Refuted) c.as_slice.ensures.value (subst (NodeSays set c.as_slice.result.now) c.in-Refuted.is c.in_ok-bits.ensures.node) in
+    let falses = c.branches.falses.items in
+    let inv = c.branches.invariant in
+    let looks = subst (LookSays c.branches.engine set falses) c.if-conflict.true inv.looks in
+    let turned = c.in_ok-refute.ensures.turned c.if-branch.false in
+    let split = subst (AfterRefuted set c.refute.new.falses.items c.refute.new.log) c.if-branch.false (c.in_ok-refute.ensures.after set (refuted_by set falses c.branches.log inv.split looks.0)) in
+    let now = turning c.branches.engine set falses c.refute.new.falses.items looks.1 turned split.branch in
+    (set, falses, subst (λ (x : List Literal). IsTurning c.branches.engine set falses x) (sym c.as_slice.ensures.value) now)
+
+pub judge-requires-clause-size : goal.judge-requires-clause-size
+judge-requires-clause-size c =
+    let looks = subst (LookSays c.branches.engine c.args.cnf.now c.branches.falses.items) c.if-conflict.false c.branches.invariant.looks in
+    omega (arith, ap length c.marks.ensures, ap (λ t. length t.marks) c.trail.ensures, looks.0.size)
+
+pub judge-requires-clause-quiet : goal.judge-requires-clause-quiet
+judge-requires-clause-quiet c =
+    let e = c.branches.engine in
+    let set = c.args.cnf.now in
+    let looks = subst (LookSays e set c.branches.falses.items) c.if-conflict.false c.branches.invariant.looks in
+    let p = propagated_at e set c.branches.falses.items looks.0 looks.1 in
+    let is : c.marks.result.now ≡ e.trail.marks = c.marks.ensures ∙ ap (λ t. t.marks) c.trail.ensures in
+    subst (λ m. All (IsQuiet (marked m)) set.clauses) (sym is) p.quiet
+
+pub returns-then-len-depth : goal.returns-then-len-depth
+returns-then-len-depth c =
+    let e = c.branches.engine in
+    let set = c.args.cnf.now in
+    let falses = c.branches.falses.items in
+    let inv = c.branches.invariant in
+    let looks = subst (LookSays e set falses) c.if-conflict.false inv.looks in
+    let is : c.marks.result.now ≡ e.trail.marks = c.marks.ensures ∙ ap (λ t. t.marks) c.trail.ensures in
+    let judged = subst (λ m. JudgeSays m set (Open c.in-Open.variable)) is (subst (JudgeSays c.marks.result.now set) c.in-Open.is c.in_ok-bits.ensures) in
+    let says = node_by e.trail.marks set falses (Open c.in-Open.variable) (propagated_at e set falses looks.0 looks.1) judged in
+    let low = inv.low in (
+      falses,
+      record {
+        size = omega arith;
+        branch = inv.split.branch;
+        unsettled = says.2;
+      },
+    )
+
+pub assume_false-requires-clause-rest : goal.assume_false-requires-clause-rest
+assume_false-requires-clause-rest c = (subst (LookSays c.branches.engine c.args.cnf.now c.branches.falses.items) c.if-conflict.false c.branches.invariant.looks).1
+
+pub assume_false-requires-clause-below : goal.assume_false-requires-clause-below
+assume_false-requires-clause-below c =
+    let e = c.branches.engine in
+    let set = c.args.cnf.now in
+    let looks = subst (LookSays e set c.branches.falses.items) c.if-conflict.false c.branches.invariant.looks in
+    let judged = subst (JudgeSays c.marks.result.now set) c.in-Open.is c.in_ok-bits.ensures in
+    omega (arith, judged.0, looks.0.size, ap (λ (l : Literal). l.variable) c.new-lit.ensures)
+
+pub assume_false-requires-clause-open : goal.assume_false-requires-clause-open
+assume_false-requires-clause-open c =
+    let e = c.branches.engine in
+    let set = c.args.cnf.now in
+    let is : c.marks.result.now ≡ e.trail.marks = c.marks.ensures ∙ ap (λ t. t.marks) c.trail.ensures in
+    let judged = subst (λ m. JudgeSays m set (Open c.in-Open.variable)) is (subst (JudgeSays c.marks.result.now set) c.in-Open.is c.in_ok-bits.ensures) in
+    ap (λ (l : Literal). get_or e.trail.marks l.variable None) c.new-lit.ensures ∙ judged.1
+
+pub branches-preserved-then-conflict : goal.branches-preserved-then-conflict
+branches-preserved-then-conflict c =
+    let e = c.branches.engine in
+    let set = c.args.cnf.now in
+    let falses = c.branches.falses.items in
+    let new = c.refute.new.falses.items in
+    let inv = c.branches.invariant in
+    let looks = subst (LookSays e set falses) c.if-conflict.true inv.looks in
+    let turned = c.in_ok-refute.ensures.turned c.if-branch.false in
+    let split = subst (AfterRefuted set new c.refute.new.log) c.if-branch.false (c.in_ok-refute.ensures.after set (refuted_by set falses c.branches.log inv.split looks.0)) in
+    let now = turning e set falses new looks.1 turned split.branch in
     record {
-      size = c.in_ok-bits.ensures.size;
-      split = subst (AfterRefuted set c.refute.new.falses.items c.refute.new.log) c.if-branch.false
-          (c.in_ok-refute-in-Refuted.ensures.after set (refuted_by set falses c.loop-log.log c.loop-log.invariant.split says));
-      low = (c.in_ok-refute-in-Refuted.ensures.fewer c.if-branch.false c.args.depth c.loop-log.invariant.low).0;
+      split = split;
+      low = (c.in_ok-refute.ensures.fewer c.if-branch.false c.args.depth inv.low).0;
+      looks = subst (λ (x : List Literal). LookSays c.turn.new.engine set x c.in_ok-conflict-2.conflict) c.as_slice.ensures.value
+          (c.in_ok-conflict-2.ensures set falses (subst (λ (x : List Literal). IsTurning e set falses x) (sym c.as_slice.ensures.value) now));
+    }
+
+pub branches-smaller : goal.branches-smaller
+branches-smaller c =
+    let falses = c.branches.falses.items in
+    let l : Literal = record { variable = c.in-Open.variable; positive = true } in
+    let now : c.push.new.self.items ≡ falses ++ l ∷ [] = c.in_ok-push-in-Open.ensures.items ∙ ap (λ x. falses ++ x ∷ []) c.new-lit.ensures in
+    let low : length falses < c.args.depth = omega arith in
+    subst (λ (x : List Literal). left c.args.depth x < left c.args.depth falses) (sym now) (choice_fewer c.args.depth falses l refl low)
+
+pub branches-preserved : goal.branches-preserved
+branches-preserved c =
+    let e = c.branches.engine in
+    let set = c.args.cnf.now in
+    let falses = c.branches.falses.items in
+    let log = c.branches.log in
+    let v = c.in-Open.variable in
+    let l : Literal = record { variable = v; positive = true } in
+    let inv = c.branches.invariant in
+    let looks = subst (LookSays e set falses) c.if-conflict.false inv.looks in
+    let is : c.marks.result.now ≡ e.trail.marks = c.marks.ensures ∙ ap (λ t. t.marks) c.trail.ensures in
+    let judged = subst (λ m. JudgeSays m set (Open v)) is (subst (JudgeSays c.marks.result.now set) c.in-Open.is c.in_ok-bits.ensures) in
+    let says = node_by e.trail.marks set falses (Open v) (propagated_at e set falses looks.0 looks.1) judged in
+    let now : c.push.new.self.items ≡ falses ++ l ∷ [] = c.in_ok-push-in-Open.ensures.items ∙ ap (λ x. falses ++ x ∷ []) c.new-lit.ensures in
+    let longer : length c.push.new.self.items ≡ length falses + 1 = ap length now ∙ length_push falses l in
+    record {
+      split = subst (λ (x : List Literal). IsSplit set x log) (sym now) (chosen set falses v log says.0 says.1 inv.split);
+      low = omega arith;
+      looks = subst (λ (x : List Literal). LookSays c.assume_false.new.engine set x c.in_ok-conflict-in-Open.conflict) (sym c.in_ok-push-in-Open.ensures.items)
+          (c.in_ok-conflict-in-Open.ensures set falses looks.0);
     }

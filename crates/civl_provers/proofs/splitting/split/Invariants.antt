@@ -1,13 +1,14 @@
-use Rattle.std.proofs.Common.{◌≡◌, ◌≤◌, length}
+use Rattle.std.proofs.Common.{◌≤◌, length}
 use Rattle.civl_provers.specs.Splitter.{IsSplit, left}
+use Rattle.civl_provers.specs.Standing.{LookSays}
 use Rattle.civl_provers.proofs.splitting.split.Given as goal
 
-abbrev pub invariant-loop-log : goal.invariant-loop-log
-invariant-loop-log l = record {
-  size : length l.marks.values ≡ l.cnf.variables;
+abbrev pub invariant-branches : goal.invariant-branches
+invariant-branches l = record {
   split : IsSplit l.cnf l.falses.items l.log;
   low : length l.falses.items ≤ l.depth;
+  looks : LookSays l.engine l.cnf l.falses.items l.conflict;
 }
 
-abbrev pub decreases-loop-log : goal.decreases-loop-log
-decreases-loop-log l = left l.depth l.falses.items
+abbrev pub decreases-branches : goal.decreases-branches
+decreases-branches l = left l.depth l.falses.items

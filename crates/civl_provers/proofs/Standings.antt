@@ -1,0 +1,133 @@
+-- Where the engine of propagation stands in a splitting.
+use Rattle.std.proofs.Common.{◌≡◌, ◌⊎◌, ℕ, ◌+◌, ◌<◌, ◌≤◌, List, [], ◌∷◌, ◌++◌, length, get_or, take, drop, map, refl, sym, ◌∙◌, ap, subst, inl, inr, arith, Bool, true, false, not}
+use Rattle.std.specs.Prelude.{All, Option, None, Some}
+use Rattle.std.proofs.lemmas.List.{map-append, take-map, length-map, length_push, length-append, get_or_push, take-append-le, take_all, take-append-drop}
+use Rattle.std.proofs.lemmas.List.Elements.{All-nil, All-cons, All-head, All-tail}
+use Rattle.civl_cnf.specs.Literal.{Literal, opposite}
+use Rattle.civl_cnf.specs.ClauseSet.{ClauseSet}
+use Rattle.civl_rup.specs.Propagation.{Holds, Fails, IsFalsified, IsClosed, GivesConflict}
+use Rattle.civl_rup.specs.Marks.{is_marked, marked, IsQuiet}
+use Rattle.civl_rup.proofs.MarkLemmas.{same_self}
+use Rattle.civl_propagation.specs.Trail.{IsAt, IsCut, AreDecided}
+use Rattle.civl_propagation.specs.Engine.{EngineState, IsEngine, IsAtRest}
+use Rattle.civl_propagation.proofs.Engines.{least_by, decided_hold, conflict_by}
+use Rattle.civl_provers.specs.Branch.{IsLeftOpen, IsBranch}
+use Rattle.civl_provers.specs.Splitter.{IsSplit}
+use Rattle.civl_provers.specs.Node.{IsPropagated}
+use Rattle.civl_provers.specs.Standing.{IsAtBranch, LookSays, Turns, IsTurning}
+use Rattle.civl_provers.proofs.Branches.{IsChoice, choices_last, conflict_more}
+
+-- literals that fail have opposites that hold, and the other way round
+pub hold_opposites : (s : ℕ → Bool → Bool) (xs : List Literal) → All (Fails s) xs → All (Holds s) (map opposite xs)
+hold_opposites s [] h = All-nil (Holds s)
+hold_opposites s (x ∷ xs) h = All-cons (Holds s) (opposite x) (map opposite xs) (All-head (Fails s) x xs h) (hold_opposites s xs (All-tail (Fails s) x xs h))
+
+pub fail_opposites : (s : ℕ → Bool → Bool) (xs : List Literal) → All (Holds s) (map opposite xs) → All (Fails s) xs
+fail_opposites s [] h = All-nil (Fails s)
+fail_opposites s (x ∷ xs) h = All-cons (Fails s) x xs (All-head (Holds s) (opposite x) (map opposite xs) h) (fail_opposites s xs (All-tail (Holds s) (opposite x) (map opposite xs) h))
+
+-- a branch under which a clause is falsified is refuted
+pub refuted_at : (e : EngineState) (set : ClauseSet) (falses : List Literal) (r : ℕ) → IsAtBranch e set falses → IsAt e.clauses r (IsFalsified (marked e.trail.marks)) → GivesConflict set.clauses falses
+refuted_at e set falses r b at =
+    subst (λ (cs : List (List Literal)). GivesConflict cs falses) b.clauses
+    (λ s fails closed. conflict_by e.trail e.clauses (map opposite falses) r b.engine.trail b.decided at s (hold_opposites s falses fails) closed)
+
+-- where propagation is complete the marks are what it makes true
+pub propagated_at : (e : EngineState) (set : ClauseSet) (falses : List Literal) → IsAtBranch e set falses → IsAtRest e → IsPropagated e.trail.marks set falses
+propagated_at e set falses b rest = record {
+  size = b.size;
+  fails = fail_opposites (marked e.trail.marks) falses (decided_hold e.trail e.clauses (map opposite falses) b.engine.trail b.decided);
+  least = λ s fails closed. least_by e.trail e.clauses (map opposite falses) b.engine.trail b.decided s (hold_opposites s falses fails) (subst (IsClosed s) (sym b.clauses) closed);
+  quiet = subst (All (IsQuiet (marked e.trail.marks))) b.clauses rest.quiet;
+}
+
+has_value : (m : Option Bool) → (m ≡ None) ⊎ ((b : Bool) × (is_marked m b ≡ true))
+has_value None = inl refl
+has_value (Some b) = inr (b, same_self b)
+
+-- a variable that was left open has no value
+pub open_at : (e : EngineState) (set : ClauseSet) (falses : List Literal) (v : ℕ) → IsAtBranch e set falses → IsLeftOpen set.clauses falses v → get_or e.trail.marks v None ≡ None
+open_at e set falses v b free = elim (has_value (get_or e.trail.marks v None)) [
+  | inl none ↦ none
+  | inr some ↦ absurd (free some.0 (λ s fails closed.
+      least_by e.trail e.clauses (map opposite falses) b.engine.trail b.decided s (hold_opposites s falses fails) (subst (IsClosed s) (sym b.clauses) closed) v some.0 some.1))
+]
+
+-- one more literal was made false
+pub at_more : (old new : EngineState) (set : ClauseSet) (falses : List Literal) (l : Literal) → IsAtBranch old set falses → IsEngine new → new.clauses ≡ old.clauses → length new.trail.marks ≡ length old.trail.marks → ((decisions : List Literal) → AreDecided old.trail decisions → AreDecided new.trail (decisions ++ opposite l ∷ [])) → IsAtBranch new set (falses ++ l ∷ [])
+at_more old new set falses l b engine same size more = record {
+  engine = engine;
+  clauses = same ∙ b.clauses;
+  size = size ∙ b.size;
+  decided = subst (AreDecided new.trail) (sym (map-append opposite falses (l ∷ []))) (more (map opposite falses) b.decided);
+}
+
+front_is : (rest more : List Literal) → take (length rest) (rest ++ more) ≡ rest
+front_is rest more = take-append-le (length rest) rest more (omega arith) ∙ take_all (length rest) rest (omega arith)
+
+-- choices were taken back
+pub at_cut : (old new : EngineState) (set : ClauseSet) (falses rest more : List Literal) (n : ℕ) → IsAtBranch old set falses → falses ≡ rest ++ more → n ≡ length rest → IsAtRest new → new.clauses ≡ old.clauses → length new.trail.marks ≡ length old.trail.marks → ((decisions : List Literal) → AreDecided old.trail decisions → AreDecided new.trail (take n decisions)) → IsAtBranch new set rest
+at_cut old new set falses rest more n b was at settled same size cut =
+    let left : take n (map opposite falses) ≡ map opposite rest =
+    take-map opposite n falses ∙ ap (map opposite) (ap (λ (k : ℕ). take k falses) at ∙ ap (take (length rest)) was ∙ front_is rest more) in
+    record {
+      engine = settled.engine;
+      clauses = same ∙ b.clauses;
+      size = size ∙ b.size;
+      decided = subst (AreDecided new.trail) left (cut (map opposite falses) b.decided);
+    }
+
+-- how many levels there are
+pub levels_at : (e : EngineState) (set : ClauseSet) (falses : List Literal) → IsAtBranch e set falses → length e.trail.starts ≡ length falses
+levels_at e set falses b = b.decided.size ∙ length-map falses opposite
+
+-- how long the branches are, where choices were taken back
+pub turns_sizes : (old new : List Literal) (t : Turns old new) → (length new ≡ length t.rest + 1) × (length t.rest < length old)
+turns_sizes old new t =
+    let longer = ap length t.was ∙ length-append t.rest (t.last ∷ t.tail) in
+    (ap length t.now ∙ length_push t.rest (opposite t.last), omega arith)
+
+-- the last choice
+pub turns_last : (old new : List Literal) (t : Turns old new) (n : ℕ) (d : Literal) → n + 1 ≡ length new → get_or new n d ≡ opposite t.last
+turns_last old new t n d at =
+    let sizes = turns_sizes old new t in
+    let first = sizes.0 in
+    ap (λ (x : List Literal). get_or x n d) t.now ∙ get_or_push t.rest (opposite t.last) d n (omega arith)
+
+-- the last choice was left open by those before it
+pub turns_choice : (set : ClauseSet) (old new : List Literal) (t : Turns old new) → IsBranch set new → IsChoice set t.rest (opposite t.last)
+turns_choice set old new t b = choices_last (IsChoice set) t.rest (opposite t.last) (subst (IsBranch set) t.now b)
+
+-- the engine is at the branch that was refuted
+pub turns_at : (e : EngineState) (set : ClauseSet) (old new : List Literal) → ((old ≡ []) ⊎ IsAtBranch e set old) → Turns old new → IsAtBranch e set old
+turns_at e set old new (inl none) t =
+    let sizes = turns_sizes old new t in
+    let some = sizes.1 in
+    let size : length old ≡ 0 = ap length none in
+    absurd (omega arith)
+turns_at e set old new (inr at) t = at
+
+-- an engine that has the first clauses of a set, and no decision
+pub refuted_front : (e : EngineState) (set : ClauseSet) (n r : ℕ) → IsEngine e → e.clauses ≡ take n set.clauses → AreDecided e.trail [] → IsAt e.clauses r (IsFalsified (marked e.trail.marks)) → GivesConflict set.clauses []
+refuted_front e set n r engine is none at =
+    let first : GivesConflict e.clauses [] = λ s fails closed. conflict_by e.trail e.clauses [] r engine.trail none at s (All-nil (Holds s)) closed in
+    subst (λ (cs : List (List Literal)). GivesConflict cs []) (take-append-drop n set.clauses)
+    (conflict_more (take n set.clauses) (drop n set.clauses) [] (subst (λ (cs : List (List Literal)). GivesConflict cs []) is first))
+
+-- an engine that has the clauses of a set, and no decision
+pub at_root : (e : EngineState) (set : ClauseSet) (n : ℕ) → IsAtRest e → length set.clauses ≤ n → e.clauses ≡ take n set.clauses → length e.trail.marks ≡ set.variables → AreDecided e.trail [] → LookSays e set [] false
+at_root e set n rest whole is size none = (
+  record { engine = rest.engine; clauses = is ∙ take_all n set.clauses whole; size = size; decided = none },
+  rest,
+)
+
+-- the first branch, with no choice
+pub split_none : (set : ClauseSet) → IsSplit set [] []
+split_none set = record {
+  branch = λ i d low. absurd (omega arith);
+  rup = λ i low. absurd (omega arith);
+  turned = λ i d low f. absurd (omega arith);
+}
+
+pub turning : (e : EngineState) (set : ClauseSet) (old new : List Literal) → ((old ≡ []) ⊎ IsAtBranch e set old) → Turns old new → IsBranch set new → IsTurning e set old new
+turning e set old new where_ t branch = record { at = turns_at e set old new where_ t; turned = t; branch = branch }
