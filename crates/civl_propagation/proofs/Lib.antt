@@ -2,3 +2,5 @@ pub mod Trails
 pub mod Cutting
 pub mod Serving
 pub mod Engines
+pub mod Watching
+pub mod Visiting

@@ -1,3 +1,4 @@
 pub mod Trail
 pub mod Propagation
 pub mod Engine
+pub mod Watches

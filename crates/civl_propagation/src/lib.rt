@@ -5,8 +5,10 @@ mod engine;
 mod memory;
 mod propagation;
 mod trail;
+mod watches;
 
 pub use engine::Engine;
 pub use memory::Memory;
 pub use propagation::Ended;
 pub use trail::{Step, Trail};
+pub use watches::{Pair, Visit, Watches};

@@ -1,0 +1,303 @@
+-- Visits of clauses by their watches.
+use Rattle.std.proofs.Common.{◌≡◌, ◌⊎◌, ℕ, ◌+◌, ◌<◌, ◌≤◌, List, [], ◌∷◌, ◌++◌, length, get_or, refl, sym, ◌∙◌, ap, ap₂, subst, inl, inr, arith, Bool, true, false, not}
+use Rattle.std.specs.Prelude.{IsTrue, All, Contains, Option, None, Some, ◌≢◌}
+use Rattle.std.specs.List.{swap_remove}
+use Rattle.std.proofs.Math.ListN.{set, length-set}
+use Rattle.std.proofs.lemmas.Bool.Decides.{eqb_tells}
+use Rattle.std.proofs.lemmas.List.{get_or-set_same, get_or-set_other, get_or_default}
+use Rattle.std.proofs.lemmas.List.Elements.{All-contains, All-push, Contains-get_or, Contains-push, Contains-append_left}
+use Rattle.civl_cnf.specs.Literal.{Literal, opposite}
+use Rattle.civl_rup.specs.Propagation.{Holds, Fails, IsFalsified, IsUnit}
+use Rattle.civl_rup.specs.Marks.{is_marked, marked, IsQuiet, IsIncluded}
+use Rattle.civl_rup.specs.Occurrences.{BothSigns, IsSingle}
+use Rattle.civl_rup.specs.Trail.{IsOpen}
+use Rattle.civl_rup.proofs.MarkLemmas.{lt_or_eq, same_self}
+use Rattle.civl_rup.proofs.LawLemmas.{not_not}
+use Rattle.civl_propagation.specs.Trail.{TrailState, before, IsAt, IsStep, IsTrailOver, IsPushed}
+use Rattle.civl_propagation.specs.Propagation.{IsServed, Grows, Goes}
+use Rattle.civl_propagation.specs.Watches.{WatchState, watchers, IsListed, IsUnlisted, IsWatchedBy, IsWatched, AreWatched, Answers, KeepsUp, AllKeepUp, KeepUpBelow, IsHeld, IsDueFrom, IsVisiting}
+use Rattle.civl_propagation.specs.declared.watches.Pair.{Pair}
+use Rattle.civl_propagation.specs.declared.trail.Step.{Step}
+use Rattle.civl_propagation.proofs.Trails.{some_step, before_marked}
+use Rattle.civl_propagation.proofs.Serving.{fails_older, goes_push, holds_push}
+use Rattle.civl_propagation.proofs.Watching.{removed_keeps, removed_size, removed_all, keeps_grow, IsPair, pair_answers, answers_true, answers_moved, answers_older, not_both}
+
+opposite_twice : (l : Literal) → opposite (opposite l) ≡ l
+opposite_twice l = ap (λ (b : Bool). record { variable = l.variable; positive = b }) (not_not l.positive)
+
+-- what holds stays so while the trail grows
+pub held_grows : (t new : TrailState) (clauses : List (List Literal)) (w : WatchState) → IsHeld t clauses w → Goes t new clauses → IsHeld new clauses w
+held_grows t new clauses w h g =
+    let size : length new.marks ≡ length t.marks = g.grows.size in
+    let at : (k : ℕ) → get_or new.starts k 0 ≡ get_or t.starts k 0 = λ k. ap (λ (x : List ℕ). get_or x k 0) g.grows.starts in
+    let count : length new.starts ≡ length t.starts = ap length g.grows.starts in
+    record {
+      trail = g.trail;
+      watched = subst (λ (n : ℕ). AreWatched n clauses w) (sym size) h.watched;
+      below = λ k low n inside.
+          let here : k < length t.starts = omega arith in
+          let same : before new.marks new.places (get_or new.starts k 0) ≡ before t.marks t.places (get_or t.starts k 0) = ap (before new.marks new.places) (at k) ∙ g.grows.same (get_or t.starts k 0) (h.trail.low k here) in
+          subst (λ f. KeepsUp f f (get_or clauses n []) (get_or w.pairs n None)) (sym same) (h.below k here n inside);
+    }
+
+-- and so do visits
+pub visiting_grows : (t new : TrailState) (clauses : List (List Literal)) (w : WatchState) (falsified : Literal) (step at : ℕ) → IsVisiting t clauses w falsified step at → Goes t new clauses → IsVisiting new clauses w falsified step at
+visiting_grows t new clauses w falsified step at v g =
+    let longer = g.grows.longer in
+    let here = v.here in
+    let now : before new.marks new.places (step + 1) ≡ before t.marks t.places (step + 1) = g.grows.same (step + 1) (omega arith) in
+    let then_ : before new.marks new.places step ≡ before t.marks t.places step = g.grows.same step (omega arith) in
+    record {
+      held = held_grows t new clauses w v.held g;
+      here = omega arith;
+      falsity = λ d. ap (λ (x : Step). x.lit) (g.grows.steps step d here) ∙ v.falsity d;
+      due = λ n low. elim (v.due n low) [
+        | inl keeps ↦ inl (subst (λ f. KeepsUp f (marked new.marks) (get_or clauses n []) (get_or w.pairs n None)) (sym now)
+            (keeps_grow (before t.marks t.places (step + 1)) (marked t.marks) (marked new.marks) (get_or clauses n []) (get_or w.pairs n None) g.grows.stays keeps))
+        | inr due ↦ inr (record {
+          place = due.place;
+          after = due.after;
+          within = due.within;
+          is = due.is;
+          keeps = subst (λ f. KeepsUp f (marked new.marks) (get_or clauses n []) (get_or w.pairs n None)) (sym then_)
+              (keeps_grow (before t.marks t.places step) (marked t.marks) (marked new.marks) (get_or clauses n []) (get_or w.pairs n None) g.grows.stays due.keeps);
+        })
+      ];
+    }
+
+-- the clause at the place keeps up with the step
+pub visiting_next : (t : TrailState) (clauses : List (List Literal)) (w : WatchState) (falsified : Literal) (step at : ℕ) → IsVisiting t clauses w falsified step at → KeepsUp (before t.marks t.places (step + 1)) (marked t.marks) (get_or clauses (get_or (watchers w.lists falsified) at 0) []) (get_or w.pairs (get_or (watchers w.lists falsified) at 0) None) → IsVisiting t clauses w falsified step (at + 1)
+visiting_next t clauses w falsified step at v keeps = record {
+  held = v.held;
+  here = v.here;
+  falsity = v.falsity;
+  due = λ n low. elim (v.due n low) [
+    | inl kept ↦ inl kept
+    | inr due ↦ elim (eqb_tells due.place at) [
+      | inl is ↦
+          let number : get_or (watchers w.lists falsified) at 0 ≡ n = ap (λ (k : ℕ). get_or (watchers w.lists falsified) k 0) (sym is.1) ∙ due.is in
+          inl (subst (λ (k : ℕ). KeepsUp (before t.marks t.places (step + 1)) (marked t.marks) (get_or clauses k []) (get_or w.pairs k None)) number keeps)
+      | inr other ↦
+          let after = due.after in
+          let apart = other.1 in
+          inr (record { place = due.place; after = omega arith; within = due.within; is = due.is; keeps = due.keeps })
+    ]
+  ];
+}
+
+-- the literal is false
+pub visiting_false : (t : TrailState) (clauses : List (List Literal)) (w : WatchState) (falsified : Literal) (step at : ℕ) → IsVisiting t clauses w falsified step at → Fails (marked t.marks) falsified
+visiting_false t clauses w falsified step at v =
+    let l = (get_or t.steps step some_step).lit in
+    let one : IsStep t.marks t.places step l = v.held.trail.steps_are step some_step v.here in
+    let holds : Holds (marked t.marks) l = ap (λ (m : Option Bool). is_marked m l.positive) one.mark ∙ same_self l.positive in
+    subst (λ (m : Literal). Holds (marked t.marks) m) (v.falsity some_step) holds
+
+-- another literal that fails with the step failed before it
+pub visiting_older : (t : TrailState) (clauses : List (List Literal)) (w : WatchState) (falsified m : Literal) (step at : ℕ) → IsVisiting t clauses w falsified step at → m ≢ falsified → Fails (before t.marks t.places (step + 1)) m → Fails (before t.marks t.places step) m
+visiting_older t clauses w falsified m step at v apart f =
+    let one : IsStep t.marks t.places step (opposite falsified) = subst (IsStep t.marks t.places step) (v.falsity some_step) (v.held.trail.steps_are step some_step v.here) in
+    fails_older t.marks t.places t.steps t.starts clauses step (opposite falsified) m v.held.trail v.here v.falsity one (λ e. apart (e ∙ opposite_twice falsified)) f
+
+step_within : (t : TrailState) (p : ℕ) → IsIncluded (before t.marks t.places p) (marked t.marks)
+step_within t p = λ v b m. before_marked t.marks t.places p v b m
+
+-- the other watched literal of a clause that is visited: where it failed with the step, the one that became false is true, which it isn't
+pub visiting_back : (t : TrailState) (clauses : List (List Literal)) (w : WatchState) (falsified other : Literal) (step at n : ℕ) (pair : Pair) → IsVisiting t clauses w falsified step at → n < length clauses → get_or w.pairs n None ≡ Some pair → IsPair pair falsified other → other ≢ falsified → Fails (before t.marks t.places (step + 1)) other → Holds (marked t.marks) falsified
+visiting_back t clauses w falsified other step at n pair v low is both apart f = elim (v.due n low) [
+  | inl keeps ↦ pair_answers (before t.marks t.places (step + 1)) (marked t.marks) pair falsified other both (subst (KeepsUp (before t.marks t.places (step + 1)) (marked t.marks) (get_or clauses n [])) is keeps) f
+  | inr due ↦ pair_answers (before t.marks t.places step) (marked t.marks) pair falsified other both (subst (KeepsUp (before t.marks t.places step) (marked t.marks) (get_or clauses n [])) is due.keeps) (visiting_older t clauses w falsified other step at v apart f)
+]
+
+-- the lists once a number went from one literal's to another's
+pub record IsRelisted (old new : List BothSigns) (from to : Literal) (at number : ℕ) : Type 0 where
+  pub size : length new ≡ length old
+  pub gone : watchers new from ≡ swap_remove (watchers old from) at (get_or (watchers old from) at 0)
+  pub come : watchers new to ≡ watchers old to ++ number ∷ []
+  pub others : (m : Literal) → m ≢ from → m ≢ to → watchers new m ≡ watchers old m
+
+pub relisted_by : (old mid new : List BothSigns) (from to : Literal) (at number : ℕ) → to ≢ from → IsListed old mid to number → IsUnlisted mid new from at → IsRelisted old new from to at number
+relisted_by old mid new from to at number apart l u =
+    let same : watchers mid from ≡ watchers old from = l.others from (λ e. apart (sym e)) in
+    record {
+      size = u.size ∙ l.size;
+      gone = u.here ∙ ap (λ (xs : List ℕ). swap_remove xs at (get_or xs at 0)) same;
+      come = u.others to apart ∙ l.here;
+      others = λ m other more. u.others m other ∙ l.others m more;
+    }
+
+sign_or_not : (a b : Bool) → (a ≡ b) ⊎ (a ≢ b)
+sign_or_not true true = inl refl
+sign_or_not true false = inr (λ e. cc)
+sign_or_not false true = inr (λ e. cc)
+sign_or_not false false = inl refl
+
+literal_or_not : (m l : Literal) → (m ≡ l) ⊎ (m ≢ l)
+literal_or_not m l = elim (eqb_tells m.variable l.variable) [
+  | inl v ↦ elim (sign_or_not m.positive l.positive) [
+    | inl p ↦ inl (ap₂ (λ (x : ℕ) (b : Bool). record { variable = x; positive = b }) v.1 p)
+    | inr p ↦ inr (λ e. p (ap (λ (x : Literal). x.positive) e))
+  ]
+  | inr v ↦ inr (λ e. v.1 (ap (λ (x : Literal). x.variable) e))
+]
+
+-- a number that isn't the one that went stands where it did
+pub relisted_stays : (old new : List BothSigns) (from to m : Literal) (at number n : ℕ) → IsRelisted old new from to at number → at < length (watchers old from) → get_or (watchers old from) at 0 ≡ number → n ≢ number → Contains (watchers old m) n → Contains (watchers new m) n
+relisted_stays old new from to m at number n r low here apart there = elim (literal_or_not m from) [
+  | inl is ↦
+      let xs = watchers old from in
+      let ys = swap_remove xs at (get_or xs at 0) in
+      let before : Contains xs n = subst (λ (l : Literal). Contains (watchers old l) n) is there in
+      let value : get_or xs before.0 0 ≡ n = get_or_default xs before.0 0 n before.1 ∙ before.2 in
+      let kept = removed_keeps xs at (get_or xs at 0) before.0 low before.1 (λ e. apart (sym value ∙ ap (λ (k : ℕ). get_or xs k 0) e ∙ here)) in
+      let found : Contains ys n = (kept.0, kept.1, get_or_default ys kept.0 n 0 kept.1 ∙ kept.2 ∙ value) in
+      subst (λ (l : Literal). Contains (watchers new l) n) (sym is) (subst (λ (zs : List ℕ). Contains zs n) (sym r.gone) found)
+  | inr other ↦ elim (literal_or_not m to) [
+    | inl is ↦ subst (λ (l : Literal). Contains (watchers new l) n) (sym is)
+        (subst (λ (zs : List ℕ). Contains zs n) (sym r.come) (Contains-append_left (watchers old to) (number ∷ []) n (subst (λ (l : Literal). Contains (watchers old l) n) is there)))
+    | inr more ↦ subst (λ (zs : List ℕ). Contains zs n) (sym (r.others m other more)) there
+  ]
+]
+
+relisted_numbers : (P : ℕ → Type 0) (old new : List BothSigns) (from to l : Literal) (at number : ℕ) → IsRelisted old new from to at number → at < length (watchers old from) → P number → ((m : Literal) → All P (watchers old m)) → All P (watchers new l)
+relisted_numbers P old new from to l at number r low one all = elim (literal_or_not l from) [
+  | inl is ↦ subst (λ (m : Literal). All P (watchers new m)) (sym is) (subst (All P) (sym r.gone) (removed_all P (watchers old from) at (get_or (watchers old from) at 0) low (all from)))
+  | inr other ↦ elim (literal_or_not l to) [
+    | inl is ↦ subst (λ (m : Literal). All P (watchers new m)) (sym is) (subst (All P) (sym r.come) (All-push P (watchers old to) number (all to) one))
+    | inr more ↦ subst (All P) (sym (r.others l other more)) (all l)
+  ]
+]
+
+watched_stays : (clause : List Literal) (n : ℕ) (old new : List BothSigns) (from to : Literal) (at number : ℕ) (pair : Option Pair) → IsRelisted old new from to at number → at < length (watchers old from) → get_or (watchers old from) at 0 ≡ number → n ≢ number → IsWatched clause n old pair → IsWatched clause n new pair
+watched_stays clause n old new from to at number None r low here apart w = w
+watched_stays clause n old new from to at number (Some pair) r low here apart w = record {
+  first = w.first;
+  second = w.second;
+  apart = w.apart;
+  first_listed = relisted_stays old new from to pair.first at number n r low here apart w.first_listed;
+  second_listed = relisted_stays old new from to pair.second at number n r low here apart w.second_listed;
+}
+
+-- what stands of the two literals of a pair, in one order or the other
+pair_facts : (clause : List Literal) (n : ℕ) (lists : List BothSigns) (pair : Pair) (a b : Literal) → IsPair pair a b → IsWatchedBy clause n lists pair → Contains clause b × (b ≢ a) × Contains (watchers lists b) n
+pair_facts clause n lists pair a b (inl is) w = (
+  subst (Contains clause) is.1 w.second,
+  λ e. w.apart (is.0 ∙ sym e ∙ sym is.1),
+  subst (λ (l : Literal). Contains (watchers lists l) n) is.1 w.second_listed,
+)
+pair_facts clause n lists pair a b (inr is) w = (
+  subst (Contains clause) is.0 w.first,
+  λ e. w.apart (is.0 ∙ e ∙ sym is.1),
+  subst (λ (l : Literal). Contains (watchers lists l) n) is.0 w.first_listed,
+)
+
+-- the watch of a clause was moved from the literal that became false to one that isn't
+pub visiting_moved : (t : TrailState) (clauses : List (List Literal)) (w new : WatchState) (falsified other next : Literal) (step at number : ℕ) (pair : Pair) → IsVisiting t clauses w falsified step at → at < length (watchers w.lists falsified) → number ≡ get_or (watchers w.lists falsified) at 0 → number < length clauses → get_or w.pairs number None ≡ Some pair → IsPair pair falsified other → Contains (get_or clauses number []) next → next ≢ other → (Fails (marked t.marks) next → ⊥) → new.pairs ≡ set w.pairs number (Some (record { first = next; second = other })) → IsRelisted w.lists new.lists falsified next at number → IsVisiting t clauses new falsified step at × (length (watchers new.lists falsified) + 1 ≡ length (watchers w.lists falsified))
+visiting_moved t clauses w new falsified other next step at number pair v low is inside pair_is both there apart free pairs r =
+    let marks = t.marks in
+    let moved : Pair = record { first = next; second = other } in
+    let old_watched = v.held.watched in
+    let fails = visiting_false t clauses w falsified step at v in
+    let never : next ≢ falsified = λ e. free (subst (λ (m : Literal). Fails (marked marks) m) (sym e) fails) in
+    let by : IsWatchedBy (get_or clauses number []) number w.lists pair = subst (IsWatched (get_or clauses number []) number w.lists) pair_is (old_watched.each number inside) in
+    let two = pair_facts (get_or clauses number []) number w.lists pair falsified other both by in
+    let count : number < length w.pairs = omega (arith, old_watched.pairs) in
+    let pair_new : get_or new.pairs number None ≡ Some moved = ap (λ (xs : List (Option Pair)). get_or xs number None) pairs ∙ get_or-set_same w.pairs number (Some moved) None count in
+    let pair_old : (n : ℕ) → n ≢ number → get_or new.pairs n None ≡ get_or w.pairs n None = λ n differ. ap (λ (xs : List (Option Pair)). get_or xs n None) pairs ∙ get_or-set_other w.pairs number n (Some moved) None differ in
+    let value : get_or (watchers w.lists falsified) at 0 ≡ number = sym is in
+    let listed_other : Contains (watchers new.lists other) number = subst (λ (zs : List ℕ). Contains zs number) (sym (r.others other two.1 (λ e. apart (sym e)))) two.2 in
+    let listed_next : Contains (watchers new.lists next) number = subst (λ (zs : List ℕ). Contains zs number) (sym r.come) (Contains-push (watchers w.lists next) number) in
+    let claim : (small large : ℕ → Bool → Bool) → IsIncluded small (marked marks) → (Fails small other → Holds (marked marks) falsified) → Answers small large moved
+    = λ small large within back. answers_moved marks small large pair falsified other next both within back fails free in (
+      record {
+        held = record {
+          trail = v.held.trail;
+          watched = record {
+            pairs = ap length pairs ∙ length-set w.pairs number (Some moved) ∙ old_watched.pairs;
+            lists = r.size ∙ old_watched.lists;
+            numbers = λ l. relisted_numbers (λ n. n < length clauses) w.lists new.lists falsified next l at number r low inside old_watched.numbers;
+            each = λ n below. elim (eqb_tells n number) [
+              | inl same ↦ subst (λ (k : ℕ). IsWatched (get_or clauses k []) k new.lists (get_or new.pairs k None)) (sym same.1)
+                  (subst (IsWatched (get_or clauses number []) number new.lists) (sym pair_new) (record {
+                    first = there;
+                    second = two.0;
+                    apart = apart;
+                    first_listed = listed_next;
+                    second_listed = listed_other;
+                  }))
+              | inr differ ↦ subst (IsWatched (get_or clauses n []) n new.lists) (sym (pair_old n differ.1))
+                  (watched_stays (get_or clauses n []) n w.lists new.lists falsified next at number (get_or w.pairs n None) r low value differ.1 (old_watched.each n below))
+            ];
+          };
+          below = λ k start n low_n.
+              let f = before marks t.places (get_or t.starts k 0) in
+              elim (eqb_tells n number) [
+                | inl same ↦ subst (λ (i : ℕ). KeepsUp f f (get_or clauses i []) (get_or new.pairs i None)) (sym same.1)
+                    (subst (KeepsUp f f (get_or clauses number [])) (sym pair_new)
+                    (claim f f (step_within t (get_or t.starts k 0)) (λ g.
+                    step_within t (get_or t.starts k 0) falsified.variable falsified.positive
+                    (pair_answers f f pair falsified other both (subst (KeepsUp f f (get_or clauses number [])) pair_is (v.held.below k start number inside)) g))))
+                | inr differ ↦ subst (KeepsUp f f (get_or clauses n [])) (sym (pair_old n differ.1)) (v.held.below k start n low_n)
+              ];
+        };
+        here = v.here;
+        falsity = v.falsity;
+        due = λ n low_n. elim (eqb_tells n number) [
+          | inl same ↦ inl (subst (λ (i : ℕ). KeepsUp (before marks t.places (step + 1)) (marked marks) (get_or clauses i []) (get_or new.pairs i None)) (sym same.1)
+              (subst (KeepsUp (before marks t.places (step + 1)) (marked marks) (get_or clauses number [])) (sym pair_new)
+              (claim (before marks t.places (step + 1)) (marked marks) (step_within t (step + 1)) (visiting_back t clauses w falsified other step at number pair v inside pair_is both two.1))))
+          | inr differ ↦ elim (v.due n low_n) [
+            | inl keeps ↦ inl (subst (KeepsUp (before marks t.places (step + 1)) (marked marks) (get_or clauses n [])) (sym (pair_old n differ.1)) keeps)
+            | inr due ↦
+                let xs = watchers w.lists falsified in
+                let kept = removed_keeps xs at (get_or xs at 0) due.place low due.within (λ e. differ.1 (sym due.is ∙ ap (λ (k : ℕ). get_or xs k 0) e ∙ value)) in
+                inr (record {
+                  place = kept.0;
+                  after = kept.3 due.after;
+                  within = subst (λ (zs : List ℕ). kept.0 < length zs) (sym r.gone) kept.1;
+                  is = ap (λ (zs : List ℕ). get_or zs kept.0 0) r.gone ∙ kept.2 ∙ due.is;
+                  keeps = subst (KeepsUp (before marks t.places step) (marked marks) (get_or clauses n [])) (sym (pair_old n differ.1)) due.keeps;
+                })
+          ]
+        ];
+      },
+      ap (λ (zs : List ℕ). length zs + 1) r.gone ∙ removed_size (watchers w.lists falsified) at (get_or (watchers w.lists falsified) at 0) low,
+    )
+
+begun_by : (t : TrailState) (clauses : List (List Literal)) (w : WatchState) (falsified : Literal) (step n : ℕ) (pair : Option Pair) → IsHeld t clauses w → step < length t.steps → ((d : Step) → (get_or t.steps step d).lit ≡ opposite falsified) → get_or w.pairs n None ≡ pair → IsWatched (get_or clauses n []) n w.lists pair → KeepsUp (before t.marks t.places step) (marked t.marks) (get_or clauses n []) pair → KeepsUp (before t.marks t.places (step + 1)) (marked t.marks) (get_or clauses n []) pair ⊎ IsDueFrom t clauses w falsified step 0 n
+begun_by t clauses w falsified step n None h here falsity is w_is keeps = inl keeps
+begun_by t clauses w falsified step n (Some pair) h here falsity is by keeps =
+    let set = before t.marks t.places step in
+    let due : Contains (watchers w.lists falsified) n → IsDueFrom t clauses w falsified step 0 n = λ there. record {
+      place = there.0;
+      after = omega arith;
+      within = there.1;
+      is = get_or_default (watchers w.lists falsified) there.0 0 n there.1 ∙ there.2;
+      keeps = subst (KeepsUp set (marked t.marks) (get_or clauses n [])) (sym is) keeps;
+    } in
+    let one : IsStep t.marks t.places step (opposite falsified) = subst (IsStep t.marks t.places step) (falsity some_step) (h.trail.steps_are step some_step here) in
+    let older : (m : Literal) → m ≢ falsified → Fails (before t.marks t.places (step + 1)) m → Fails set m = λ m apart f.
+    fails_older t.marks t.places t.steps t.starts clauses step (opposite falsified) m h.trail here falsity one (λ e. apart (e ∙ opposite_twice falsified)) f in
+    elim (literal_or_not pair.first falsified) [
+      | inl e ↦ inr (due (subst (λ (m : Literal). Contains (watchers w.lists m) n) e by.first_listed))
+      | inr first ↦ elim (literal_or_not pair.second falsified) [
+        | inl e ↦ inr (due (subst (λ (m : Literal). Contains (watchers w.lists m) n) e by.second_listed))
+        | inr second ↦ inl (answers_older (before t.marks t.places (step + 1)) set (marked t.marks) pair (older pair.first first) (older pair.second second) keeps)
+      ]
+    ]
+
+-- visits begin: a clause that doesn't watch the literal keeps up, the others stand in its list
+pub visiting_begins : (t : TrailState) (clauses : List (List Literal)) (w : WatchState) (falsified : Literal) (step : ℕ) → IsHeld t clauses w → step < length t.steps → ((d : Step) → (get_or t.steps step d).lit ≡ opposite falsified) → AllKeepUp (before t.marks t.places step) (marked t.marks) clauses w.pairs → IsVisiting t clauses w falsified step 0
+visiting_begins t clauses w falsified step h here falsity keeps = record {
+  held = h;
+  here = here;
+  falsity = falsity;
+  due = λ n low. begun_by t clauses w falsified step n (get_or w.pairs n None) h here falsity refl (h.watched.each n low) (keeps n low);
+}
+
+-- visits end: each clause keeps up with the step
+pub visiting_ends : (t : TrailState) (clauses : List (List Literal)) (w : WatchState) (falsified : Literal) (step at : ℕ) → IsVisiting t clauses w falsified step at → length (watchers w.lists falsified) ≤ at → AllKeepUp (before t.marks t.places (step + 1)) (marked t.marks) clauses w.pairs
+visiting_ends t clauses w falsified step at v end n low = elim (v.due n low) [
+  | inl keeps ↦ keeps
+  | inr due ↦ let after = due.after in let within = due.within in absurd (omega arith)
+]
