@@ -19,9 +19,8 @@ use Rattle.civl_verdicts.specs.declared.survey.Survey.{Survey}
 use Rattle.civl_verdicts.specs.declared.verdict.Verdict.{Verdict}
 use Rattle.civl_findings.proofs.Surveying.{surveys_of_one_agree}
 use Rattle.civl_judgements.proofs.Judging.{verdicts_on_one_agree}
-use Rattle.civl_words.specs.Words.{budget_of}
-use Rattle.civl_words.specs.declared.words.Command.{Command}
-use Rattle.civl_words.specs.declared.words.Command.TheVariants.{Check, Conditions, Fmt, RunLow, RunTop}
+use Rattle.civl_command.specs.declared.task.Task.{Task}
+use Rattle.civl_command.specs.declared.task.Task.TheVariants.{Check, Conditions, Fmt, RunLow, RunTop}
 use Rattle.civl_command.specs.Rules.{static_refusal, IsLawful}
 use Rattle.civl_command.specs.Texts.{IsReading, IsScriptReading}
 use Rattle.civl_command.specs.Outcome.{Outcome, TooLong, Unread, Broken, Judged, Heavy, Surveyed, Printed, Misfit, Ran, Checks, Surveys, Prints, Runs, RunsBy, OfRead, Finds, FindsBy, limit}
@@ -129,22 +128,22 @@ module _ {A : Type 0} (IsRead : List ℕ → Result A Fault → Type 0) (Says : 
   one_find : (input : List ℕ) (first second : Outcome) → Finds IsRead Says input first → Finds IsRead Says input second → AreAlike first second
   one_find input first second a b = one_read b.reading first second (subst (λ (r : Result A Fault). OfRead Says r first) (once input a.reading b.reading a.read b.read) a.says) b.says
 
-one_found : (command : Command) (input : List ℕ) (first second : Outcome) → FindsBy command input first → FindsBy command input second → AreAlike first second
-one_found (Check told) input first second a b = one_find IsReading (Checks (budget_of told)) one_reading (one_check (budget_of told)) input first second a b
-one_found (Conditions told) input first second a b = one_find IsReading (Surveys (budget_of told)) one_reading (one_survey (budget_of told)) input first second a b
+one_found : (task : Task) (input : List ℕ) (first second : Outcome) → FindsBy task input first → FindsBy task input second → AreAlike first second
+one_found (Check budget) input first second a b = one_find IsReading (Checks budget) one_reading (one_check budget) input first second a b
+one_found (Conditions budget) input first second a b = one_find IsReading (Surveys budget) one_reading (one_survey budget) input first second a b
 one_found Fmt input first second a b = one_find IsReading Prints one_reading one_print input first second a b
 one_found RunLow input first second a b = one_find IsScriptReading (Runs lowest) one_script_reading (one_run lowest) input first second a b
 one_found RunTop input first second a b = one_find IsScriptReading (Runs topmost) one_script_reading (one_run topmost) input first second a b
 
-found_short : (command : Command) (input : List ℕ) (outcome : Outcome) → FindsBy command input outcome → length input ≤ limit
-found_short (Check told) input outcome h = h.short
-found_short (Conditions told) input outcome h = h.short
+found_short : (task : Task) (input : List ℕ) (outcome : Outcome) → FindsBy task input outcome → length input ≤ limit
+found_short (Check budget) input outcome h = h.short
+found_short (Conditions budget) input outcome h = h.short
 found_short Fmt input outcome h = h.short
 found_short RunLow input outcome h = h.short
 found_short RunTop input outcome h = h.short
 
 pub one_outcome : EachInputIsAnsweredOnce
-one_outcome command input first second (inl a) (inl b) = alike_by first second TooLong TooLong a.0 b.0 refl
-one_outcome command input first second (inl a) (inr b) = absurd (omega (arith, a.1, found_short command input second b))
-one_outcome command input first second (inr a) (inl b) = absurd (omega (arith, b.1, found_short command input first a))
-one_outcome command input first second (inr a) (inr b) = one_found command input first second a b
+one_outcome task input first second (inl a) (inl b) = alike_by first second TooLong TooLong a.0 b.0 refl
+one_outcome task input first second (inl a) (inr b) = absurd (omega (arith, a.1, found_short task input second b))
+one_outcome task input first second (inr a) (inl b) = absurd (omega (arith, b.1, found_short task input first a))
+one_outcome task input first second (inr a) (inr b) = one_found task input first second a b

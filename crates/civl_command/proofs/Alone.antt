@@ -6,18 +6,19 @@ use Rattle.std.specs.Io.KnownBytes.{Appends}
 use Rattle.civl_tree.specs.declared.program.Program.{Program}
 use Rattle.civl_verdicts.specs.Verdicts.{IsVerdict}
 use Rattle.civl_verdict_reports.proofs.Beginning.{only_accepted_accepts}
-use Rattle.civl_words.specs.Words.{AreWordsOf, budget_of}
-use Rattle.civl_words.specs.declared.words.Command.{Command}
-use Rattle.civl_words.specs.declared.words.Command.TheVariants.{Check}
-use Rattle.civl_words.proofs.Marks.{one_command}
-use Rattle.civl_command.specs.Report.{too_long_text, fault_text}
-use Rattle.civl_command.specs.Outcome.{Outcome, TooLong, Unread, Broken, Judged, Heavy, Checks, OfRead, FindsBy, status_of, report_of}
-use Rattle.civl_command.specs.Judge.{ReadState, WriteState, Reads, JudgesInput, Fails, Judges, Explains, usage_text}
+use Rattle.civl_words.specs.Words.{usual_budget}
+use Rattle.civl_command.specs.Tasks.{AskFor, AskForTrial, AreTaken}
+use Rattle.civl_command.specs.Report.{too_long_text, fault_text, trial_line}
+use Rattle.civl_command.specs.Outcome.{Outcome, TooLong, Unread, Broken, Judged, Heavy, Checks, OfRead, Finds, FindsBy, TrialCallsFor, status_of, report_of, trial_text, trial_report}
+use Rattle.civl_command.specs.Judge.{ReadState, WriteState, Reads, JudgesInput, JudgesTrial, Fails, Judges, Explains}
 use Rattle.civl_command.specs.Promises.{AcceptsAlone}
 use Rattle.civl_command.specs.declared.reader.Fault.{Fault}
 use Rattle.civl_command.specs.declared.reader.Fault.TheVariants.{NoToken, NotHere, Deep}
 use Rattle.civl_command.specs.declared.status.Status.{Status}
 use Rattle.civl_command.specs.declared.status.Status.TheVariants.{Done, Rejected, Undecided, Refused, ReadFault, WriteFault, Usage, Memory}
+use Rattle.civl_command.specs.declared.task.Task.{Task}
+use Rattle.civl_command.specs.declared.task.Task.TheVariants.{Check}
+use Rattle.civl_command.proofs.Asking.{same_task, same_trial, task_or_trial}
 use Rattle.civl_command.proofs.Ways.{Ways, check_way}
 
 -- a text begins with `accepted`
@@ -30,11 +31,10 @@ one_first x y xs ys e = cc
 refused_first : (xs : List ℕ) → Accepted (114 ∷ xs) → ⊥
 refused_first xs h = let bytes : 114 ≡ 97 = one_first 114 97 _ _ h.1 in omega (arith, bytes)
 
-usage_first : (xs : List ℕ) → Accepted (117 ∷ xs) → ⊥
-usage_first xs h = let bytes : 117 ≡ 97 = one_first 117 97 _ _ h.1 in omega (arith, bytes)
-
-nothing : Accepted [] → ⊥
-nothing h = let e = h.1 in cc
+-- nothing doesn't begin so
+nothing : (lines rest : List ℕ) → [] ≡ lines ++ (codes "accepted" ++ rest) → ⊥
+nothing [] rest is = cc
+nothing (x ∷ xs) rest is = cc
 
 fault_first : (fault : Fault) → Accepted (fault_text fault) → ⊥
 fault_first (NoToken place) h = refused_first _ h
@@ -58,34 +58,65 @@ read_alone : (budget : ℕ) (reading : Result Program Fault) (outcome : Outcome)
 read_alone budget (Ok program) outcome says h = way_alone budget program outcome (check_way budget program outcome says) h
 read_alone budget (Err fault) outcome says h = absurd (fault_first fault (accepted_of outcome (Unread fault) says h))
 
-module _ (words : List (List ℕ)) (before after : ReadState) (sink sink_after : WriteState) (told : Option ℕ) (words_are : AreWordsOf (Check told) words) where
-  found_alone : (outcome : Outcome) → Reads (Check told) before after outcome → Accepted (report_of outcome) → Done ≡ status_of outcome
-  found_alone outcome (inl past) h = absurd (refused_first _ (accepted_of outcome TooLong past.0 h))
-  found_alone outcome (inr all) h = read_alone (budget_of told) all.2.reading outcome all.2.says h
+module _ (words : List (List ℕ)) (before after : ReadState) (sink sink_after : WriteState) (lines : List ℕ) (taken_by : AreTaken words) where
+  -- the report begins with these lines, and goes on with `accepted`
+  abbrev GoesOn : List ℕ → Type 0
+  GoesOn report = (rest : List ℕ) × (report ≡ lines ++ (codes "accepted" ++ rest))
 
-  judged_alone : (status : Status) (report : List ℕ) → JudgesInput words before after status report → Accepted report → status ≡ Done
-  judged_alone status report h begins =
-      let reads = subst (λ (c : Command). Reads c before after h.outcome) (one_command words h.command (Check told) h.words_are words_are) h.reads in
-      h.status_is ∙ sym (found_alone h.outcome reads (subst Accepted h.report_is begins))
-
-  failed_alone : (status : Status) (report : List ℕ) → Fails words before after status report → Accepted report → ⊥
+  failed_alone : (status : Status) (report : List ℕ) → Fails words before after status report → GoesOn report → ⊥
   failed_alone Done report f h = f
   failed_alone Rejected report f h = f
   failed_alone Undecided report f h = f
   failed_alone Refused report f h = f
-  failed_alone ReadFault report f h = nothing (subst Accepted f.2 h)
+  failed_alone ReadFault report f h = nothing lines h.0 (sym f.2 ∙ h.1)
   failed_alone WriteFault report f h = f
-  failed_alone Usage report f h = usage_first _ (subst Accepted f.2 h)
-  failed_alone Memory report f h = nothing (subst Accepted f.1 h)
+  failed_alone Usage report f h = f.0 taken_by
+  failed_alone Memory report f h = nothing lines h.0 (sym f.1 ∙ h.1)
 
   -- what was written, where it grew by the report
-  grown_by : (taken report rest : List ℕ) → Appends sink.bytes sink_after.bytes report → sink.bytes ≡ Some taken → sink_after.bytes ≡ Some (taken ++ (codes "accepted" ++ rest)) → report ≡ codes "accepted" ++ rest
+  grown_by : (taken report rest : List ℕ) → Appends sink.bytes sink_after.bytes report → sink.bytes ≡ Some taken → sink_after.bytes ≡ Some (taken ++ (lines ++ (codes "accepted" ++ rest)))
+      → report ≡ lines ++ (codes "accepted" ++ rest)
   grown_by taken report rest grown was is =
       let told_ = subst (λ (b : Option (List ℕ)). Appends b sink_after.bytes report) was grown in
       let same = subst (λ (b : Option (List ℕ)). Appends (Some taken) b report) is told_ in
-      append_cancel_left taken report (codes "accepted" ++ rest) (sym same)
+      append_cancel_left taken report (lines ++ (codes "accepted" ++ rest)) (sym same)
 
-  pub alone_by : (status : Status) → Explains words before after sink sink_after status → AcceptsAlone sink sink_after status
-  alone_by status (inl (report, inl h, grown)) taken rest was is = inl (judged_alone status report h (rest, grown_by taken report rest grown was is))
-  alone_by status (inl (report, inr f, grown)) taken rest was is = absurd (failed_alone status report f (rest, grown_by taken report rest grown was is))
-  alone_by status (inr h) taken rest was is = inr h.0
+  -- so it is enough to look at the answers that are no failures
+  alone_if : ((status : Status) (report : List ℕ) → JudgesInput words before after status report → GoesOn report → status ≡ Done)
+      → ((status : Status) (report : List ℕ) → JudgesTrial words before after status report → GoesOn report → status ≡ Done)
+      → (status : Status) → Explains words before after sink sink_after status → AcceptsAlone lines sink sink_after status
+  alone_if on_input on_trial status (inl (report, inl h, grown)) taken rest was is = inl (on_input status report h (rest, grown_by taken report rest grown was is))
+  alone_if on_input on_trial status (inl (report, inr (inl t), grown)) taken rest was is = inl (on_trial status report t (rest, grown_by taken report rest grown was is))
+  alone_if on_input on_trial status (inl (report, inr (inr f), grown)) taken rest was is = absurd (failed_alone status report f (rest, grown_by taken report rest grown was is))
+  alone_if on_input on_trial status (inr h) taken rest was is = inr h.0
+
+module _ (words : List (List ℕ)) (before after : ReadState) (sink sink_after : WriteState) (budget : ℕ) (ask : AskFor (Check budget) words) where
+  found_alone : (outcome : Outcome) → Reads (Check budget) before after outcome → Accepted (report_of outcome) → Done ≡ status_of outcome
+  found_alone outcome (inl past) h = absurd (refused_first _ (accepted_of outcome TooLong past.0 h))
+  found_alone outcome (inr all) h = read_alone budget all.2.reading outcome all.2.says h
+
+  judged_alone : (status : Status) (report : List ℕ) → JudgesInput words before after status report → Accepted report → status ≡ Done
+  judged_alone status report h begins =
+      let reads = subst (λ (t : Task). Reads t before after h.outcome) (same_task words h.task (Check budget) h.words_are ask) h.reads in
+      h.status_is ∙ sym (found_alone h.outcome reads (subst Accepted h.report_is begins))
+
+  pub alone_by : (status : Status) → Explains words before after sink sink_after status → AcceptsAlone [] sink sink_after status
+  alone_by = alone_if words before after sink sink_after [] (inl (Check budget, ask)) judged_alone
+      (λ status report t begins. absurd (task_or_trial words (Check budget) t.number ask t.words_are))
+
+module _ (words : List (List ℕ)) (before after : ReadState) (sink sink_after : WriteState) (number : ℕ) (trial : AskForTrial number words) where
+  tried_alone : (outcome : Outcome) → TrialCallsFor number outcome → Accepted (report_of outcome) → Done ≡ status_of outcome
+  tried_alone outcome (inl long) h = absurd (refused_first _ (accepted_of outcome TooLong long.0 h))
+  tried_alone outcome (inr finds) h = read_alone usual_budget finds.reading outcome finds.says h
+
+  under_line : (status : Status) (report : List ℕ) → JudgesTrial words before after status report → (rest : List ℕ) × (report ≡ trial_line number ++ (codes "accepted" ++ rest)) → status ≡ Done
+  under_line status report t h =
+      let line = ap trial_line (same_trial words t.number number t.words_are trial) in
+      let same = sym (t.answers.report_is ∙ ap (λ (l : List ℕ). l ++ report_of t.answers.outcome) line) ∙ h.1 in
+      let begins = append_cancel_left (trial_line number) (report_of t.answers.outcome) (codes "accepted" ++ h.0) same in
+      let calls = subst (λ (n : ℕ). TrialCallsFor n t.answers.outcome) (same_trial words t.number number t.words_are trial) t.answers.calls in
+      t.answers.status_is ∙ sym (tried_alone t.answers.outcome calls (h.0, begins))
+
+  pub tried_alone_by : (status : Status) → Explains words before after sink sink_after status → AcceptsAlone (trial_line number) sink sink_after status
+  tried_alone_by = alone_if words before after sink sink_after (trial_line number) (inr (number, trial))
+      (λ status report h begins. absurd (task_or_trial words h.task number h.words_are trial)) under_line

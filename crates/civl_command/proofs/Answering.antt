@@ -1,4 +1,4 @@
--- Each input calls for some outcome under each command.
+-- Each input calls for some outcome for each task.
 use Rattle.std.proofs.Common.{◌≡◌, ℕ, ◌<◌, ◌≤◌, ◌⊎◌, inl, inr, List, ◌++◌, length, refl, Result, Ok, Err}
 use Rattle.std.specs.Prelude.{Option, None, Some}
 use Rattle.std.proofs.lemmas.Bool.{cases_lt}
@@ -22,9 +22,8 @@ use Rattle.civl_conditions.specs.declared.condition.Condition.{Condition}
 use Rattle.civl_conditions.specs.Weights.{heavy}
 use Rattle.civl_findings.proofs.Surveying.{each_program_has_a_survey}
 use Rattle.civl_judgements.proofs.Judging.{each_program_has_a_verdict}
-use Rattle.civl_words.specs.Words.{budget_of}
-use Rattle.civl_words.specs.declared.words.Command.{Command}
-use Rattle.civl_words.specs.declared.words.Command.TheVariants.{Check, Conditions, Fmt, RunLow, RunTop}
+use Rattle.civl_command.specs.declared.task.Task.{Task}
+use Rattle.civl_command.specs.declared.task.Task.TheVariants.{Check, Conditions, Fmt, RunLow, RunTop}
 use Rattle.civl_command.specs.Rules.{static_refusal, IsLawful}
 use Rattle.civl_command.specs.Texts.{IsReading, IsScriptReading}
 use Rattle.civl_command.specs.Outcome.{Outcome, TooLong, Unread, Broken, Judged, Heavy, Surveyed, Printed, Misfit, Ran, Checks, Surveys, Prints, Runs, OfRead, Finds, FindsBy, CallsFor, limit}
@@ -107,16 +106,16 @@ module _ {A : Type 0} (IsRead : List ℕ → Result A Fault → Type 0) (Says : 
       let found = some_of reading.0 in
       (found.0, record { short = short; reading = reading.0; read = reading.1; says = found.1 })
 
-some_found : (command : Command) (input : List ℕ) → length input ≤ limit → Has (FindsBy command input)
-some_found (Check told) input short = some_find IsReading (Checks (budget_of told)) some_reading (some_check (budget_of told)) input short
-some_found (Conditions told) input short = some_find IsReading (Surveys (budget_of told)) some_reading (some_survey (budget_of told)) input short
+some_found : (task : Task) (input : List ℕ) → length input ≤ limit → Has (FindsBy task input)
+some_found (Check budget) input short = some_find IsReading (Checks budget) some_reading (some_check budget) input short
+some_found (Conditions budget) input short = some_find IsReading (Surveys budget) some_reading (some_survey budget) input short
 some_found Fmt input short = some_find IsReading Prints some_reading some_print input short
 some_found RunLow input short = some_find IsScriptReading (Runs lowest) some_script_reading (some_run lowest) input short
 some_found RunTop input short = some_find IsScriptReading (Runs topmost) some_script_reading (some_run topmost) input short
 
-called : (command : Command) (input : List ℕ) → (limit < length input) ⊎ (length input ≤ limit) → Has (CallsFor command input)
-called command input (inl long) = (TooLong, inl (refl, long))
-called command input (inr short) = let found = some_found command input short in (found.0, inr found.1)
+called : (task : Task) (input : List ℕ) → (limit < length input) ⊎ (length input ≤ limit) → Has (CallsFor task input)
+called task input (inl long) = (TooLong, inl (refl, long))
+called task input (inr short) = let found = some_found task input short in (found.0, inr found.1)
 
 pub some_outcome : EachInputIsAnswered
-some_outcome command input = called command input (cases_lt limit (length input))
+some_outcome task input = called task input (cases_lt limit (length input))

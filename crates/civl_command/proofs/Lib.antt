@@ -3,6 +3,7 @@ pub mod Reading
 pub mod Judging
 pub mod Replaying
 pub mod Deciding
+pub mod Asking
 pub mod Ways
 pub mod Agreeing
 pub mod Answering

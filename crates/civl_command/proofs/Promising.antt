@@ -21,19 +21,20 @@ use Rattle.civl_verdicts.specs.Verdicts.{IsVerdict}
 use Rattle.civl_reports.proofs.Quiet.{never_accepts}
 use Rattle.civl_verdict_reports.specs.Verdicts.{accepted_text, rejected_text, undecided_text}
 use Rattle.civl_simulation.specs.Preserved.{AcceptedProgramsPreserve}
-use Rattle.civl_words.specs.Words.{AreWordsOf, AreTaken, budget_of}
-use Rattle.civl_words.specs.declared.words.Command.{Command}
-use Rattle.civl_words.specs.declared.words.Command.TheVariants.{Check, Conditions, Fmt, RunLow, RunTop}
-use Rattle.civl_words.proofs.Marks.{one_command}
+use Rattle.civl_words.specs.Words.{usual_budget}
+use Rattle.civl_command.specs.Tasks.{AskFor, AskForSome, AskForTrial, AreTaken}
 use Rattle.civl_command.specs.Texts.{IsReading, IsScriptReading}
-use Rattle.civl_command.specs.Outcome.{Outcome, TooLong, Unread, Broken, Judged, Heavy, Surveyed, Printed, Misfit, Ran, Checks, Surveys, Prints, Runs, OfRead, Finds, FindsBy, CallsFor, verdict_status, survey_status, status_of, report_of, limit}
+use Rattle.civl_command.specs.Outcome.{Outcome, TooLong, Unread, Broken, Judged, Heavy, Surveyed, Printed, Misfit, Ran, Checks, Surveys, Prints, Runs, OfRead, Finds, FindsBy, CallsFor, TrialCallsFor, verdict_status, survey_status, status_of, report_of, trial_text, trial_report, limit}
 use Rattle.civl_command.specs.Status.{code_of}
-use Rattle.civl_command.specs.Judge.{ReadState, WriteState, Reads, ReadsAll, JudgesInput, Fails, Judges, Explains}
-use Rattle.civl_command.specs.Report.{run_text}
-use Rattle.civl_command.specs.Promises.{Writes, ReadsAndWrites, SpellsTaken, Accepts, AcceptsRightly, Rejects, RejectsRightly, LeavesOpen, LeavesOpenRightly, Tells, SurveysRightly, PrintsRightly, Replays, ReplaysRightly, RefusesRightly, Carries, AnswersAs, IsComplete}
+use Rattle.civl_command.specs.Judge.{ReadState, WriteState, Reads, ReadsAll, JudgesInput, JudgesTrial, Fails, Judges, Explains}
+use Rattle.civl_command.specs.Report.{run_text, trial_line}
+use Rattle.civl_command.specs.Promises.{Writes, ReadsAndWrites, SpellsTaken, Accepts, AcceptsRightly, TrialAcceptsRightly, Rejects, RejectsRightly, LeavesOpen, LeavesOpenRightly, Tells, SurveysRightly, PrintsRightly, Replays, ReplaysRightly, RefusesRightly, Carries, AnswersAs, IsComplete, TrialAnswersAs, IsTrialComplete}
 use Rattle.civl_command.specs.declared.reader.Fault.{Fault}
+use Rattle.civl_command.specs.declared.task.Task.{Task}
+use Rattle.civl_command.specs.declared.task.Task.TheVariants.{Check, Conditions, Fmt, RunLow, RunTop}
 use Rattle.civl_command.specs.declared.status.Status.{Status}
 use Rattle.civl_command.specs.declared.status.Status.TheVariants.{Done, Rejected, Undecided, Refused, ReadFault, WriteFault, Usage, Memory}
+use Rattle.civl_command.proofs.Asking.{same_task, same_trial, task_or_trial}
 use Rattle.civl_command.proofs.Agreeing.{one_outcome}
 use Rattle.civl_command.proofs.Lawful.{text_written}
 use Rattle.civl_command.proofs.Accepting.{preserved}
@@ -55,16 +56,20 @@ appended : (taken report : List ℕ) (after : Option (List ℕ)) → Appends (So
 appended taken report None grown = absurd grown
 appended taken report (Some now) grown = ap Some grown
 
+grown_as : (sink sink_after : WriteState) (report text : List ℕ) → Appends sink.bytes sink_after.bytes report → report ≡ text → Writes sink sink_after text
+grown_as sink sink_after report text grown is taken told =
+    rw (← is) (appended taken report sink_after.bytes (subst (λ (bytes : Option (List ℕ)). Appends bytes sink_after.bytes report) told grown))
+
 -- what was found of the whole input
-record Found (command : Command) (after : ReadState) (input : List ℕ) (outcome : Outcome) : Type 0 where
-  finds : FindsBy command input outcome
+record Found (task : Task) (after : ReadState) (input : List ℕ) (outcome : Outcome) : Type 0 where
+  finds : FindsBy task input outcome
   read : after.left ≡ Some []
 
-all_found : (command : Command) (before after : ReadState) (input : List ℕ) (outcome : Outcome) → before.left ≡ Some input → ReadsAll command before after outcome → Found command after input outcome
-all_found command before after input outcome told reads =
+all_found : (task : Task) (before after : ReadState) (input : List ℕ) (outcome : Outcome) → before.left ≡ Some input → ReadsAll task before after outcome → Found task after input outcome
+all_found task before after input outcome told reads =
     let taken = subst (λ (left : Option (List ℕ)). Consumes left after.left reads.0) told reads.1.taken in
     let whole = consumed input reads.0 after.left taken reads.1.at_end in
-    record { finds = subst (λ (bytes : List ℕ). FindsBy command bytes outcome) whole.0 reads.2; read = whole.1 }
+    record { finds = subst (λ (bytes : List ℕ). FindsBy task bytes outcome) whole.0 reads.2; read = whole.1 }
 
 -- ---- what the ends keep
 
@@ -112,33 +117,38 @@ silent words before after status report (inl h) (inl is) =
     let code = ap code_of is in absurd (no_outcome status h.outcome (omega (arith, code)) h.status_is)
 silent words before after status report (inl h) (inr is) =
     let code = ap code_of is in absurd (no_outcome status h.outcome (omega (arith, code)) h.status_is)
-silent words before after status report (inr f) is = silent_failure words before after status report f is
+silent words before after status report (inr (inl t)) (inl is) =
+    let code = ap code_of is in absurd (no_outcome status t.answers.outcome (omega (arith, code)) t.answers.status_is)
+silent words before after status report (inr (inl t)) (inr is) =
+    let code = ap code_of is in absurd (no_outcome status t.answers.outcome (omega (arith, code)) t.answers.status_is)
+silent words before after status report (inr (inr f)) is = silent_failure words before after status report f is
 
 pub loud : (WriteFault ≡ ReadFault) ⊎ (WriteFault ≡ Memory) → ⊥
 loud (inl is) = cc
 loud (inr is) = cc
 
--- on Usage the words are no command's
-pub usage_untaken : (words : List (List ℕ)) (before after : ReadState) (sink sink_after : WriteState) → Explains words before after sink sink_after Usage → AreTaken words → ⊥
-usage_untaken words before after sink sink_after (inl (report, inl h, grown)) = λ taken. no_outcome Usage h.outcome (omega arith) h.status_is
-usage_untaken words before after sink sink_after (inl (report, inr f, grown)) = f.0
-usage_untaken words before after sink sink_after (inr h) = let is = h.0 in absurd cc
+-- on Usage the words ask for nothing of an input
+pub usage_unasked : (words : List (List ℕ)) (before after : ReadState) (sink sink_after : WriteState) → Explains words before after sink sink_after Usage → AskForSome words → ⊥
+usage_unasked words before after sink sink_after (inl (report, inl h, grown)) = λ ask. no_outcome Usage h.outcome (omega arith) h.status_is
+usage_unasked words before after sink sink_after (inl (report, inr (inl t), grown)) = λ ask. no_outcome Usage t.answers.outcome (omega arith) t.answers.status_is
+usage_unasked words before after sink sink_after (inl (report, inr (inr f), grown)) = λ ask. f.0 (inl ask)
+usage_unasked words before after sink sink_after (inr h) = let is = h.0 in absurd cc
 
 -- ---- each answer
 
-module _ (command : Command) (before after : ReadState) (sink sink_after : WriteState) (input report : List ℕ) (told : before.left ≡ Some input) (grown : Appends sink.bytes sink_after.bytes report) (outcome : Outcome) where
+module _ (task : Task) (before after : ReadState) (sink sink_after : WriteState) (input report : List ℕ) (told : before.left ≡ Some input) (grown : Appends sink.bytes sink_after.bytes report) (outcome : Outcome) where
   written : report ≡ report_of outcome → Writes sink sink_after (report_of outcome)
-  written text taken is = rw (← text) (appended taken report sink_after.bytes (subst (λ (bytes : Option (List ℕ)). Appends bytes sink_after.bytes report) is grown))
+  written = grown_as sink sink_after report (report_of outcome) grown
 
-  called : Reads command before after outcome → CallsFor command input outcome
+  called : Reads task before after outcome → CallsFor task input outcome
   called (inl past) =
       let size = consumed_part input past.1.0 after.left (subst (λ (left : Option (List ℕ)). Consumes left after.left past.1.0) told past.1.1) in
       inl (past.0, omega (arith, size, past.1.2))
-  called (inr all) = inr (all_found command before after input outcome told all).finds
+  called (inr all) = inr (all_found task before after input outcome told all).finds
 
-  carried : Reads command before after outcome → report ≡ report_of outcome → Carries after sink sink_after outcome
+  carried : Reads task before after outcome → report ≡ report_of outcome → Carries after sink sink_after outcome
   carried (inl past) text = record { written = written text; read = λ not. absurd (not past.0) }
-  carried (inr all) text = record { written = written text; read = λ not. (all_found command before after input outcome told all).read }
+  carried (inr all) text = record { written = written text; read = λ not. (all_found task before after input outcome told all).read }
 
 -- an input that was read past the limit is refused
 long_refused : (outcome : Outcome) (status : Status) → outcome ≡ TooLong → status ≡ status_of outcome → status ≡ Refused
@@ -294,16 +304,15 @@ module _ {A : Type 0} (IsRead : List ℕ → Result A Fault → Type 0) (Says : 
   find_plain found = read_plain found.reading found.says
 
 -- so what isn't plain is found under `check`
-record IsOfCheck (command : Command) (input : List ℕ) (outcome : Outcome) : Type 0 where
-  told : Option ℕ
-  command_is : command ≡ Check told
-  finds : Finds IsReading (Checks (budget_of told)) input outcome
+record IsOfCheck (task : Task) (outcome : Outcome) : Type 0 where
+  budget : ℕ
+  task_is : task ≡ Check budget
 
-of_check : (command : Command) (input : List ℕ) (outcome : Outcome) → (IsPlain outcome → ⊥) → FindsBy command input outcome → IsOfCheck command input outcome
-of_check (Check told) input outcome other found = record { told = told; command_is = refl; finds = found }
-of_check (Conditions told) input outcome other found =
-    absurd (other (find_plain IsReading (Surveys (budget_of told)) input outcome
-    (λ program says. way_plain (Surveyed program (budget_of told)) _ program outcome survey_plain (survey_way (budget_of told) program outcome says)) found))
+of_check : (task : Task) (input : List ℕ) (outcome : Outcome) → (IsPlain outcome → ⊥) → FindsBy task input outcome → IsOfCheck task outcome
+of_check (Check budget) input outcome other found = record { budget = budget; task_is = refl }
+of_check (Conditions budget) input outcome other found =
+    absurd (other (find_plain IsReading (Surveys budget) input outcome
+    (λ program says. way_plain (Surveyed program budget) _ program outcome survey_plain (survey_way budget program outcome says)) found))
 of_check Fmt input outcome other found = absurd (other (find_plain IsReading Prints input outcome (λ program says. inl (sym (ap status_of says))) found))
 of_check RunLow input outcome other found = absurd (other (find_plain IsScriptReading (Runs lowest) input outcome (λ script says. run_plain lowest script outcome (run_way lowest script outcome says)) found))
 of_check RunTop input outcome other found = absurd (other (find_plain IsScriptReading (Runs topmost) input outcome (λ script says. run_plain topmost script outcome (run_way topmost script outcome says)) found))
@@ -349,58 +358,86 @@ not_both : (before now : ℕ) → Stayed before now → Rose before now → ⊥
 not_both before now stayed rose = omega (arith, stayed.0, stayed.1, rose)
 
 module _ (words : List (List ℕ)) (before after : ReadState) (sink sink_after : WriteState) where
-  -- what a command found of the whole input, where it ends with Done or Rejected
-  record Judgement (command : Command) (input : List ℕ) (status : Status) : Type 0 where
+  -- what was found of the whole input for a task, where it isn't refused
+  record Judgement (task : Task) (input : List ℕ) (status : Status) : Type 0 where
     outcome : Outcome
-    finds : FindsBy command input outcome
+    finds : FindsBy task input outcome
     status_is : status ≡ status_of outcome
     does : ReadsAndWrites after sink sink_after (report_of outcome)
 
   judgement : (status : Status) (report input : List ℕ) → (status ≡ Refused → ⊥) → before.left ≡ Some input → Appends sink.bytes sink_after.bytes report
-      → (h : JudgesInput words before after status report) → Judgement h.command input status
+      → (h : JudgesInput words before after status report) → Judgement h.task input status
   judgement status report input some told grown h = by h.reads
     where
-      by : Reads h.command before after h.outcome → Judgement h.command input status
+      by : Reads h.task before after h.outcome → Judgement h.task input status
       by (inl past) = absurd (some (long_refused h.outcome status past.0 h.status_is))
       by (inr all) =
-          let found = all_found h.command before after input h.outcome told all in
+          let found = all_found h.task before after input h.outcome told all in
           record {
             outcome = h.outcome;
             finds = found.finds;
             status_is = h.status_is;
-            does = record { read = found.read; written = written h.command before after sink sink_after input report told grown h.outcome h.report_is };
+            does = record { read = found.read; written = written h.task before after sink sink_after input report told grown h.outcome h.report_is };
           }
 
-  -- where the report was written whole, and no failure has this status
-  judged_by : (status : Status) → (status ≡ WriteFault → ⊥) → (status ≡ Refused → ⊥) → ((report : List ℕ) → Fails words before after status report → ⊥) → Explains words before after sink sink_after status
-      → (input : List ℕ) → before.left ≡ Some input → (command : Command) × AreWordsOf command words × Judgement command input status
-  judged_by status no_fault some no_failure (inl (report, inl h, grown)) input told = (h.command, h.words_are, judgement status report input some told grown h)
-  judged_by status no_fault some no_failure (inl (report, inr f, grown)) input told = absurd (no_failure report f)
-  judged_by status no_fault some no_failure (inr h) input told = absurd (no_fault h.0)
+  -- what was found of the text of a trial
+  record Trial (number : ℕ) (status : Status) : Type 0 where
+    outcome : Outcome
+    calls : TrialCallsFor number outcome
+    status_is : status ≡ status_of outcome
+    writes : Writes sink sink_after (trial_report number outcome)
 
-  done_by : (wanted : Command) → Explains words before after sink sink_after Done → AreWordsOf wanted words → (input : List ℕ) → before.left ≡ Some input → Judgement wanted input Done
-  done_by wanted e words_are input told =
-      let h = judged_by Done (λ i. cc) done_not_refused (λ report f. f) e input told in
-      subst (λ (c : Command). Judgement c input Done) (one_command words h.0 wanted h.1 words_are) h.2
+  trial_of : (status : Status) (report : List ℕ) → Appends sink.bytes sink_after.bytes report → (t : JudgesTrial words before after status report) → Trial t.number status
+  trial_of status report grown t = record {
+    outcome = t.answers.outcome;
+    calls = t.answers.calls;
+    status_is = t.answers.status_is;
+    writes = grown_as sink sink_after report (trial_report t.number t.answers.outcome) grown t.answers.report_is;
+  }
+
+  -- a report on an input, written whole
+  abbrev IsOnInput : Status → Type 0
+  IsOnInput status = (report : List ℕ) × JudgesInput words before after status report × Appends sink.bytes sink_after.bytes report
+
+  -- a report on the text of a trial, written whole
+  abbrev IsOnTrial : Status → Type 0
+  IsOnTrial status = (number : ℕ) × AskForTrial number words × Trial number status
+
+  -- where the report was written whole, and no failure has this status
+  judged_by : (status : Status) → (status ≡ WriteFault → ⊥) → ((report : List ℕ) → Fails words before after status report → ⊥) → Explains words before after sink sink_after status
+      → IsOnInput status ⊎ IsOnTrial status
+  judged_by status no_fault no_failure (inl (report, inl h, grown)) = inl (report, h, grown)
+  judged_by status no_fault no_failure (inl (report, inr (inl t), grown)) = inr (t.number, t.words_are, trial_of status report grown t)
+  judged_by status no_fault no_failure (inl (report, inr (inr f), grown)) = absurd (no_failure report f)
+  judged_by status no_fault no_failure (inr h) = absurd (no_fault h.0)
+
+  -- for the task that the words ask for
+  done_by : (wanted : Task) → Explains words before after sink sink_after Done → AskFor wanted words → (input : List ℕ) → before.left ≡ Some input → Judgement wanted input Done
+  done_by wanted e ask input told = by (judged_by Done (λ i. cc) (λ report f. f) e)
+    where
+      by : IsOnInput Done ⊎ IsOnTrial Done → Judgement wanted input Done
+      by (inl (report, h, grown)) =
+          subst (λ (t : Task). Judgement t input Done) (same_task words h.task wanted h.words_are ask) (judgement Done report input done_not_refused told grown h)
+      by (inr (number, trial, t)) = absurd (task_or_trial words wanted number ask trial)
 
   -- the report in other words
   written_as : (input report : List ℕ) (outcome : Outcome) → report_of outcome ≡ report → ReadsAndWrites after sink sink_after (report_of outcome) → ReadsAndWrites after sink sink_after report
   written_as input report outcome is does = subst (λ (r : List ℕ). ReadsAndWrites after sink sink_after r) is does
 
-  pub accepts_by : AcceptedProgramsPreserve → (told : Option ℕ) → Explains words before after sink sink_after Done → AreWordsOf (Check told) words → AcceptsRightly before after sink sink_after
-  accepts_by law told e check input is =
-      let found = done_by (Check told) e check input is in
-      let h = checked input (budget_of told) found.outcome Done done_not_refused found.status_is found.finds in
-      let a = accepted law input (budget_of told) found.outcome found.finds.short h in
+  pub accepts_by : AcceptedProgramsPreserve → (budget : ℕ) → Explains words before after sink sink_after Done → AskFor (Check budget) words → AcceptsRightly before after sink sink_after
+  accepts_by law budget e check input is =
+      let found = done_by (Check budget) e check input is in
+      let h = checked input budget found.outcome Done done_not_refused found.status_is found.finds in
+      let a = accepted law input budget found.outcome found.finds.short h in
       (a.program, a.count, a.accepts, written_as input (accepted_text a.count) found.outcome a.report_is found.does)
 
-  pub surveys_by : (told : Option ℕ) → Explains words before after sink sink_after Done → AreWordsOf (Conditions told) words → SurveysRightly (budget_of told) before after sink sink_after
-  surveys_by told e conditions input is =
-      let found = done_by (Conditions told) e conditions input is in
-      let t = told_of input (budget_of told) found.outcome found.status_is found.finds in
+  pub surveys_by : (budget : ℕ) → Explains words before after sink sink_after Done → AskFor (Conditions budget) words → SurveysRightly budget before after sink sink_after
+  surveys_by budget e conditions input is =
+      let found = done_by (Conditions budget) e conditions input is in
+      let t = told_of input budget found.outcome found.status_is found.finds in
       (t.program, t.found, t.tells, written_as input _ found.outcome (ap report_of t.is) found.does)
 
-  pub prints_by : Explains words before after sink sink_after Done → AreWordsOf Fmt words → PrintsRightly before after sink sink_after
+  pub prints_by : Explains words before after sink sink_after Done → AskFor Fmt words → PrintsRightly before after sink sink_after
   prints_by e fmt input told =
       let found = done_by Fmt e fmt input told in
       let p = spelled IsReading Prints input found.outcome Done done_not_refused found.status_is found.finds in
@@ -413,84 +450,172 @@ module _ (words : List (List ℕ)) (before after : ReadState) (sink sink_after :
       let r = replayed plain_of s.value outcome is (run_way plain_of s.value outcome s.says) in
       (s.value, r.trace, record { spells = s.read.0; rules = r.rules; runs = r.runs }, written_as input _ outcome (ap report_of r.is) does)
 
-  pub low_by : Explains words before after sink sink_after Done → AreWordsOf RunLow words → ReplaysRightly lowest before after sink sink_after
+  pub low_by : Explains words before after sink sink_after Done → AskFor RunLow words → ReplaysRightly lowest before after sink sink_after
   low_by e low input told = let found = done_by RunLow e low input told in replays_by lowest input found.outcome found.status_is found.finds found.does
 
-  pub top_by : Explains words before after sink sink_after Done → AreWordsOf RunTop words → ReplaysRightly topmost before after sink sink_after
+  pub top_by : Explains words before after sink sink_after Done → AskFor RunTop words → ReplaysRightly topmost before after sink sink_after
   top_by e top input told = let found = done_by RunTop e top input told in replays_by topmost input found.outcome found.status_is found.finds found.does
 
+  -- ---- what is found of the text of a trial
+
+  -- a text that isn't refused isn't too long
+  tried_whole : (number : ℕ) (status : Status) → (status ≡ Refused → ⊥) → (t : Trial number status) → Finds IsReading (Checks usual_budget) (trial_text number) t.outcome
+  tried_whole number status some t = by t.calls
+    where
+      by : TrialCallsFor number t.outcome → Finds IsReading (Checks usual_budget) (trial_text number) t.outcome
+      by (inl long) = absurd (some (long_refused t.outcome status long.0 t.status_is))
+      by (inr finds) = finds
+
+  -- the report in other words
+  tried_as : (number : ℕ) (report : List ℕ) (outcome : Outcome) → report_of outcome ≡ report → Writes sink sink_after (trial_report number outcome) → Writes sink sink_after (trial_line number ++ report)
+  tried_as number report outcome is writes = subst (λ (r : List ℕ). Writes sink sink_after (trial_line number ++ r)) is writes
+
+  tried_accepts : AcceptedProgramsPreserve → (number : ℕ) → Trial number Done → TrialAcceptsRightly number sink sink_after
+  tried_accepts law number t =
+      let finds = tried_whole number Done done_not_refused t in
+      let h = checked (trial_text number) usual_budget t.outcome Done done_not_refused t.status_is finds in
+      let a = accepted law (trial_text number) usual_budget t.outcome finds.short h in
+      (a.program, a.count, a.accepts, tried_as number (accepted_text a.count) t.outcome a.report_is t.writes)
+
+  pub tries_by : AcceptedProgramsPreserve → (number : ℕ) → Explains words before after sink sink_after Done → AskForTrial number words → TrialAcceptsRightly number sink sink_after
+  tries_by law number e trial = by (judged_by Done (λ i. cc) (λ report f. f) e)
+    where
+      by : IsOnInput Done ⊎ IsOnTrial Done → TrialAcceptsRightly number sink sink_after
+      by (inl (report, h, grown)) = absurd (task_or_trial words h.task number h.words_are trial)
+      by (inr (other, also, t)) = subst (λ (n : ℕ). TrialAcceptsRightly n sink sink_after) (same_trial words other number also trial) (tried_accepts law other t)
+
+  -- ---- what is rejected and left open
+
+  -- a report on an input that is neither plain nor a refusal is one of `check`
+  on_check : (status : Status) → (status ≡ Refused → ⊥) → ((outcome : Outcome) → status ≡ status_of outcome → IsPlain outcome → ⊥) → (report : List ℕ)
+      → (h : JudgesInput words before after status report) → IsOfCheck h.task h.outcome
+  on_check status some other report h = by h.reads
+    where
+      by : Reads h.task before after h.outcome → IsOfCheck h.task h.outcome
+      by (inl past) = absurd (some (long_refused h.outcome status past.0 h.status_is))
+      by (inr all) = of_check h.task all.0 h.outcome (other h.outcome h.status_is) all.2
+
   pub rejects_by : Explains words before after sink sink_after Rejected → RejectsRightly words before after sink sink_after
-  rejects_by e input told =
-      let h = judged_by Rejected (λ i. cc) rejected_not_refused (λ report f. f) e input told in
-      let c = of_check h.0 input h.2.outcome (rejected_other h.2.outcome h.2.status_is) h.2.finds in
-      let v = checked input (budget_of c.told) h.2.outcome Rejected rejected_not_refused h.2.status_is c.finds in
-      let r = rejected input (budget_of c.told) h.2.outcome v in (
-        c.told,
-        subst (λ (command : Command). AreWordsOf command words) c.command_is h.1,
-        r.program,
-        r.counter,
-        r.rejects,
-        written_as input (rejected_text r.program r.counter) h.2.outcome r.report_is h.2.does,
-      )
+  rejects_by e = by (judged_by Rejected (λ i. cc) (λ report f. f) e)
+    where
+      by : IsOnInput Rejected ⊎ IsOnTrial Rejected → RejectsRightly words before after sink sink_after
+      by (inl (report, h, grown)) =
+          let c = on_check Rejected rejected_not_refused rejected_other report h in
+          inl (
+            c.budget,
+            subst (λ (t : Task). AskFor t words) c.task_is h.words_are,
+            λ input told.
+                let found = subst (λ (t : Task). Judgement t input Rejected) c.task_is (judgement Rejected report input rejected_not_refused told grown h) in
+                let v = checked input c.budget found.outcome Rejected rejected_not_refused found.status_is found.finds in
+                let r = rejected input c.budget found.outcome v in
+                (r.program, r.counter, r.rejects, written_as input (rejected_text r.program r.counter) found.outcome r.report_is found.does),
+          )
+      by (inr (number, trial, t)) =
+          let v = checked (trial_text number) usual_budget t.outcome Rejected rejected_not_refused t.status_is (tried_whole number Rejected rejected_not_refused t) in
+          let r = rejected (trial_text number) usual_budget t.outcome v in
+          inr (number, trial, r.program, r.counter, r.rejects, tried_as number (rejected_text r.program r.counter) t.outcome r.report_is t.writes)
 
   pub leaves_open_by : Explains words before after sink sink_after Undecided → LeavesOpenRightly words before after sink sink_after
-  leaves_open_by e input told =
-      let h = judged_by Undecided (λ i. cc) undecided_not_refused (λ report f. f) e input told in
-      let c = of_check h.0 input h.2.outcome (undecided_other h.2.outcome h.2.status_is) h.2.finds in
-      let v = checked input (budget_of c.told) h.2.outcome Undecided undecided_not_refused h.2.status_is c.finds in
-      let o = left_open input (budget_of c.told) h.2.outcome v in (
-        c.told,
-        subst (λ (command : Command). AreWordsOf command words) c.command_is h.1,
-        o.program,
-        o.formula,
-        o.log,
-        o.leaves,
-        written_as input (undecided_text o.program o.formula (budget_of c.told)) h.2.outcome o.report_is h.2.does,
-      )
+  leaves_open_by e = by (judged_by Undecided (λ i. cc) (λ report f. f) e)
+    where
+      by : IsOnInput Undecided ⊎ IsOnTrial Undecided → LeavesOpenRightly words before after sink sink_after
+      by (inl (report, h, grown)) =
+          let c = on_check Undecided undecided_not_refused undecided_other report h in
+          inl (
+            c.budget,
+            subst (λ (t : Task). AskFor t words) c.task_is h.words_are,
+            λ input told.
+                let found = subst (λ (t : Task). Judgement t input Undecided) c.task_is (judgement Undecided report input undecided_not_refused told grown h) in
+                let v = checked input c.budget found.outcome Undecided undecided_not_refused found.status_is found.finds in
+                let o = left_open input c.budget found.outcome v in
+                (o.program, o.formula, o.log, o.leaves, written_as input (undecided_text o.program o.formula c.budget) found.outcome o.report_is found.does),
+          )
+      by (inr (number, trial, t)) =
+          let v = checked (trial_text number) usual_budget t.outcome Undecided undecided_not_refused t.status_is (tried_whole number Undecided undecided_not_refused t) in
+          let o = left_open (trial_text number) usual_budget t.outcome v in
+          inr (number, trial, o.program, o.formula, o.log, o.leaves, tried_as number (undecided_text o.program o.formula usual_budget) t.outcome o.report_is t.writes)
 
   pub refuses_by : Explains words before after sink sink_after Refused → RefusesRightly words before after sink sink_after
-  refuses_by (inl (report, inl h, grown)) input told = (
-    h.command,
-    h.words_are,
-    h.outcome,
-    called h.command before after sink sink_after input report told grown h.outcome h.reads,
-    sym h.status_is,
-    carried h.command before after sink sink_after input report told grown h.outcome h.reads h.report_is,
-  )
-  refuses_by (inl (report, inr f, grown)) input told = absurd f
-  refuses_by (inr h) input told = let is = h.0 in absurd cc
+  refuses_by e = by (judged_by Refused (λ i. cc) (λ report f. f) e)
+    where
+      by : IsOnInput Refused ⊎ IsOnTrial Refused → RefusesRightly words before after sink sink_after
+      by (inl (report, h, grown)) =
+          inl (
+            h.task,
+            h.words_are,
+            λ input told. (
+              h.outcome,
+              called h.task before after sink sink_after input report told grown h.outcome h.reads,
+              sym h.status_is,
+              carried h.task before after sink sink_after input report told grown h.outcome h.reads h.report_is,
+            ),
+          )
+      by (inr (number, trial, t)) = inr (number, trial, t.outcome, t.calls, sym t.status_is, t.writes)
 
-  module _ (command : Command) (input : List ℕ) (outcome : Outcome) (words_are : AreWordsOf command words) (told : before.left ≡ Some input) (calls : CallsFor command input outcome) (stayed : Stayed before.faults after.faults) where
-    judged : (status : Status) (report : List ℕ) → Appends sink.bytes sink_after.bytes report → JudgesInput words before after status report → AnswersAs command input after sink sink_after status outcome ⊎ (status ≡ Memory)
+  -- ---- each input is answered
+
+  module _ (task : Task) (input : List ℕ) (outcome : Outcome) (ask : AskFor task words) (told : before.left ≡ Some input) (calls : CallsFor task input outcome) (stayed : Stayed before.faults after.faults) where
+    judged : (status : Status) (report : List ℕ) → Appends sink.bytes sink_after.bytes report → JudgesInput words before after status report → AnswersAs task input after sink sink_after status outcome ⊎ (status ≡ Memory)
     judged status report grown h =
-        let reads = subst (λ (c : Command). Reads c before after h.outcome) (one_command words h.command command h.words_are words_are) h.reads in
-        let found = called command before after sink sink_after input report told grown h.outcome reads in
-        let agree = one_outcome command input h.outcome outcome found calls in
+        let reads = subst (λ (t : Task). Reads t before after h.outcome) (same_task words h.task task h.words_are ask) h.reads in
+        let found = called task before after sink sink_after input report told grown h.outcome reads in
+        let agree = one_outcome task input h.outcome outcome found calls in
         inl (record {
           found = h.outcome;
           calls = found;
           status_is = h.status_is;
           alike = agree;
-          carries = carried command before after sink sink_after input report told grown h.outcome reads h.report_is;
+          carries = carried task before after sink sink_after input report told grown h.outcome reads h.report_is;
         })
 
-    failed : (status : Status) (report : List ℕ) → Fails words before after status report → AnswersAs command input after sink sink_after status outcome ⊎ (status ≡ Memory)
+    failed : (status : Status) (report : List ℕ) → Fails words before after status report → AnswersAs task input after sink sink_after status outcome ⊎ (status ≡ Memory)
     failed Done report f = absurd f
     failed Rejected report f = absurd f
     failed Undecided report f = absurd f
     failed Refused report f = absurd f
     failed ReadFault report f = absurd (not_both before.faults after.faults stayed f.1)
     failed WriteFault report f = absurd f
-    failed Usage report f = absurd (f.0 (command, words_are))
+    failed Usage report f = absurd (f.0 (inl (task, ask)))
     failed Memory report f = inr refl
 
-    answered : (status : Status) (report : List ℕ) → Appends sink.bytes sink_after.bytes report → Judges words before after status report → AnswersAs command input after sink sink_after status outcome ⊎ (status ≡ Memory)
+    answered : (status : Status) (report : List ℕ) → Appends sink.bytes sink_after.bytes report → Judges words before after status report → AnswersAs task input after sink sink_after status outcome ⊎ (status ≡ Memory)
     answered status report grown (inl h) = judged status report grown h
-    answered status report grown (inr f) = failed status report f
+    answered status report grown (inr (inl t)) = absurd (task_or_trial words task t.number ask t.words_are)
+    answered status report grown (inr (inr f)) = failed status report f
 
   pub complete_by : (status : Status) → Explains words before after sink sink_after status → IsComplete words before after sink sink_after status
-  complete_by status e command input outcome words_are told calls stayed faults stalls = elim e [
-    | inl h ↦ answered command input outcome words_are told calls stayed status h.0 h.2 h.1
+  complete_by status e task input outcome ask told calls stayed faults stalls = elim e [
+    | inl h ↦ answered task input outcome ask told calls stayed status h.0 h.2 h.1
+    | inr h ↦ elim h.4.cause [
+      | inl rose ↦ absurd (not_both sink.faults sink_after.faults faults rose)
+      | inr rose ↦ absurd (not_both sink.stalls sink_after.stalls stalls rose)
+    ]
+  ]
+
+  module _ (number : ℕ) (outcome : Outcome) (trial : AskForTrial number words) (calls : TrialCallsFor number outcome) where
+    tried : (other : ℕ) (status : Status) → other ≡ number → Trial other status → TrialAnswersAs number sink sink_after status outcome
+    tried other status same found =
+        let t = subst (λ (n : ℕ). Trial n status) same found in
+        record { found = t.outcome; calls = t.calls; status_is = t.status_is; alike = one_outcome (Check usual_budget) (trial_text number) t.outcome outcome t.calls calls; written = t.writes }
+
+    untried : (status : Status) (report : List ℕ) → Fails words before after status report → TrialAnswersAs number sink sink_after status outcome ⊎ (status ≡ Memory)
+    untried Done report f = absurd f
+    untried Rejected report f = absurd f
+    untried Undecided report f = absurd f
+    untried Refused report f = absurd f
+    untried ReadFault report f = absurd (task_or_trial words f.0.0 number f.0.1 trial)
+    untried WriteFault report f = absurd f
+    untried Usage report f = absurd (f.0 (inr (number, trial)))
+    untried Memory report f = inr refl
+
+    tried_answered : (status : Status) (report : List ℕ) → Appends sink.bytes sink_after.bytes report → Judges words before after status report → TrialAnswersAs number sink sink_after status outcome ⊎ (status ≡ Memory)
+    tried_answered status report grown (inl h) = absurd (task_or_trial words h.task number h.words_are trial)
+    tried_answered status report grown (inr (inl t)) = inl (tried t.number status (same_trial words t.number number t.words_are trial) (trial_of status report grown t))
+    tried_answered status report grown (inr (inr f)) = untried status report f
+
+  pub trial_complete_by : (status : Status) → Explains words before after sink sink_after status → IsTrialComplete words sink sink_after status
+  trial_complete_by status e number outcome trial calls faults stalls = elim e [
+    | inl h ↦ tried_answered number outcome trial calls status h.0 h.2 h.1
     | inr h ↦ elim h.4.cause [
       | inl rose ↦ absurd (not_both sink.faults sink_after.faults faults rose)
       | inr rose ↦ absurd (not_both sink.stalls sink_after.stalls stalls rose)

@@ -4,11 +4,11 @@ use Rattle.std.specs.Io.KnownBytes.{Appends, Consumes, IsAtEnd}
 use Rattle.civl_outside.specs.Count.{Rose}
 use Rattle.civl_outside.specs.Sent.{AppendsPart}
 use Rattle.civl_reports.specs.Lines.{line}
-use Rattle.civl_words.specs.Words.{AreWordsOf, AreTaken}
-use Rattle.civl_words.specs.declared.words.Command.{Command}
-use Rattle.civl_command.specs.Outcome.{Outcome, TooLong, FindsBy, status_of, report_of, limit}
+use Rattle.civl_command.specs.Tasks.{AskFor, AskForSome, AskForTrial, AreTaken}
+use Rattle.civl_command.specs.Outcome.{Outcome, TooLong, FindsBy, TrialCallsFor, status_of, report_of, trial_report, limit}
 use Rattle.civl_command.specs.Report.{bytes_of}
 use Rattle.civl_command.specs.declared.judged.Judged.{Judged}
+use Rattle.civl_command.specs.declared.task.Task.{Task}
 use Rattle.civl_command.specs.declared.status.Status.{Status}
 use Rattle.civl_command.specs.declared.status.Status.TheVariants.{ReadFault, WriteFault, Usage, Memory}
 
@@ -42,12 +42,12 @@ abbrev pub ReadsPast : ReadState → ReadState → Type 0
 ReadsPast before after = (bytes : List ℕ) × Consumes before.left after.left bytes × (length bytes ≡ limit + 1)
 
 -- the whole input was read, and this is found of it
-abbrev pub ReadsAll : Command → ReadState → ReadState → Outcome → Type 0
-ReadsAll command before after outcome = (bytes : List ℕ) × ReadsText before after bytes × FindsBy command bytes outcome
+abbrev pub ReadsAll : Task → ReadState → ReadState → Outcome → Type 0
+ReadsAll task before after outcome = (bytes : List ℕ) × ReadsText before after bytes × FindsBy task bytes outcome
 
 -- what was read calls for this outcome: more than the limit, or the whole input
-abbrev pub Reads : Command → ReadState → ReadState → Outcome → Type 0
-Reads command before after outcome = ((outcome ≡ TooLong) × ReadsPast before after) ⊎ ReadsAll command before after outcome
+abbrev pub Reads : Task → ReadState → ReadState → Outcome → Type 0
+Reads task before after outcome = ((outcome ≡ TooLong) × ReadsPast before after) ⊎ ReadsAll task before after outcome
 
 -- memory is wanting, and nothing is reported
 pub record WantsMemory (status : Status) (report : List ℕ) : Type 0 where
@@ -65,25 +65,45 @@ pub record Answers (says : Outcome → Type 0) (status : Status) (report : List 
 abbrev pub IsJudged : (Outcome → Type 0) → Judged → Type 0
 IsJudged says judged = Answers says judged.status (bytes_of judged.report) ⊎ WantsMemory judged.status (bytes_of judged.report)
 
--- the words are a command's, and the status and the report are those of an outcome for which the input calls under it
-pub record JudgesInput (words : List (List ℕ)) (before after : ReadState) (status : Status) (report : List ℕ) : Type 0 where
-  pub command : Command
-  pub words_are : AreWordsOf command words
+-- the status and the report are those of an outcome for which the text of a trial calls
+pub record TrialAnswers (number : ℕ) (status : Status) (report : List ℕ) : Type 0 where
   pub outcome : Outcome
-  pub reads : Reads command before after outcome
+  pub calls : TrialCallsFor number outcome
+  pub status_is : status ≡ status_of outcome
+  pub report_is : report ≡ trial_report number outcome
+
+-- the same, or memory is wanting
+abbrev pub IsTried : ℕ → Judged → Type 0
+IsTried number judged = TrialAnswers number judged.status (bytes_of judged.report) ⊎ WantsMemory judged.status (bytes_of judged.report)
+
+-- the words ask for a task, and the status and the report are those of an outcome for which the input calls
+pub record JudgesInput (words : List (List ℕ)) (before after : ReadState) (status : Status) (report : List ℕ) : Type 0 where
+  pub task : Task
+  pub words_are : AskFor task words
+  pub outcome : Outcome
+  pub reads : Reads task before after outcome
   pub status_is : status ≡ status_of outcome
   pub report_is : report ≡ report_of outcome
 
--- there is no such outcome, since the source failed, the words are no command's, or memory is wanting
+-- the words ask for a trial, nothing is read, and the status and the report are those of an outcome for which its text calls
+pub record JudgesTrial (words : List (List ℕ)) (before after : ReadState) (status : Status) (report : List ℕ) : Type 0 where
+  pub number : ℕ
+  pub words_are : AskForTrial number words
+  pub unread : after ≡ before
+  pub answers : TrialAnswers number status report
+
+-- there is no such outcome, since the source failed, the words are no command's, or memory is wanting, at the words already where
+-- they ask for no task
 abbrev pub Fails : List (List ℕ) → ReadState → ReadState → Status → List ℕ → Type 0
-Fails words before after ReadFault report = AreTaken words × Rose before.faults after.faults × (report ≡ [])
+Fails words before after ReadFault report = AskForSome words × Rose before.faults after.faults × (report ≡ [])
 Fails words before after Usage report = (AreTaken words → ⊥) × (after ≡ before) × (report ≡ usage_text)
-Fails words before after Memory report = AreTaken words × (report ≡ [])
+Fails words before after Memory report = (AskForSome words ⊎ (after ≡ before)) × (report ≡ [])
 Fails words before after _ report = ⊥
 
 -- what the words and the input call for: a status, and the report that belongs to it
 abbrev pub Judges : List (List ℕ) → ReadState → ReadState → Status → List ℕ → Type 0
-Judges words before after status report = JudgesInput words before after status report ⊎ Fails words before after status report
+Judges words before after status report =
+    JudgesInput words before after status report ⊎ (JudgesTrial words before after status report ⊎ Fails words before after status report)
 
 -- the sink took a first part of the report alone, since it failed or stalled
 pub record CutShort (before after : WriteState) (report : List ℕ) : Type 0 where

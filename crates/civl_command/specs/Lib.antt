@@ -4,6 +4,7 @@ pub mod Texts
 pub mod Reader
 pub mod Rules
 pub mod Replay
+pub mod Tasks
 pub mod Outcome
 pub mod Alike
 pub mod Judge

@@ -1,5 +1,5 @@
 -- What the bytes of an input call for: the status and the report that they deserve.
-use Rattle.std.specs.Prelude.{◌≡◌, ℕ, ◌<◌, ◌≤◌, List, length, Result, Ok, Err, Option, Some, ◌⊎◌}
+use Rattle.std.specs.Prelude.{◌≡◌, ℕ, ◌<◌, ◌≤◌, List, ◌++◌, length, Result, Ok, Err, Option, Some, ◌⊎◌}
 use Rattle.civl_tree.specs.Raised.{raised}
 use Rattle.civl_tree.specs.SpellingProgram.{spell_program}
 use Rattle.civl_tree.specs.SpellingText.{canonical_text}
@@ -24,13 +24,14 @@ use Rattle.civl_verdicts.specs.Surveys.{IsSurvey}
 use Rattle.civl_verdicts.specs.Verdicts.{IsVerdict}
 use Rattle.civl_reports.specs.Findings.{heavy_text, survey_text}
 use Rattle.civl_verdict_reports.specs.Verdicts.{verdict_text}
-use Rattle.civl_words.specs.Words.{budget_of}
-use Rattle.civl_words.specs.declared.words.Command.{Command}
-use Rattle.civl_words.specs.declared.words.Command.TheVariants.{Check, Conditions, Fmt, RunLow, RunTop}
-use Rattle.civl_command.specs.Report.{too_long_text, fault_text, refusal_text, misfit_text, run_text}
+use Rattle.civl_words.specs.Words.{usual_budget}
+use Rattle.civl_trial.specs.Trial.{trial}
+use Rattle.civl_command.specs.Report.{too_long_text, fault_text, refusal_text, misfit_text, run_text, trial_line}
 use Rattle.civl_command.specs.Rules.{static_refusal, IsLawful, IsTaken}
 use Rattle.civl_command.specs.Texts.{IsReading, IsScriptReading}
 use Rattle.civl_command.specs.declared.reader.Fault.{Fault}
+use Rattle.civl_command.specs.declared.task.Task.{Task}
+use Rattle.civl_command.specs.declared.task.Task.TheVariants.{Check, Conditions, Fmt, RunLow, RunTop}
 use Rattle.civl_command.specs.declared.status.Status.{Status}
 use Rattle.civl_command.specs.declared.status.Status.TheVariants.{Done, Rejected, Undecided, Refused}
 
@@ -53,7 +54,7 @@ pub data Outcome : Type 0 where
   Misfit : ℕ → Outcome
   Ran : Program → Trace → Outcome
 
--- ---- what each command finds of what it reads
+-- ---- what is found of what is read
 
 -- of a program that breaks a static rule
 abbrev pub Breaks : Program → Outcome → Type 0
@@ -106,17 +107,17 @@ pub record Finds {A : Type 0} (IsRead : List ℕ → Result A Fault → Type 0) 
   pub read : IsRead input reading
   pub says : OfRead Says reading outcome
 
--- under a command, of an input that may be read
-abbrev pub FindsBy : Command → List ℕ → Outcome → Type 0
-FindsBy (Check told) input outcome = Finds IsReading (Checks (budget_of told)) input outcome
-FindsBy (Conditions told) input outcome = Finds IsReading (Surveys (budget_of told)) input outcome
+-- by a task, of an input that may be read
+abbrev pub FindsBy : Task → List ℕ → Outcome → Type 0
+FindsBy (Check budget) input outcome = Finds IsReading (Checks budget) input outcome
+FindsBy (Conditions budget) input outcome = Finds IsReading (Surveys budget) input outcome
 FindsBy Fmt input outcome = Finds IsReading Prints input outcome
 FindsBy RunLow input outcome = Finds IsScriptReading (Runs lowest) input outcome
 FindsBy RunTop input outcome = Finds IsScriptReading (Runs topmost) input outcome
 
--- under a command the input calls for this outcome
-abbrev pub CallsFor : Command → List ℕ → Outcome → Type 0
-CallsFor command input outcome = ((outcome ≡ TooLong) × (limit < length input)) ⊎ FindsBy command input outcome
+-- for a task the input calls for this outcome
+abbrev pub CallsFor : Task → List ℕ → Outcome → Type 0
+CallsFor task input outcome = ((outcome ≡ TooLong) × (limit < length input)) ⊎ FindsBy task input outcome
 
 -- ---- the status and the report
 
@@ -157,3 +158,17 @@ report_of (Surveyed program budget survey) = survey_text program budget survey
 report_of (Printed program) = printed_text program
 report_of (Misfit number) = misfit_text number
 report_of (Ran program trace) = run_text program trace
+
+-- ---- trials
+
+-- the text of the trial program of so many copies
+abbrev pub trial_text : ℕ → List ℕ
+trial_text number = printed_text (trial number)
+
+-- the text of a trial calls for this outcome, as an input of `check` with the usual budget does
+abbrev pub TrialCallsFor : ℕ → Outcome → Type 0
+TrialCallsFor number outcome = CallsFor (Check usual_budget) (trial_text number) outcome
+
+-- the report that an outcome has there
+abbrev pub trial_report : ℕ → Outcome → List ℕ
+trial_report number outcome = trial_line number ++ report_of outcome

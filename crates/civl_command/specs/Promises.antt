@@ -13,19 +13,20 @@ use Rattle.civl_conditions.specs.Violated.{Violates}
 use Rattle.civl_verdicts.specs.declared.survey.Survey.{Survey}
 use Rattle.civl_verdicts.specs.declared.verdict.Counter.{Counter}
 use Rattle.civl_verdicts.specs.Surveys.{IsSurvey}
+use Rattle.civl_words.specs.Words.{usual_budget}
 use Rattle.civl_verdicts.specs.Verdicts.{IsReached, AllHold, IsUndecided}
 use Rattle.civl_reports.specs.Lines.{HasLineThatBegins}
 use Rattle.civl_reports.specs.Findings.{survey_text}
 use Rattle.civl_verdict_reports.specs.Verdicts.{accepted_text, rejected_text, undecided_text}
-use Rattle.civl_words.specs.Words.{AreWordsOf, budget_of}
-use Rattle.civl_words.specs.declared.words.Command.{Command}
-use Rattle.civl_words.specs.declared.words.Command.TheVariants.{Check}
 use Rattle.civl_command.specs.Rules.{IsLawful, IsTaken}
 use Rattle.civl_command.specs.Texts.{SpellsProgram, SpellsScript}
-use Rattle.civl_command.specs.Outcome.{Outcome, TooLong, RunsBy, CallsFor, printed_text, status_of, report_of}
+use Rattle.civl_command.specs.Tasks.{AskFor, AskForTrial}
+use Rattle.civl_command.specs.Outcome.{Outcome, TooLong, RunsBy, CallsFor, TrialCallsFor, printed_text, trial_text, status_of, report_of, trial_report}
 use Rattle.civl_command.specs.Alike.{AreAlike}
 use Rattle.civl_command.specs.Judge.{ReadState, WriteState}
-use Rattle.civl_command.specs.Report.{run_text}
+use Rattle.civl_command.specs.Report.{run_text, trial_line}
+use Rattle.civl_command.specs.declared.task.Task.{Task}
+use Rattle.civl_command.specs.declared.task.Task.TheVariants.{Check}
 use Rattle.civl_command.specs.declared.status.Status.{Status}
 use Rattle.civl_command.specs.declared.status.Status.TheVariants.{Done, Refused, WriteFault, Memory}
 
@@ -58,10 +59,17 @@ AcceptsRightly before after sink sink_after =
     (input : List ℕ) → before.left ≡ Some input →
     (program : Program) × (count : ℕ) × Accepts input program count × ReadsAndWrites after sink sink_after (accepted_text count)
 
--- Where what was written grew by a text that begins with `accepted`, the status is Done, or such a report couldn't be written whole.
-abbrev pub AcceptsAlone : WriteState → WriteState → Status → Type 0
-AcceptsAlone sink sink_after status =
-    (taken rest : List ℕ) → sink.bytes ≡ Some taken → sink_after.bytes ≡ Some (taken ++ (codes "accepted" ++ rest)) → (status ≡ Done) ⊎ (status ≡ WriteFault)
+-- Done under a trial: that is so of its text, and the report says it under the trial's line.
+abbrev pub TrialAcceptsRightly : ℕ → WriteState → WriteState → Type 0
+TrialAcceptsRightly number sink sink_after =
+    (program : Program) × (count : ℕ) × Accepts (trial_text number) program count × Writes sink sink_after (trial_line number ++ accepted_text count)
+
+-- Where what was written grew by these lines and a text that begins with `accepted`, the status is Done, or such a report couldn't be
+-- written whole.
+abbrev pub AcceptsAlone : List ℕ → WriteState → WriteState → Status → Type 0
+AcceptsAlone lines sink sink_after status =
+    (taken rest : List ℕ) → sink.bytes ≡ Some taken → sink_after.bytes ≡ Some (taken ++ (lines ++ (codes "accepted" ++ rest)))
+    → (status ≡ Done) ⊎ (status ≡ WriteFault)
 
 -- Some store is initial in the program that the input spells. The condition has this place in its list, and each condition before it
 -- holds; it doesn't hold itself, since these values violate it, one of the right sort for each of its variables.
@@ -71,12 +79,15 @@ pub record Rejects (input : List ℕ) (program : Program) (counter : Counter) : 
   pub reached : IsReached program counter.condition place
   pub violates : Violates program counter.condition counter.values
 
--- Rejected: the words are those of `check`, that is so of the input, and the report says it.
+-- Rejected: the words ask for `check` or for a trial, that is so of the input or of the trial's text, and the report says it.
 abbrev pub RejectsRightly : List (List ℕ) → ReadState → ReadState → WriteState → WriteState → Type 0
 RejectsRightly words before after sink sink_after =
-    (input : List ℕ) → before.left ≡ Some input →
-    (told : Option ℕ) × AreWordsOf (Check told) words
-    × (program : Program) × (counter : Counter) × Rejects input program counter × ReadsAndWrites after sink sink_after (rejected_text program counter)
+    ((budget : ℕ) × AskFor (Check budget) words
+    × ((input : List ℕ) → before.left ≡ Some input →
+    (program : Program) × (counter : Counter) × Rejects input program counter × ReadsAndWrites after sink sink_after (rejected_text program counter)))
+    ⊎ ((number : ℕ) × AskForTrial number words
+    × (program : Program) × (counter : Counter) × Rejects (trial_text number) program counter
+    × Writes sink sink_after (trial_line number ++ rejected_text program counter))
 
 -- The search for an initial store of the program that the input spells, or for values that violate this condition, spent the budget on
 -- the clauses of this log, and the formula that it decides is wide. Before a condition some store was found initial, and each condition
@@ -85,13 +96,18 @@ pub record LeavesOpen (input : List ℕ) (budget : ℕ) (program : Program) (for
   pub spelled : SpellsTaken input program
   pub undecided : IsUndecided program budget formula log
 
--- Undecided: the words are those of `check`, that is so of the input under their budget, and the report says it.
+-- Undecided: the words ask for `check` or for a trial, that is so of the input under their budget, or of the trial's text under the usual
+-- one, and the report says it.
 abbrev pub LeavesOpenRightly : List (List ℕ) → ReadState → ReadState → WriteState → WriteState → Type 0
 LeavesOpenRightly words before after sink sink_after =
-    (input : List ℕ) → before.left ≡ Some input →
-    (told : Option ℕ) × AreWordsOf (Check told) words
+    ((budget : ℕ) × AskFor (Check budget) words
+    × ((input : List ℕ) → before.left ≡ Some input →
+    (program : Program) × (formula : Option Condition) × (log : List (List Literal))
+    × LeavesOpen input budget program formula log × ReadsAndWrites after sink sink_after (undecided_text program formula budget)))
+    ⊎ ((number : ℕ) × AskForTrial number words
     × (program : Program) × (formula : Option Condition) × (log : List (List Literal))
-    × LeavesOpen input (budget_of told) program formula log × ReadsAndWrites after sink sink_after (undecided_text program formula (budget_of told))
+    × LeavesOpen (trial_text number) usual_budget program formula log
+    × Writes sink sink_after (trial_line number ++ undecided_text program formula usual_budget))
 
 -- This is found of the conditions of the program that the input spells, under the budget; and no line of the report on it begins with
 -- `accepted`.
@@ -130,26 +146,44 @@ pub record Carries (after : ReadState) (sink sink_after : WriteState) (outcome :
   pub written : Writes sink sink_after (report_of outcome)
   pub read : outcome ≢ TooLong → after.left ≡ Some []
 
--- Refused: under the command of the words the input calls for a refusal, and the report says which.
+-- Refused: the words ask for a task or for a trial, the input or the trial's text calls for a refusal, and the report says which.
 abbrev pub RefusesRightly : List (List ℕ) → ReadState → ReadState → WriteState → WriteState → Type 0
 RefusesRightly words before after sink sink_after =
-    (input : List ℕ) → before.left ≡ Some input →
-    (command : Command) × AreWordsOf command words
-    × (outcome : Outcome) × CallsFor command input outcome × (status_of outcome ≡ Refused) × Carries after sink sink_after outcome
+    ((task : Task) × AskFor task words
+    × ((input : List ℕ) → before.left ≡ Some input →
+    (outcome : Outcome) × CallsFor task input outcome × (status_of outcome ≡ Refused) × Carries after sink sink_after outcome))
+    ⊎ ((number : ℕ) × AskForTrial number words
+    × (outcome : Outcome) × TrialCallsFor number outcome × (status_of outcome ≡ Refused) × Writes sink sink_after (trial_report number outcome))
 
 -- the status and the report are those of an outcome for which the input calls, and which is alike the given one: the two are verdicts
 -- or surveys that don't speak against each other, or they are one
-pub record AnswersAs (command : Command) (input : List ℕ) (after : ReadState) (sink sink_after : WriteState) (status : Status) (outcome : Outcome) : Type 0 where
+pub record AnswersAs (task : Task) (input : List ℕ) (after : ReadState) (sink sink_after : WriteState) (status : Status) (outcome : Outcome) : Type 0 where
   pub found : Outcome
-  pub calls : CallsFor command input found
+  pub calls : CallsFor task input found
   pub status_is : status ≡ status_of found
   pub alike : AreAlike found outcome
   pub carries : Carries after sink sink_after found
 
--- Where the words are a command's and nothing failed or stalled, the answer is the one that the input calls for, but for want
+-- Where the words ask for a task and nothing failed or stalled, the answer is the one that the input calls for, but for want
 -- of memory.
 abbrev pub IsComplete : List (List ℕ) → ReadState → ReadState → WriteState → WriteState → Status → Type 0
 IsComplete words before after sink sink_after status =
-    (command : Command) (input : List ℕ) (outcome : Outcome) → AreWordsOf command words → before.left ≡ Some input → CallsFor command input outcome →
+    (task : Task) (input : List ℕ) (outcome : Outcome) → AskFor task words → before.left ≡ Some input → CallsFor task input outcome →
     Stayed before.faults after.faults → Stayed sink.faults sink_after.faults → Stayed sink.stalls sink_after.stalls →
-    AnswersAs command input after sink sink_after status outcome ⊎ (status ≡ Memory)
+    AnswersAs task input after sink sink_after status outcome ⊎ (status ≡ Memory)
+
+-- the same of a trial's text
+pub record TrialAnswersAs (number : ℕ) (sink sink_after : WriteState) (status : Status) (outcome : Outcome) : Type 0 where
+  pub found : Outcome
+  pub calls : TrialCallsFor number found
+  pub status_is : status ≡ status_of found
+  pub alike : AreAlike found outcome
+  pub written : Writes sink sink_after (trial_report number found)
+
+-- Where the words ask for a trial and the sink neither failed nor stalled, the answer is the one that its text calls for, but for want
+-- of memory.
+abbrev pub IsTrialComplete : List (List ℕ) → WriteState → WriteState → Status → Type 0
+IsTrialComplete words sink sink_after status =
+    (number : ℕ) (outcome : Outcome) → AskForTrial number words → TrialCallsFor number outcome →
+    Stayed sink.faults sink_after.faults → Stayed sink.stalls sink_after.stalls →
+    TrialAnswersAs number sink sink_after status outcome ⊎ (status ≡ Memory)

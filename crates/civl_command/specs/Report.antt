@@ -66,3 +66,7 @@ store_lines globals values = beside (λ g. value_line [] g.name) globals values
 abbrev pub run_text : Program → Trace → List ℕ
 run_text program trace =
     line (codes "moved " ++ decimal trace.moved) ++ (stopped_text trace.stopped ++ (failing_text trace.failing ++ store_lines program.globals trace.end.values))
+
+-- the line over what is found of the trial program of so many copies
+abbrev pub trial_line : ℕ → List ℕ
+trial_line number = line (codes "trial " ++ decimal number)

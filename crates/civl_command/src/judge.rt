@@ -1,27 +1,27 @@
 // What the words and the input call for.
-ghost use Rattle.std.specs.Prelude.{◌≡◌, ◌≤◌, ◌⊎◌, ℕ, length, map, string_bytes, Option};
-ghost use Rattle.civl_words.specs.Words.{AreWordsOf, AreTaken};
+ghost use Rattle.std.specs.Prelude.{◌≡◌, ◌≤◌, ◌⊎◌, ℕ, List, length, map, string_bytes};
+ghost use Rattle.civl_words.specs.Words.{AreWordsOf, HasFitNumbers};
 ghost use Rattle.civl_command.specs.Texts.{IsReading, IsScriptReading};
 ghost use Rattle.civl_command.specs.Replay.{plain_for};
 ghost use Rattle.civl_command.specs.Outcome.{Printed, Prints, Runs, Finds, FindsBy, limit};
+ghost use Rattle.civl_command.specs.Tasks.{command_for, AskFor, AskForSome, AsksProvers, AskProvers};
 ghost use Rattle.civl_command.specs.Judge.{reading, IsJudged, Judges};
 ghost use Rattle.civl_command.specs.Report.{bytes_of};
 
-use crate::judged::{Judged, Report, judge_fault};
+use crate::judged::{Judged, LIMIT, Report, judge_fault};
 use crate::reader::{Text, read_program, read_script};
 use crate::replay::{End, judge_script};
 use crate::status::Status;
 use crate::survey::survey_text;
+use crate::task::Task;
+use crate::trial::judge_trial;
 use crate::verdict::check_text;
 use civl_outside::{Source, Whole, read_whole};
 use civl_portfolio::Prover;
 use civl_printer::print;
 use civl_tree::Program;
-use civl_words::{Command, budget_of, command_of};
+use civl_words::{Command, command_of};
 use std::alloc::Global;
-
-/// The most bytes that an input may have.
-const LIMIT: usize = 1_048_576;
 
 /// The canonical text of a program.
 fn print_program(alloc: Global, program: &Program) -> Judged
@@ -60,28 +60,78 @@ fn run_text(alloc: Global, end: End, bytes: &[u8]) -> Judged
     }
 }
 
-/// What a command finds of a text, which is no longer than an input may be.
-fn judge_text(
-    alloc: Global,
-    command: Command,
-    bytes: &[u8],
-    provers: &mut Vec<Box<dyn Prover>>,
-) -> Judged
+/// What a task finds of a text, which is no longer than an input may be.
+fn judge_text(alloc: Global, task: Task, bytes: &[u8], provers: &mut Vec<Box<dyn Prover>>) -> Judged
     requires { length bytes.now ≤ limit }
-    ensures judged { IsJudged (FindsBy command bytes.now) result }
-    ensures unasked { ((told : Option ℕ) → (command ≡ Command.Check told) ⊎ (command ≡ Command.Conditions told) → ⊥) → provers.new ≡ provers.old }
+    ensures judged { IsJudged (FindsBy task bytes.now) result }
+    ensures unasked { (AsksProvers (command_for task) → ⊥) → provers.new ≡ provers.old }
 {
-    match command {
-        Command::Check(told) => check_text(alloc, budget_of(told), bytes, provers),
-        Command::Conditions(told) => survey_text(alloc, budget_of(told), bytes, provers),
-        Command::Fmt => print_text(alloc, bytes),
-        Command::RunLow => run_text(alloc, End::Low, bytes),
-        Command::RunTop => run_text(alloc, End::Top, bytes),
+    match task {
+        Task::Check(budget) => check_text(alloc, budget, bytes, provers),
+        Task::Conditions(budget) => survey_text(alloc, budget, bytes, provers),
+        Task::Fmt => print_text(alloc, bytes),
+        Task::RunLow => run_text(alloc, End::Low, bytes),
+        Task::RunTop => run_text(alloc, End::Top, bytes),
     }
 }
 
-/// What the words and the input call for. The input is read where the words are a command's, and then to its end or
-/// to one byte past the limit.
+/// What a task finds of the input, which is read to its end or to one byte past the limit.
+fn judge_input<S: Source>(
+    alloc: Global,
+    task: Task,
+    source: &mut S,
+    provers: &mut Vec<Box<dyn Prover>>,
+) -> Judged
+    ensures judges { (words : List (List ℕ)) → AskFor task words → Judges words
+        (reading (S.left source.old) (S.faults source.old))
+        (reading (S.left source.new) (S.faults source.new))
+        result.status (bytes_of result.report) }
+    ensures unasked { (AsksProvers (command_for task) → ⊥) → provers.new ≡ provers.old }
+{
+    match read_whole(alloc, source, LIMIT) {
+        Whole::Bytes(bytes) => judge_text(alloc, task, bytes.as_slice(), provers),
+        Whole::Long => Judged::too_long(),
+        Whole::Failed => Judged {
+            status: Status::ReadFault,
+            report: Report::Fixed(b""),
+        },
+        Whole::Memory => Judged::wanting(),
+    }
+}
+
+/// What a command calls for: what it asks of an input is found of the input, and a trial is judged by its own text.
+fn judge_command<S: Source>(
+    alloc: Global,
+    command: Command,
+    source: &mut S,
+    provers: &mut Vec<Box<dyn Prover>>,
+) -> Judged
+    requires { HasFitNumbers command }
+    ensures judges { (words : List (List ℕ)) → AreWordsOf command words → Judges words
+        (reading (S.left source.old) (S.faults source.old))
+        (reading (S.left source.new) (S.faults source.new))
+        result.status (bytes_of result.report) }
+    ensures unread { ((task : Task) → command ≡ command_for task → ⊥) → source.new ≡ source.old }
+    ensures unasked { (AsksProvers command → ⊥) → provers.new ≡ provers.old }
+{
+    match command {
+        Command::Check(budget) => judge_input(alloc, Task::Check(budget), source, provers),
+        Command::Conditions(budget) => judge_input(
+            alloc,
+            Task::Conditions(budget),
+            source,
+            provers,
+        ),
+        Command::Fmt => judge_input(alloc, Task::Fmt, source, provers),
+        Command::RunLow => judge_input(alloc, Task::RunLow, source, provers),
+        Command::RunTop => judge_input(alloc, Task::RunTop, source, provers),
+        Command::Trial(number) => judge_trial(alloc, number, provers),
+        Command::ProofMake(_, _) => Judged::usage(),
+        Command::ProofReplay => Judged::usage(),
+    }
+}
+
+/// What the words and the input call for. The input is read where the words ask for something of it.
 pub(crate) fn judge<S: Source>(
     alloc: Global,
     words: &Vec<String>,
@@ -92,25 +142,14 @@ pub(crate) fn judge<S: Source>(
         (reading (S.left source.old) (S.faults source.old))
         (reading (S.left source.new) (S.faults source.new))
         result.status (bytes_of result.report) }
-    ensures unread { (AreTaken (map string_bytes words.now.items) → ⊥) → source.new ≡ source.old }
-    ensures unasked { ((told : Option ℕ) → AreWordsOf (Command.Check told) (map string_bytes words.now.items) ⊎ AreWordsOf (Command.Conditions told) (map string_bytes words.now.items) → ⊥) → provers.new ≡ provers.old }
+    ensures unread { (AskForSome (map string_bytes words.now.items) → ⊥) → source.new ≡ source.old }
+    ensures unasked { (AskProvers (map string_bytes words.now.items) → ⊥) → provers.new ≡ provers.old }
 {
-    let Some(command) = command_of(words) else {
-        return Judged {
-            status: Status::Usage,
-            report: Report::Fixed(b"usage: civl check|conditions|fmt|run|trial|prove|proof\n"),
-        };
-    };
-    match read_whole(alloc, source, LIMIT) {
-        Whole::Bytes(bytes) => judge_text(alloc, command, bytes.as_slice(), provers),
-        Whole::Long => Judged {
-            status: Status::Refused,
-            report: Report::Fixed(b"refused E01 over 1048576 bytes\n"),
+    match command_of(alloc, words) {
+        Ok(found) => match found {
+            Some(command) => judge_command(alloc, command, source, provers),
+            None => Judged::usage(),
         },
-        Whole::Failed => Judged {
-            status: Status::ReadFault,
-            report: Report::Fixed(b""),
-        },
-        Whole::Memory => Judged::wanting(),
+        Err(_) => Judged::wanting(),
     }
 }

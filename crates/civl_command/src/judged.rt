@@ -13,6 +13,9 @@ use civl_reports::report_heavy;
 use civl_tree::Refusal;
 use std::alloc::Global;
 
+/// The most bytes that an input may have.
+pub(crate) const LIMIT: usize = 1_048_576;
+
 /// A report: a fixed text, or one that was made.
 #[derive(Drop)]
 pub(crate) enum Report {
@@ -42,7 +45,8 @@ pub(crate) struct Judged {
 
 impl Judged {
     ghost use Rattle.civl_command.specs.Report.{bytes_of};
-    ghost use Rattle.civl_command.specs.Judge.{WantsMemory};
+    ghost use Rattle.civl_command.specs.Judge.{WantsMemory, usage_text};
+    ghost use Rattle.civl_command.specs.Outcome.{TooLong, status_of, report_of};
 
     /// Memory is wanting, so nothing is written.
     pub(crate) fn wanting() -> Judged
@@ -51,6 +55,28 @@ impl Judged {
         Judged {
             status: Status::Memory,
             report: Report::Fixed(b""),
+        }
+    }
+
+    /// The words are no command's.
+    pub(crate) fn usage() -> Judged
+        ensures status { result.status ≡ Status.Usage }
+        ensures report { bytes_of result.report ≡ usage_text }
+    {
+        Judged {
+            status: Status::Usage,
+            report: Report::Fixed(b"usage: civl check|conditions|fmt|run|trial|prove|proof\n"),
+        }
+    }
+
+    /// A text is longer than an input may be.
+    pub(crate) fn too_long() -> Judged
+        ensures status { result.status ≡ status_of TooLong }
+        ensures report { bytes_of result.report ≡ report_of TooLong }
+    {
+        Judged {
+            status: Status::Refused,
+            report: Report::Fixed(b"refused E01 over 1048576 bytes\n"),
         }
     }
 }

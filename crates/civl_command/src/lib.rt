@@ -1,9 +1,9 @@
 //! The program `civl` as one call: from the words of its command line and the bytes of its input to its report and
 //! its status.
 //!
-//! It takes the words `check`, `check --budget N`, `conditions`, `conditions --budget N`, `fmt`, `run low` and `run top`. `check`
-//! gives the verdict on every program that breaks no static rule, and `conditions` tells of every such program what is found of each
-//! of its conditions; `fmt` prints every program, and `run` replays a schedule of every program that breaks no static rule.
+//! It takes the words of `civl_words`. `check` gives the verdict on every program that breaks no static rule, and `conditions` tells of
+//! every such program what is found of each of its conditions; `fmt` prints every program, and `run` replays a schedule of every program
+//! that breaks no static rule. `trial` gives the verdict on the text of a trial program.
 #![tactic(auto)]
 
 mod admission;
@@ -15,7 +15,9 @@ mod replay;
 mod report;
 mod status;
 mod survey;
+mod task;
 mod top;
+mod trial;
 mod verdict;
 
 pub use status::Status;

@@ -1,7 +1,7 @@
 // The text of a report.
 ghost use Rattle.std.specs.Prelude.{◌≡◌, ◌++◌, OnOk, IfOk, decimal};
 ghost use Rattle.civl_reports.specs.Lines.{line};
-ghost use Rattle.civl_command.specs.Report.{store_lines, fault_text, refusal_text, misfit_text, answer_text, stopped_text, failing_text, run_text};
+ghost use Rattle.civl_command.specs.Report.{store_lines, fault_text, refusal_text, misfit_text, answer_text, stopped_text, failing_text, run_text, trial_line};
 
 use crate::reader::Fault;
 use civl_bits::Value;
@@ -138,5 +138,23 @@ pub(crate) fn report_run(alloc: Global, program: &Program, trace: &Trace) -> Res
 {
     let mut out = Vec::new(alloc);
     put_run(&mut out, program, trace)?;
+    Ok(out)
+}
+
+/// The line of a trial, and the report on its text.
+fn put_trial(out: &mut Vec<u8>, number: u32, report: &[u8]) -> Result<(), Memory>
+    ensures { OnOk result (out.new.items ≡ out.old.items ++ (trial_line number ++ report.now)) }
+{
+    put_place(out, b"trial ", number as usize)?;
+    put(out, report)?;
+    Ok(())
+}
+
+/// What is reported of a trial, by the report on its text.
+pub(crate) fn report_trial(alloc: Global, number: u32, report: &[u8]) -> Result<Vec<u8>, Memory>
+    ensures { IfOk result (λ out. out.items ≡ trial_line number ++ report.now) }
+{
+    let mut out = Vec::new(alloc);
+    put_trial(&mut out, number, report)?;
     Ok(out)
 }

@@ -1,5 +1,5 @@
 // How the program ends.
-ghost use Rattle.std.specs.Prelude.{◌≡◌};
+ghost use Rattle.std.specs.Prelude.{◌≡◌, ◌==◌};
 ghost use Rattle.civl_command.specs.Status.{code_of};
 
 /// How a call of [`command`](crate::command) ended.
@@ -38,5 +38,12 @@ impl Status {
             Status::Usage => 6,
             Status::Memory => 7,
         }
+    }
+
+    /// Whether memory is wanting.
+    pub(crate) fn wants_memory(self) -> bool
+        ensures { result ≡ (code_of self == 7) }
+    {
+        self.code() == 7
     }
 }

@@ -1,16 +1,17 @@
 // The top call.
-ghost use Rattle.std.specs.Prelude.{◌≡◌, ◌⊎◌, ℕ, map, string_bytes, Option};
+ghost use Rattle.std.specs.Prelude.{◌≡◌, ◌⊎◌, ℕ, [], map, string_bytes};
 ghost use Rattle.civl_meaning.specs.Layers.{lowest, topmost};
-ghost use Rattle.civl_words.specs.Words.{AreWordsOf, AreTaken, budget_of};
+ghost use Rattle.civl_command.specs.Tasks.{AskFor, AskForSome, AskForTrial, AskProvers};
 ghost use Rattle.civl_command.specs.Judge.{reading, writing, Explains};
-ghost use Rattle.civl_command.specs.Promises.{AcceptsRightly, AcceptsAlone, SurveysRightly, PrintsRightly, ReplaysRightly, RejectsRightly, LeavesOpenRightly, RefusesRightly, IsComplete};
+ghost use Rattle.civl_command.specs.Report.{trial_line};
+ghost use Rattle.civl_command.specs.Promises.{AcceptsRightly, TrialAcceptsRightly, AcceptsAlone, SurveysRightly, PrintsRightly, ReplaysRightly, RejectsRightly, LeavesOpenRightly, RefusesRightly, IsComplete, IsTrialComplete};
+ghost use Rattle.civl_command.specs.declared.task.Task.TheVariants.{Check, Conditions, Fmt, RunLow, RunTop};
 
 use crate::judge::judge;
 use crate::status::Status;
 use civl_outside::{Sent, Sink, Source, write_all};
 use civl_portfolio::Prover;
 use civl_simulation::laws::accepted_programs_preserve;
-use civl_words::Command;
 use std::alloc::Global;
 
 /// Judges the words and the input, and writes the report.
@@ -27,9 +28,9 @@ fn respond<S: Source, K: Sink>(
         (writing (K.written sink.old) (K.faults sink.old) (K.stalls sink.old))
         (writing (K.written sink.new) (K.faults sink.new) (K.stalls sink.new))
         result }
-    ensures unread { (AreTaken (map string_bytes words.now.items) → ⊥) → source.new ≡ source.old }
+    ensures unread { (AskForSome (map string_bytes words.now.items) → ⊥) → source.new ≡ source.old }
     ensures unwritten { (result ≡ Status.ReadFault) ⊎ (result ≡ Status.Memory) → sink.new ≡ sink.old }
-    ensures unasked { ((told : Option ℕ) → AreWordsOf (Command.Check told) (map string_bytes words.now.items) ⊎ AreWordsOf (Command.Conditions told) (map string_bytes words.now.items) → ⊥) → provers.new ≡ provers.old }
+    ensures unasked { (AskProvers (map string_bytes words.now.items) → ⊥) → provers.new ≡ provers.old }
 {
     let judged = judge(alloc, words, source, provers);
     match write_all(sink, judged.report.as_slice()) {
@@ -42,26 +43,27 @@ fn respond<S: Source, K: Sink>(
 /// Does what the words after the program's name say: reads the input from the source, and writes one report to the
 /// sink.
 ///
-/// The words are `check`, `check --budget N`, `conditions`, `conditions --budget N`, `fmt`, `run low` or `run top`. Under `check` there
-/// is a verdict on the program that the input spells, under `conditions` it is told of each of its conditions whether it holds, under
-/// `fmt` its canonical text is written, and under `run` the schedule of a script is replayed on its lowest or its topmost program. N is
-/// a decimal number of at most 10,000,000 without leading zeros: so many clauses each search may learn, and 200,000 where the words
-/// don't say. The whole input is read before anything is written, up to 1,048,576 bytes and one more, and the report is made whole
-/// before its first byte is written. The provers are asked under `check` and `conditions` alone, in their order, and none is believed
-/// without its certificate; those that gave a false one are dropped.
+/// The words are `check`, `conditions`, `fmt`, `run low`, `run top` or `trial N`, as `clap` reads them (`civl_words`). Under `check`
+/// there is a verdict on the program that the input spells, under `conditions` it is told of each of its conditions whether it holds,
+/// under `fmt` its canonical text is written, and under `run` the schedule of a script is replayed on its lowest or its topmost
+/// program. Under `trial` nothing is read: the trial program of N copies, from 1 to 8, is printed, and its text is judged as by `check`.
+/// Behind `check` and `conditions` may stand `--budget N`, a number of at most 10,000,000: so many clauses each search may learn, and
+/// 200,000 where the words don't say. The whole input is read before anything is written, up to 1,048,576 bytes and one more, and the
+/// report is made whole before its first byte is written. The provers are asked under `check`, `conditions` and `trial` alone, in their
+/// order, and none is believed without its certificate; those that gave a false one are dropped.
 ///
 /// # Answers
 ///
 /// - [`Status::Done`]: the program is accepted, its conditions were told, it was printed, or the schedule was replayed.
-/// - [`Status::Rejected`]: a condition of the program that is checked doesn't hold.
-/// - [`Status::Undecided`]: the search for an initial store of the program that is checked, or for values that violate one of its
-///   conditions, learned as many clauses as it may.
+/// - [`Status::Rejected`]: a condition of the program that is checked or tried doesn't hold.
+/// - [`Status::Undecided`]: the search for an initial store of the program that is checked or tried, or for values that violate one
+///   of its conditions, learned as many clauses as it may.
 /// - [`Status::Refused`]: the input is too long, or is no program or script; its program breaks a static rule; a formula weighs too
 ///   much, no store is initial, or what a script says doesn't fit its program.
 /// - [`Status::Usage`]: the words are no command. Nothing is read, and the line on usage is written.
 /// - [`Status::ReadFault`]: the source failed. Nothing is written.
 /// - [`Status::WriteFault`]: the sink failed, or took nothing more. A first part of the report is written.
-/// - [`Status::Memory`]: memory is wanting. Nothing is written.
+/// - [`Status::Memory`]: memory is wanting. Nothing is written; and nothing is read where it was wanting at the words.
 pub fn command<S: Source, K: Sink>(
     alloc: Global,
     words: &Vec<String>,
@@ -77,35 +79,38 @@ pub fn command<S: Source, K: Sink>(
         (writing (K.written sink.new) (K.faults sink.new) (K.stalls sink.new))
         result }
 
-    // Words that are no command leave the source as it is, even where the usage line can't be written; a failed read and want of
-    // memory leave the sink; and words other than those of `check` and `conditions` leave the provers.
-    ensures unread { (AreTaken (map string_bytes words.now.items) → ⊥) → source.new ≡ source.old }
+    // Words that ask for nothing of an input leave the source as it is, even where the usage line can't be written; a failed read and
+    // want of memory leave the sink; and words other than those of `check`, `conditions` and `trial` leave the provers.
+    ensures unread { (AskForSome (map string_bytes words.now.items) → ⊥) → source.new ≡ source.old }
     ensures unread_usage { result ≡ Status.Usage → source.new ≡ source.old }
     ensures unwritten { (result ≡ Status.ReadFault) ⊎ (result ≡ Status.Memory) → sink.new ≡ sink.old }
-    ensures unasked { ((told : Option ℕ) → AreWordsOf (Command.Check told) (map string_bytes words.now.items) ⊎ AreWordsOf (Command.Conditions told) (map string_bytes words.now.items) → ⊥) → provers.new ≡ provers.old }
+    ensures unasked { (AskProvers (map string_bytes words.now.items) → ⊥) → provers.new ≡ provers.old }
 
-    // Where the source tells its bytes: what the statuses on a text say of the whole input.
-    ensures accepted { (told : Option ℕ) → result ≡ Status.Done → AreWordsOf (Command.Check told) (map string_bytes words.now.items) → AcceptsRightly
+    // Where the source tells its bytes: what the statuses on a text say of the whole input; and what they say of the text of a trial.
+    ensures accepted { (budget : ℕ) → result ≡ Status.Done → AskFor (Check budget) (map string_bytes words.now.items) → AcceptsRightly
         (reading (S.left source.old) (S.faults source.old))
         (reading (S.left source.new) (S.faults source.new))
         (writing (K.written sink.old) (K.faults sink.old) (K.stalls sink.old))
         (writing (K.written sink.new) (K.faults sink.new) (K.stalls sink.new)) }
-    ensures surveyed { (told : Option ℕ) → result ≡ Status.Done → AreWordsOf (Command.Conditions told) (map string_bytes words.now.items) → SurveysRightly (budget_of told)
+    ensures tried { (number : ℕ) → result ≡ Status.Done → AskForTrial number (map string_bytes words.now.items) → TrialAcceptsRightly number
+        (writing (K.written sink.old) (K.faults sink.old) (K.stalls sink.old))
+        (writing (K.written sink.new) (K.faults sink.new) (K.stalls sink.new)) }
+    ensures surveyed { (budget : ℕ) → result ≡ Status.Done → AskFor (Conditions budget) (map string_bytes words.now.items) → SurveysRightly budget
         (reading (S.left source.old) (S.faults source.old))
         (reading (S.left source.new) (S.faults source.new))
         (writing (K.written sink.old) (K.faults sink.old) (K.stalls sink.old))
         (writing (K.written sink.new) (K.faults sink.new) (K.stalls sink.new)) }
-    ensures printed { result ≡ Status.Done → AreWordsOf Command.Fmt (map string_bytes words.now.items) → PrintsRightly
+    ensures printed { result ≡ Status.Done → AskFor Fmt (map string_bytes words.now.items) → PrintsRightly
         (reading (S.left source.old) (S.faults source.old))
         (reading (S.left source.new) (S.faults source.new))
         (writing (K.written sink.old) (K.faults sink.old) (K.stalls sink.old))
         (writing (K.written sink.new) (K.faults sink.new) (K.stalls sink.new)) }
-    ensures low { result ≡ Status.Done → AreWordsOf Command.RunLow (map string_bytes words.now.items) → ReplaysRightly lowest
+    ensures low { result ≡ Status.Done → AskFor RunLow (map string_bytes words.now.items) → ReplaysRightly lowest
         (reading (S.left source.old) (S.faults source.old))
         (reading (S.left source.new) (S.faults source.new))
         (writing (K.written sink.old) (K.faults sink.old) (K.stalls sink.old))
         (writing (K.written sink.new) (K.faults sink.new) (K.stalls sink.new)) }
-    ensures top { result ≡ Status.Done → AreWordsOf Command.RunTop (map string_bytes words.now.items) → ReplaysRightly topmost
+    ensures top { result ≡ Status.Done → AskFor RunTop (map string_bytes words.now.items) → ReplaysRightly topmost
         (reading (S.left source.old) (S.faults source.old))
         (reading (S.left source.new) (S.faults source.new))
         (writing (K.written sink.old) (K.faults sink.old) (K.stalls sink.old))
@@ -126,16 +131,25 @@ pub fn command<S: Source, K: Sink>(
         (writing (K.written sink.old) (K.faults sink.old) (K.stalls sink.old))
         (writing (K.written sink.new) (K.faults sink.new) (K.stalls sink.new)) }
 
-    // Where the sink tells what it took: under `check` a report that begins with `accepted` is that of Done, or was cut short.
-    ensures alone { (told : Option ℕ) → AreWordsOf (Command.Check told) (map string_bytes words.now.items) → AcceptsAlone
+    // Where the sink tells what it took: under `check` a report that begins with `accepted` is that of Done, or was cut short; so is the
+    // report of a trial that goes on so under its line.
+    ensures alone { (budget : ℕ) → AskFor (Check budget) (map string_bytes words.now.items) → AcceptsAlone []
+        (writing (K.written sink.old) (K.faults sink.old) (K.stalls sink.old))
+        (writing (K.written sink.new) (K.faults sink.new) (K.stalls sink.new))
+        result }
+    ensures tried_alone { (number : ℕ) → AskForTrial number (map string_bytes words.now.items) → AcceptsAlone (trial_line number)
         (writing (K.written sink.old) (K.faults sink.old) (K.stalls sink.old))
         (writing (K.written sink.new) (K.faults sink.new) (K.stalls sink.new))
         result }
 
-    // Each input gets the status that it calls for, unless memory runs out.
+    // Each input, and the text of each trial, gets the status that it calls for, unless memory runs out.
     ensures complete { IsComplete (map string_bytes words.now.items)
         (reading (S.left source.old) (S.faults source.old))
         (reading (S.left source.new) (S.faults source.new))
+        (writing (K.written sink.old) (K.faults sink.old) (K.stalls sink.old))
+        (writing (K.written sink.new) (K.faults sink.new) (K.stalls sink.new))
+        result }
+    ensures tried_complete { IsTrialComplete (map string_bytes words.now.items)
         (writing (K.written sink.old) (K.faults sink.old) (K.stalls sink.old))
         (writing (K.written sink.new) (K.faults sink.new) (K.stalls sink.new))
         result }

@@ -1,8 +1,10 @@
-use Rattle.std.proofs.Common.{inl, inr}
+use Rattle.std.proofs.Common.{sym, subst}
+use Rattle.civl_command.specs.Tasks.{command_for, AsksProvers}
+use Rattle.civl_command.specs.declared.task.Task.{Task}
 use Rattle.civl_command.proofs.judge.judge_text.Goals as goal
 
 pub returns-in-Check-clause-unasked : goal.returns-in-Check-clause-unasked
-returns-in-Check-clause-unasked g c = λ no. absurd (no c.in-Check.told (inl c.in-Check.is))
+returns-in-Check-clause-unasked g c = λ no. absurd (no (subst (λ (t : Task). AsksProvers (command_for t)) (sym c.in-Check.is) tt))
 
 pub returns-in-Conditions-clause-unasked : goal.returns-in-Conditions-clause-unasked
-returns-in-Conditions-clause-unasked g c = λ no. absurd (no c.in-Conditions.told (inr c.in-Conditions.is))
+returns-in-Conditions-clause-unasked g c = λ no. absurd (no (subst (λ (t : Task). AsksProvers (command_for t)) (sym c.in-Conditions.is) tt))

@@ -1,18 +1,24 @@
-use Rattle.civl_command.proofs.Promising.{usage_untaken, accepts_by, surveys_by, prints_by, low_by, top_by, rejects_by, leaves_open_by, refuses_by, complete_by}
-use Rattle.civl_command.proofs.Alone.{alone_by}
+use Rattle.civl_command.proofs.Promising.{usage_unasked, accepts_by, tries_by, surveys_by, prints_by, low_by, top_by, rejects_by, leaves_open_by, refuses_by, complete_by, trial_complete_by}
+use Rattle.civl_command.proofs.Alone.{alone_by, tried_alone_by}
 use Rattle.civl_command.proofs.top.command.Goals as goal
 
 pub returns-clause-unread_usage : goal.returns-clause-unread_usage
-returns-clause-unread_usage g c = λ is. c.respond.ensures.unread (usage_untaken _ _ _ _ _ (rw is at c.respond.ensures.explains))
+returns-clause-unread_usage g c = λ is. c.respond.ensures.unread (usage_unasked _ _ _ _ _ (rw is at c.respond.ensures.explains))
 
 pub returns-clause-accepted : goal.returns-clause-accepted
-returns-clause-accepted g c = λ told is check. accepts_by _ _ _ _ _ c.accepted_programs_preserve.ensures told (rw is at c.respond.ensures.explains) check
+returns-clause-accepted g c = λ budget is check. accepts_by _ _ _ _ _ c.accepted_programs_preserve.ensures budget (rw is at c.respond.ensures.explains) check
+
+pub returns-clause-tried : goal.returns-clause-tried
+returns-clause-tried g c = λ number is trial. tries_by _ _ _ _ _ c.accepted_programs_preserve.ensures number (rw is at c.respond.ensures.explains) trial
 
 pub returns-clause-alone : goal.returns-clause-alone
-returns-clause-alone g c = λ told check. alone_by _ _ _ _ _ told check c.respond.result c.respond.ensures.explains
+returns-clause-alone g c = λ budget check. alone_by _ _ _ _ _ budget check c.respond.result c.respond.ensures.explains
+
+pub returns-clause-tried_alone : goal.returns-clause-tried_alone
+returns-clause-tried_alone g c = λ number trial. tried_alone_by _ _ _ _ _ number trial c.respond.result c.respond.ensures.explains
 
 pub returns-clause-surveyed : goal.returns-clause-surveyed
-returns-clause-surveyed g c = λ told is conditions. surveys_by _ _ _ _ _ told (rw is at c.respond.ensures.explains) conditions
+returns-clause-surveyed g c = λ budget is conditions. surveys_by _ _ _ _ _ budget (rw is at c.respond.ensures.explains) conditions
 
 pub returns-clause-printed : goal.returns-clause-printed
 returns-clause-printed g c = λ is fmt. prints_by _ _ _ _ _ (rw is at c.respond.ensures.explains) fmt
@@ -34,3 +40,6 @@ returns-clause-refused g c = λ is. refuses_by _ _ _ _ _ (rw is at c.respond.ens
 
 pub returns-clause-complete : goal.returns-clause-complete
 returns-clause-complete g c = complete_by _ _ _ _ _ c.respond.result c.respond.ensures.explains
+
+pub returns-clause-tried_complete : goal.returns-clause-tried_complete
+returns-clause-tried_complete g c = trial_complete_by _ _ _ _ _ c.respond.result c.respond.ensures.explains

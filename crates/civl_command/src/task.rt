@@ -1,0 +1,16 @@
+// What is asked of an input.
+
+/// What is to be found of an input.
+#[derive(Clone, Copy)]
+pub(crate) enum Task {
+    /// The verdict on a program, where each search may learn so many clauses.
+    Check(u32),
+    /// What is found of each of its conditions, where each search may learn so many clauses.
+    Conditions(u32),
+    /// Its canonical text.
+    Fmt,
+    /// The schedule of a script on its lowest program.
+    RunLow,
+    /// The schedule of a script on its topmost program.
+    RunTop,
+}
