@@ -30,11 +30,13 @@ def tables():
     return rows
 
 
-SPINLOCK, TICKET = "spinlock.civl", "ticket.civl"
+SPINLOCK, TICKET, TICKETS = "spinlock.civl", "ticket.civl", "tickets.civl"
 ACQUIRED = "call Acquire(t) -> (); call Read(t)"
 FREE_GATE = "gate ((t != 0:2) && (lock == t)) guard true { v := x; }"
 RANK_INVARIANT = " ((serving == old(serving)) && (owner == old(owner)))))"
 NO_ONE_HAS_TWO = re.search(r"// No thread owns two.*?(?=// Between)", example(TICKET), re.DOTALL)[0]
+INVARIANT_2 = re.search(r"invariant 2.*\n", example(TICKETS))[0]
+DRAWN, ALONE = re.findall(r"// [^\n]*\n((?:invariant 1.*\n(?:  .*\n)*)+)", example(TICKETS))
 NO_ONE_WAITS = re.search(r"// Between.*?(?=action)", example(TICKET), re.DOTALL)[0]
 
 # What is put in the place of what, and lines of the report of `conditions`, which follow one another from each name on.
@@ -89,6 +91,13 @@ MISTAKES = [
      "K7 step 2 AtomPass AtomPass: fails;  serving = 0:2;  owner = [2:2, 1:2, 0:2, 0:2];  X.t = 2:2;  Y.t = 1:2;107 hold, 1 fail, 0 undecided"),
     (TICKET, [(NO_ONE_WAITS, "")],
      "K9 gate step 2 Acquire from 0: fails;  serving = 0:2;  owner = [0:2, 0:2, 0:2, 2:2];  lock = 0:2;  t = 2:2;  call0.free = 0:2;92 hold, 3 fail, 0 undecided"),
+    (TICKETS, [(DRAWN, ""), (ALONE, "")],
+     "K9 perform step 1 Take from 0: fails;  next = 0:2;  serving = 0:2;  owner = [1:2, 0:2, 0:2, 0:2];  t = 2:2"),
+    (TICKETS, [(ALONE, "")],
+     "K10 step 1 Take from 0 invariant 0: fails;  next = 0:2;  serving = 1:2;  owner = [0:2, 1:2, 1:2, 1:2];  t = 2:2"),
+    (TICKETS, [(INVARIANT_2, "")],
+     "K9 gate step 2 Acquire from 0: fails;  serving = 0:2;  owner = [0:2, 0:2, 0:2, 2:2];  lock = 0:2;  t = 2:2;  call0.free = 0:2"),
+    (TICKETS, [("  layers 1 to 1 right", "  layers 1 to 1 atomic")], "refused E50 at item 23 statement 1"),
 ]
 
 
