@@ -97,7 +97,7 @@ MISTAKES = [
      "K10 step 1 Take from 0 invariant 0: fails;  next = 0:2;  serving = 1:2;  owner = [0:2, 1:2, 1:2, 1:2];  t = 2:2"),
     (TICKETS, [(INVARIANT_2, "")],
      "K9 gate step 2 Acquire from 0: fails;  serving = 0:2;  owner = [0:2, 0:2, 0:2, 2:2];  lock = 0:2;  t = 2:2;  call0.free = 0:2"),
-    (TICKETS, [("  layers 1 to 1 right", "  layers 1 to 1 atomic")], "refused E50 at item 23 statement 1"),
+    (TICKETS, [(INVARIANT_2, ""), ("  layers 1 to 1 right", "  layers 1 to 1 atomic")], "refused E50 at item 23 statement 1"),
 ]
 
 
