@@ -1,0 +1,4 @@
+pub mod Certified
+pub mod Examined
+pub mod Agreement
+pub mod Laws
