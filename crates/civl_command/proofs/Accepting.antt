@@ -1,6 +1,6 @@
 -- A program that is taken and all of whose conditions hold preserves failures.
-use Rattle.std.specs.Prelude.{slice_get, Some, Contains}
-use Rattle.std.proofs.Common.{◌≡◌, ℕ, ◌≤◌, List, ◌++◌, length, refl, sym}
+use Rattle.std.specs.Prelude.{Contains}
+use Rattle.std.proofs.Common.{ℕ, ◌≤◌, List, ◌++◌, length, refl, sym}
 use Rattle.std.proofs.lemmas.Option.{slice_get_read}
 use Rattle.civl_tree.specs.declared.program.Program.{Program}
 use Rattle.civl_tree.specs.rules.Rules.{Keeps}

@@ -1,6 +1,6 @@
 -- No other status of `check` than Done, but for WriteFault, has a report that begins with `accepted`.
-use Rattle.std.specs.Prelude.{Option, None, Some, codes}
-use Rattle.std.proofs.Common.{◌≡◌, ℕ, ◌⊎◌, inl, inr, List, [], ◌∷◌, ◌++◌, refl, sym, ap, ◌∙◌, subst, arith, Result, Ok, Err}
+use Rattle.std.specs.Prelude.{Option, Some, codes}
+use Rattle.std.proofs.Common.{◌≡◌, ℕ, inl, inr, List, [], ◌∷◌, ◌++◌, sym, ap, ◌∙◌, subst, arith, Result, Ok, Err}
 use Rattle.std.proofs.lemmas.List.{append_cancel_left}
 use Rattle.std.specs.Io.KnownBytes.{Appends}
 use Rattle.civl_tree.specs.declared.program.Program.{Program}
@@ -8,9 +8,9 @@ use Rattle.civl_verdicts.specs.Verdicts.{IsVerdict}
 use Rattle.civl_verdict_reports.proofs.Beginning.{only_accepted_accepts}
 use Rattle.civl_words.specs.Words.{usual_budget}
 use Rattle.civl_command.specs.Tasks.{AskFor, AskForTrial, AreTaken}
-use Rattle.civl_command.specs.Report.{too_long_text, fault_text, trial_line}
-use Rattle.civl_command.specs.Outcome.{Outcome, TooLong, Unread, Broken, Judged, Heavy, Checks, OfRead, Finds, FindsBy, TrialCallsFor, status_of, report_of, trial_text, trial_report}
-use Rattle.civl_command.specs.Judge.{ReadState, WriteState, Reads, JudgesInput, JudgesTrial, Fails, Judges, Explains}
+use Rattle.civl_command.specs.Report.{fault_text, trial_line}
+use Rattle.civl_command.specs.Outcome.{Outcome, TooLong, Unread, Broken, Judged, Heavy, Checks, OfRead, TrialCallsFor, status_of, report_of}
+use Rattle.civl_command.specs.Judge.{ReadState, WriteState, Reads, JudgesInput, JudgesTrial, Fails, Explains}
 use Rattle.civl_command.specs.Promises.{AcceptsAlone}
 use Rattle.civl_command.specs.declared.reader.Fault.{Fault}
 use Rattle.civl_command.specs.declared.reader.Fault.TheVariants.{NoToken, NotHere, Deep}

@@ -1,5 +1,5 @@
 -- The words ask for one thing.
-use Rattle.std.proofs.Common.{◌≡◌, ◌∙◌, ℕ, ◌⊎◌, inl, inr, List, Option, None, Some, refl, sym, ap}
+use Rattle.std.proofs.Common.{◌≡◌, ◌∙◌, ℕ, inl, inr, List, None, refl, sym, ap}
 use Rattle.civl_words.specs.Words.{AreWordsOf, command_of}
 use Rattle.civl_words.specs.declared.words.Command.{Command}
 use Rattle.civl_words.specs.declared.words.Command.TheVariants as word

@@ -1,6 +1,6 @@
 -- From what each status says of the source and the sink, whatever they tell, to what is promised where they tell their
 -- bytes.
-use Rattle.std.proofs.Common.{◌≡◌, ◌≢◌, ℕ, ◌<◌, ◌≤◌, ◌⊎◌, inl, inr, List, [], ◌++◌, length, length-append, append-nil, refl, sym, ap, ap₂, ◌∙◌, subst, arith, Result, Ok, Err}
+use Rattle.std.proofs.Common.{◌≡◌, ℕ, ◌<◌, ◌≤◌, ◌⊎◌, inl, inr, List, [], ◌++◌, length, length-append, append-nil, refl, sym, ap, ◌∙◌, subst, arith, Result, Ok, Err}
 use Rattle.std.specs.Prelude.{Option, None, Some}
 use Rattle.std.specs.Io.KnownBytes.{Appends, Consumes, IsAtEnd}
 use Rattle.civl_outside.specs.Count.{Rose, Stayed}
@@ -22,7 +22,7 @@ use Rattle.civl_reports.proofs.Quiet.{never_accepts}
 use Rattle.civl_verdict_reports.specs.Verdicts.{accepted_text, rejected_text, undecided_text}
 use Rattle.civl_simulation.specs.Preserved.{AcceptedProgramsPreserve}
 use Rattle.civl_words.specs.Words.{usual_budget}
-use Rattle.civl_command.specs.Tasks.{AskFor, AskForSome, AskForTrial, AreTaken}
+use Rattle.civl_command.specs.Tasks.{AskFor, AskForSome, AskForTrial}
 use Rattle.civl_command.specs.Texts.{IsReading, IsScriptReading}
 use Rattle.civl_command.specs.Outcome.{Outcome, TooLong, Unread, Broken, Judged, Heavy, Surveyed, Printed, Misfit, Ran, Checks, Surveys, Prints, Runs, OfRead, Finds, FindsBy, CallsFor, TrialCallsFor, verdict_status, survey_status, status_of, report_of, trial_text, trial_report, limit}
 use Rattle.civl_command.specs.Status.{code_of}

@@ -10,8 +10,6 @@ use Rattle.civl_script.specs.Schedules.{IsSchedule}
 use Rattle.civl_script.specs.declared.schedule.Schedule.TheVariants.{Wrong}
 use Rattle.civl_conditions.specs.declared.condition.Condition.{Condition}
 use Rattle.civl_conditions.specs.Weights.{heavy}
-use Rattle.civl_verdicts.specs.declared.survey.Survey.{Survey}
-use Rattle.civl_verdicts.specs.declared.verdict.Verdict.{Verdict}
 use Rattle.civl_verdicts.specs.Surveys.{IsSurvey}
 use Rattle.civl_verdicts.specs.Verdicts.{IsVerdict}
 use Rattle.civl_command.specs.Rules.{static_refusal, IsLawful, IsTaken}

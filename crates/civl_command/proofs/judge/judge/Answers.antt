@@ -1,5 +1,4 @@
-use Rattle.std.proofs.Common.{◌≡◌, ◌∙◌, ℕ, List, Some, sym, ap, map, string_bytes}
-use Rattle.civl_words.specs.Words.{AreWordsOf}
+use Rattle.std.proofs.Common.{◌∙◌, Some, sym, ap, map, string_bytes}
 use Rattle.civl_words.specs.declared.words.Command.{Command}
 use Rattle.civl_words.proofs.Fits.{numbers_fit}
 use Rattle.civl_command.proofs.Asking.{none_untaken}
