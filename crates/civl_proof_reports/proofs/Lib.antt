@@ -1,0 +1,4 @@
+pub mod Leaning
+pub mod Finding
+pub mod Alone
+pub mod Agreeing

@@ -1,0 +1,6 @@
+pub mod Making
+pub mod Trimmed
+pub mod Replaying
+pub mod Reports
+pub mod Agreement
+pub mod Laws
