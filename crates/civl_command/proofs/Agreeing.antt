@@ -19,16 +19,17 @@ use Rattle.civl_verdicts.specs.declared.survey.Survey.{Survey}
 use Rattle.civl_verdicts.specs.declared.verdict.Verdict.{Verdict}
 use Rattle.civl_findings.proofs.Surveying.{surveys_of_one_agree}
 use Rattle.civl_judgements.proofs.Judging.{verdicts_on_one_agree}
+use Rattle.civl_proof_reports.proofs.Agreeing.{makings_agree, one_replaying}
 use Rattle.civl_command.specs.declared.task.Task.{Task}
-use Rattle.civl_command.specs.declared.task.Task.TheVariants.{Check, Conditions, Fmt, RunLow, RunTop}
+use Rattle.civl_command.specs.declared.task.Task.TheVariants.{Check, Conditions, Fmt, RunLow, RunTop, Make, Replay}
 use Rattle.civl_command.specs.Rules.{static_refusal, IsLawful}
 use Rattle.civl_command.specs.Texts.{IsReading, IsScriptReading}
-use Rattle.civl_command.specs.Outcome.{Outcome, TooLong, Unread, Broken, Judged, Heavy, Surveyed, Printed, Misfit, Ran, Checks, Surveys, Prints, Runs, RunsBy, OfRead, Finds, FindsBy, limit}
+use Rattle.civl_command.specs.Outcome.{Outcome, TooLong, Unread, Broken, Judged, Heavy, Surveyed, Printed, Misfit, Ran, Asked, Replayed, Checks, Surveys, Asks, Prints, Runs, RunsBy, OfRead, Finds, FindsReplayed, FindsBy, limit_of}
 use Rattle.civl_command.specs.Alike.{AreAlike}
 use Rattle.civl_command.specs.Laws.{EachInputIsAnsweredOnce}
 use Rattle.civl_command.specs.declared.reader.Fault.{Fault}
 use Rattle.civl_command.proofs.Reading.{one_reading, one_script_reading}
-use Rattle.civl_command.proofs.Ways.{Ways, check_way, survey_way, RunWays, run_way}
+use Rattle.civl_command.proofs.Ways.{Ways, check_way, survey_way, AskWays, ask_way, RunWays, run_way}
 
 -- two outcomes are as alike as those that they are
 alike_by : (first second one other : Outcome) → first ≡ one → second ≡ other → AreAlike one other → AreAlike first second
@@ -91,6 +92,17 @@ one_survey : (budget : ℕ) (program : Program) (first second : Outcome) → Sur
 one_survey budget program first second a b =
     one_way (Surveyed program budget) _ program (λ (x y : Survey) p q. surveys_of_one_agree program budget budget x y p q) first second (survey_way budget program first a) (survey_way budget program second b)
 
+module _ (at budget : ℕ) (program : Program) where
+  one_ask_way : (first second : Outcome) → AskWays at budget program first → AskWays at budget program second → AreAlike first second
+  one_ask_way first second (inl a) (inl b) = alike_by first second (Broken a.refusal) (Broken b.refusal) a.is b.is (ap Broken (one_refusal program a.refusal b.refusal a.broken b.broken))
+  one_ask_way first second (inl a) (inr b) = absurd (not_broken program a.refusal b.rules a.broken)
+  one_ask_way first second (inr a) (inl b) = absurd (not_broken program b.refusal a.rules b.broken)
+  one_ask_way first second (inr a) (inr b) =
+      alike_by first second (Asked program at budget a.making) (Asked program at budget b.making) a.is b.is (makings_agree program budget budget at a.making b.making a.right b.right)
+
+  one_ask : (first second : Outcome) → Asks at budget program first → Asks at budget program second → AreAlike first second
+  one_ask first second a b = one_ask_way first second (ask_way at budget program first a) (ask_way at budget program second b)
+
 one_print : (program : Program) (first second : Outcome) → Prints program first → Prints program second → AreAlike first second
 one_print program first second a b = alike_by first second (Printed program) (Printed program) a b refl
 
@@ -128,22 +140,29 @@ module _ {A : Type 0} (IsRead : List ℕ → Result A Fault → Type 0) (Says : 
   one_find : (input : List ℕ) (first second : Outcome) → Finds IsRead Says input first → Finds IsRead Says input second → AreAlike first second
   one_find input first second a b = one_read b.reading first second (subst (λ (r : Result A Fault). OfRead Says r first) (once input a.reading b.reading a.read b.read) a.says) b.says
 
+one_replayed : (input : List ℕ) (first second : Outcome) → FindsReplayed input first → FindsReplayed input second → AreAlike first second
+one_replayed input first second a b = alike_by first second (Replayed a.replaying_) (Replayed b.replaying_) a.outcome_is b.outcome_is (ap Replayed (one_replaying input a.replaying_ b.replaying_ a.is b.is))
+
 one_found : (task : Task) (input : List ℕ) (first second : Outcome) → FindsBy task input first → FindsBy task input second → AreAlike first second
 one_found (Check budget) input first second a b = one_find IsReading (Checks budget) one_reading (one_check budget) input first second a b
 one_found (Conditions budget) input first second a b = one_find IsReading (Surveys budget) one_reading (one_survey budget) input first second a b
 one_found Fmt input first second a b = one_find IsReading Prints one_reading one_print input first second a b
 one_found RunLow input first second a b = one_find IsScriptReading (Runs lowest) one_script_reading (one_run lowest) input first second a b
 one_found RunTop input first second a b = one_find IsScriptReading (Runs topmost) one_script_reading (one_run topmost) input first second a b
+one_found (Make at budget) input first second a b = one_find IsReading (Asks at budget) one_reading (one_ask at budget) input first second a b
+one_found Replay input first second a b = one_replayed input first second a b
 
-found_short : (task : Task) (input : List ℕ) (outcome : Outcome) → FindsBy task input outcome → length input ≤ limit
+found_short : (task : Task) (input : List ℕ) (outcome : Outcome) → FindsBy task input outcome → length input ≤ limit_of task
 found_short (Check budget) input outcome h = h.short
 found_short (Conditions budget) input outcome h = h.short
 found_short Fmt input outcome h = h.short
 found_short RunLow input outcome h = h.short
 found_short RunTop input outcome h = h.short
+found_short (Make at budget) input outcome h = h.short
+found_short Replay input outcome h = h.short
 
 pub one_outcome : EachInputIsAnsweredOnce
-one_outcome task input first second (inl a) (inl b) = alike_by first second TooLong TooLong a.0 b.0 refl
+one_outcome task input first second (inl a) (inl b) = alike_by first second (TooLong (limit_of task)) (TooLong (limit_of task)) a.0 b.0 refl
 one_outcome task input first second (inl a) (inr b) = absurd (omega (arith, a.1, found_short task input second b))
 one_outcome task input first second (inr a) (inl b) = absurd (omega (arith, b.1, found_short task input first a))
 one_outcome task input first second (inr a) (inr b) = one_found task input first second a b

@@ -9,7 +9,7 @@ use Rattle.civl_verdict_reports.proofs.Beginning.{only_accepted_accepts}
 use Rattle.civl_words.specs.Words.{usual_budget}
 use Rattle.civl_command.specs.Tasks.{AskFor, AskForTrial, AreTaken}
 use Rattle.civl_command.specs.Report.{fault_text, trial_line}
-use Rattle.civl_command.specs.Outcome.{Outcome, TooLong, Unread, Broken, Judged, Heavy, Checks, OfRead, TrialCallsFor, status_of, report_of}
+use Rattle.civl_command.specs.Outcome.{Outcome, TooLong, Unread, Broken, Judged, Heavy, Checks, OfRead, TrialCallsFor, status_of, report_of, limit}
 use Rattle.civl_command.specs.Judge.{ReadState, WriteState, Reads, JudgesInput, JudgesTrial, Fails, Explains}
 use Rattle.civl_command.specs.Promises.{AcceptsAlone}
 use Rattle.civl_command.specs.declared.reader.Fault.{Fault}
@@ -92,7 +92,7 @@ module _ (words : List (List ℕ)) (before after : ReadState) (sink sink_after :
 
 module _ (words : List (List ℕ)) (before after : ReadState) (sink sink_after : WriteState) (budget : ℕ) (ask : AskFor (Check budget) words) where
   found_alone : (outcome : Outcome) → Reads (Check budget) before after outcome → Accepted (report_of outcome) → Done ≡ status_of outcome
-  found_alone outcome (inl past) h = absurd (refused_first _ (accepted_of outcome TooLong past.0 h))
+  found_alone outcome (inl past) h = absurd (refused_first _ (accepted_of outcome (TooLong limit) past.0 h))
   found_alone outcome (inr all) h = read_alone budget all.2.reading outcome all.2.says h
 
   judged_alone : (status : Status) (report : List ℕ) → JudgesInput words before after status report → Accepted report → status ≡ Done
@@ -106,7 +106,7 @@ module _ (words : List (List ℕ)) (before after : ReadState) (sink sink_after :
 
 module _ (words : List (List ℕ)) (before after : ReadState) (sink sink_after : WriteState) (number : ℕ) (trial : AskForTrial number words) where
   tried_alone : (outcome : Outcome) → TrialCallsFor number outcome → Accepted (report_of outcome) → Done ≡ status_of outcome
-  tried_alone outcome (inl long) h = absurd (refused_first _ (accepted_of outcome TooLong long.0 h))
+  tried_alone outcome (inl long) h = absurd (refused_first _ (accepted_of outcome (TooLong limit) long.0 h))
   tried_alone outcome (inr finds) h = read_alone usual_budget finds.reading outcome finds.says h
 
   under_line : (status : Status) (report : List ℕ) → JudgesTrial words before after status report → (rest : List ℕ) × (report ≡ trial_line number ++ (codes "accepted" ++ rest)) → status ≡ Done

@@ -23,11 +23,11 @@ use Rattle.civl_conditions.specs.Weights.{heavy}
 use Rattle.civl_findings.proofs.Surveying.{each_program_has_a_survey}
 use Rattle.civl_judgements.proofs.Judging.{each_program_has_a_verdict}
 use Rattle.civl_command.specs.declared.task.Task.{Task}
-use Rattle.civl_command.specs.declared.task.Task.TheVariants.{Check, Conditions, Fmt, RunLow, RunTop}
+use Rattle.civl_command.specs.declared.task.Task.TheVariants.{Check, Conditions, Fmt, RunLow, RunTop, Make, Replay}
 use Rattle.civl_command.specs.Rules.{static_refusal, IsLawful}
 use Rattle.civl_command.specs.Texts.{IsReading, IsScriptReading}
-use Rattle.civl_command.specs.Outcome.{Outcome, TooLong, Unread, Broken, Judged, Heavy, Surveyed, Printed, Misfit, Ran, Checks, Surveys, Prints, Runs, OfRead, Finds, FindsBy, CallsFor, limit}
-use Rattle.civl_command.specs.Laws.{EachInputIsAnswered}
+use Rattle.civl_command.specs.Outcome.{Outcome, TooLong, Unread, Broken, Judged, Heavy, Surveyed, Printed, Misfit, Ran, Checks, Surveys, Prints, Runs, OfRead, Finds, FindsBy, CallsFor, limit, limit_of}
+use Rattle.civl_command.specs.Laws.{NeedsNoCertificate, EachInputIsAnswered}
 use Rattle.civl_command.specs.declared.reader.Fault.{Fault}
 use Rattle.civl_command.proofs.Reading.{some_reading, some_script_reading}
 
@@ -106,16 +106,18 @@ module _ {A : Type 0} (IsRead : List ℕ → Result A Fault → Type 0) (Says : 
       let found = some_of reading.0 in
       (found.0, record { short = short; reading = reading.0; read = reading.1; says = found.1 })
 
-some_found : (task : Task) (input : List ℕ) → length input ≤ limit → Has (FindsBy task input)
-some_found (Check budget) input short = some_find IsReading (Checks budget) some_reading (some_check budget) input short
-some_found (Conditions budget) input short = some_find IsReading (Surveys budget) some_reading (some_survey budget) input short
-some_found Fmt input short = some_find IsReading Prints some_reading some_print input short
-some_found RunLow input short = some_find IsScriptReading (Runs lowest) some_script_reading (some_run lowest) input short
-some_found RunTop input short = some_find IsScriptReading (Runs topmost) some_script_reading (some_run topmost) input short
+some_found : (task : Task) (input : List ℕ) → NeedsNoCertificate task → length input ≤ limit_of task → Has (FindsBy task input)
+some_found (Check budget) input plain short = some_find IsReading (Checks budget) some_reading (some_check budget) input short
+some_found (Conditions budget) input plain short = some_find IsReading (Surveys budget) some_reading (some_survey budget) input short
+some_found Fmt input plain short = some_find IsReading Prints some_reading some_print input short
+some_found RunLow input plain short = some_find IsScriptReading (Runs lowest) some_script_reading (some_run lowest) input short
+some_found RunTop input plain short = some_find IsScriptReading (Runs topmost) some_script_reading (some_run topmost) input short
+some_found (Make at budget) input plain short = absurd plain
+some_found Replay input plain short = absurd plain
 
-called : (task : Task) (input : List ℕ) → (limit < length input) ⊎ (length input ≤ limit) → Has (CallsFor task input)
-called task input (inl long) = (TooLong, inl (refl, long))
-called task input (inr short) = let found = some_found task input short in (found.0, inr found.1)
+called : (task : Task) (input : List ℕ) → NeedsNoCertificate task → (limit_of task < length input) ⊎ (length input ≤ limit_of task) → Has (CallsFor task input)
+called task input plain (inl long) = (TooLong (limit_of task), inl (refl, long))
+called task input plain (inr short) = let found = some_found task input plain short in (found.0, inr found.1)
 
 pub some_outcome : EachInputIsAnswered
-some_outcome task input = called task input (cases_lt limit (length input))
+some_outcome task input plain = called task input plain (cases_lt (limit_of task) (length input))

@@ -1,12 +1,12 @@
 -- The words ask for one thing.
 use Rattle.std.proofs.Common.{◌≡◌, ◌∙◌, ℕ, inl, inr, List, None, refl, sym, ap}
-use Rattle.civl_words.specs.Words.{AreWordsOf, command_of}
+use Rattle.civl_words.specs.Words.{command_of}
 use Rattle.civl_words.specs.declared.words.Command.{Command}
 use Rattle.civl_words.specs.declared.words.Command.TheVariants as word
 use Rattle.civl_words.proofs.Once.{one_command}
 use Rattle.civl_command.specs.Tasks.{command_for, AskFor, AskForTrial, AreTaken}
 use Rattle.civl_command.specs.declared.task.Task.{Task}
-use Rattle.civl_command.specs.declared.task.Task.TheVariants.{Check, Conditions, Fmt, RunLow, RunTop}
+use Rattle.civl_command.specs.declared.task.Task.TheVariants.{Check, Conditions, Fmt, RunLow, RunTop, Make, Replay}
 
 -- the task of a command, or this one
 abbrev task_or : Task → Command → Task
@@ -16,8 +16,8 @@ task_or task word.Fmt = Fmt
 task_or task word.RunLow = RunLow
 task_or task word.RunTop = RunTop
 task_or task (word.Trial number) = task
-task_or task (word.ProofMake place budget) = task
-task_or task word.ProofReplay = task
+task_or task (word.ProofMake at budget) = Make at budget
+task_or task word.ProofReplay = Replay
 
 back : (other task : Task) → task_or other (command_for task) ≡ task
 back other (Check budget) = refl
@@ -25,6 +25,8 @@ back other (Conditions budget) = refl
 back other Fmt = refl
 back other RunLow = refl
 back other RunTop = refl
+back other (Make at budget) = refl
+back other Replay = refl
 
 pub same_task : (words : List (List ℕ)) (first second : Task) → AskFor first words → AskFor second words → first ≡ second
 same_task words first second a b =
@@ -43,6 +45,8 @@ not_trial (Conditions budget) number is = cc
 not_trial Fmt number is = cc
 not_trial RunLow number is = cc
 not_trial RunTop number is = cc
+not_trial (Make at budget) number is = cc
+not_trial Replay number is = cc
 
 pub task_or_trial : (words : List (List ℕ)) (task : Task) (number : ℕ) → AskFor task words → AskForTrial number words → ⊥
 task_or_trial words task number a b = not_trial task number (one_command words (command_for task) (word.Trial number) a b)
@@ -52,31 +56,3 @@ task_or_trial words task number a b = not_trial task number (one_command words (
 pub none_untaken : (words : List (List ℕ)) → command_of words ≡ None → AreTaken words → ⊥
 none_untaken words none (inl (task, ask)) = let bad = sym none ∙ ask in cc
 none_untaken words none (inr (number, trial)) = let bad = sym none ∙ trial in cc
-
-no_task_makes : (task : Task) (place budget : ℕ) → command_for task ≡ word.ProofMake place budget → ⊥
-no_task_makes (Check other) place budget is = cc
-no_task_makes (Conditions other) place budget is = cc
-no_task_makes Fmt place budget is = cc
-no_task_makes RunLow place budget is = cc
-no_task_makes RunTop place budget is = cc
-
-no_trial_makes : (number place budget : ℕ) → word.Trial number ≡ word.ProofMake place budget → ⊥
-no_trial_makes number place budget is = cc
-
-pub making_untaken : (words : List (List ℕ)) (place budget : ℕ) → AreWordsOf (word.ProofMake place budget) words → AreTaken words → ⊥
-making_untaken words place budget are (inl (task, ask)) = no_task_makes task place budget (one_command words (command_for task) (word.ProofMake place budget) ask are)
-making_untaken words place budget are (inr (number, trial)) = no_trial_makes number place budget (one_command words (word.Trial number) (word.ProofMake place budget) trial are)
-
-no_task_replays : (task : Task) → command_for task ≡ word.ProofReplay → ⊥
-no_task_replays (Check other) is = cc
-no_task_replays (Conditions other) is = cc
-no_task_replays Fmt is = cc
-no_task_replays RunLow is = cc
-no_task_replays RunTop is = cc
-
-no_trial_replays : (number : ℕ) → word.Trial number ≡ word.ProofReplay → ⊥
-no_trial_replays number is = cc
-
-pub replaying_untaken : (words : List (List ℕ)) → AreWordsOf word.ProofReplay words → AreTaken words → ⊥
-replaying_untaken words are (inl (task, ask)) = no_task_replays task (one_command words (command_for task) word.ProofReplay ask are)
-replaying_untaken words are (inr (number, trial)) = no_trial_replays number (one_command words (word.Trial number) word.ProofReplay trial are)

@@ -8,8 +8,10 @@ use Rattle.civl_verdicts.specs.declared.survey.Survey.{Survey}
 use Rattle.civl_verdicts.specs.declared.verdict.Verdict.{Verdict}
 use Rattle.civl_verdicts.specs.Surveys.{IsSurvey}
 use Rattle.civl_verdicts.specs.Verdicts.{IsVerdict}
+use Rattle.civl_proof_reports.specs.declared.making.Making.{Making}
+use Rattle.civl_proof_reports.specs.Making.{IsMaking}
 use Rattle.civl_command.specs.Rules.{IsLawful, IsTaken}
-use Rattle.civl_command.specs.Outcome.{Outcome, TooLong, Unread, Broken, Heavy, Judged, Surveyed, Printed, Misfit, Ran, Breaks, Checks, Surveys}
+use Rattle.civl_command.specs.Outcome.{Outcome, TooLong, Unread, Broken, Heavy, Judged, Surveyed, Printed, Misfit, Ran, Asked, Replayed, Breaks, Checks, Surveys, Asks}
 
 module _ (program src : Program) (budget : ℕ) (same : src ≡ program) (rules : IsLawful program) where
   light_of : heavy src ≡ None → IsTaken program
@@ -24,10 +26,13 @@ module _ (program src : Program) (budget : ℕ) (same : src ≡ program) (rules 
   pub heavy_of : (first : Option Condition) → heavy src ≡ Some first → (src ≡ program) × IsLawful program × (heavy program ≡ Some first)
   heavy_of first h = (same, rules, subst (λ (p : Program). heavy p ≡ Some first) same h)
 
+  pub asked_of : (at : ℕ) (making : Making) → IsMaking src budget at making → Asks at budget program (Asked src at budget making)
+  asked_of at making right = (same, refl, refl, rules, subst (λ (p : Program). IsMaking p budget at making) same right)
+
 -- a program that breaks a rule is told so under each command
 module _ (budget : ℕ) (program : Program) where
   pub breaks_check : (outcome : Outcome) → Breaks program outcome → Checks budget program outcome
-  breaks_check TooLong b = absurd b
+  breaks_check (TooLong most) b = absurd b
   breaks_check (Unread fault) b = absurd b
   breaks_check (Broken refusal) b = b
   breaks_check (Heavy weighed first) b = absurd b
@@ -36,9 +41,11 @@ module _ (budget : ℕ) (program : Program) where
   breaks_check (Printed printed) b = absurd b
   breaks_check (Misfit number) b = absurd b
   breaks_check (Ran ran trace) b = absurd b
+  breaks_check (Asked asked at told making) b = absurd b
+  breaks_check (Replayed replaying) b = absurd b
 
   pub breaks_survey : (outcome : Outcome) → Breaks program outcome → Surveys budget program outcome
-  breaks_survey TooLong b = absurd b
+  breaks_survey (TooLong most) b = absurd b
   breaks_survey (Unread fault) b = absurd b
   breaks_survey (Broken refusal) b = b
   breaks_survey (Heavy weighed first) b = absurd b
@@ -47,3 +54,18 @@ module _ (budget : ℕ) (program : Program) where
   breaks_survey (Printed printed) b = absurd b
   breaks_survey (Misfit number) b = absurd b
   breaks_survey (Ran ran trace) b = absurd b
+  breaks_survey (Asked asked at told making) b = absurd b
+  breaks_survey (Replayed replaying) b = absurd b
+
+pub breaks_ask : (at budget : ℕ) (program : Program) (outcome : Outcome) → Breaks program outcome → Asks at budget program outcome
+breaks_ask at budget program (TooLong most) b = absurd b
+breaks_ask at budget program (Unread fault) b = absurd b
+breaks_ask at budget program (Broken refusal) b = b
+breaks_ask at budget program (Heavy weighed first) b = absurd b
+breaks_ask at budget program (Judged judged told verdict) b = absurd b
+breaks_ask at budget program (Surveyed surveyed told survey) b = absurd b
+breaks_ask at budget program (Printed printed) b = absurd b
+breaks_ask at budget program (Misfit number) b = absurd b
+breaks_ask at budget program (Ran ran trace) b = absurd b
+breaks_ask at budget program (Asked asked place told making) b = absurd b
+breaks_ask at budget program (Replayed replaying) b = absurd b

@@ -3,7 +3,7 @@ use Rattle.std.proofs.lemmas.Bool.{false≢true}
 use Rattle.std.proofs.Common.{◌≡◌, ◌∙◌, ap, ◌==◌, true, false, ℕ, ◌<◌, ◌≤◌, ◌⊎◌, inl, inr, List, [], ◌++◌, length, refl, sym, subst, Result, Ok, Err}
 use Rattle.civl_outside.specs.Count.{Rose}
 use Rattle.civl_command.specs.Tasks.{AskFor, AskForTrial, AreTaken}
-use Rattle.civl_command.specs.Outcome.{Outcome, TooLong, OfRead, Finds, FindsBy, CallsFor, TrialCallsFor, status_of, report_of, limit}
+use Rattle.civl_command.specs.Outcome.{Outcome, TooLong, OfRead, Finds, FindsBy, CallsFor, TrialCallsFor, status_of, report_of, limit, limit_of}
 use Rattle.civl_command.specs.Judge.{IsJudged, ReadState, ReadsPast, ReadsText, WantsMemory, Answers, TrialAnswers, Judges, usage_text}
 use Rattle.civl_command.specs.Status.{code_of}
 use Rattle.civl_command.specs.Report.{bytes_of, trial_line}
@@ -54,8 +54,9 @@ called_in task input judged (inl a) = inl (record { outcome = a.outcome; says_so
 called_in task input judged (inr wants) = inr wants
 
 -- and a text that is too long calls for that
-pub long_in : (task : Task) (input : List ℕ) (judged : Judged) → limit < length input → judged.status ≡ status_of TooLong → bytes_of judged.report ≡ report_of TooLong → IsJudged (CallsFor task input) judged
-long_in task input judged long is text = inl (record { outcome = TooLong; says_so = inl (refl, long); status_is = is; report_is = text })
+pub long_in : (task : Task) (input : List ℕ) (judged : Judged) → limit_of task < length input → IsJudged (λ outcome. outcome ≡ TooLong (limit_of task)) judged → IsJudged (CallsFor task input) judged
+long_in task input judged long (inl a) = inl (record { outcome = a.outcome; says_so = inl (a.says_so, long); status_is = a.status_is; report_is = a.report_is })
+long_in task input judged long (inr wants) = inr wants
 
 -- what is reported under the line of a trial, where memory isn't wanting
 pub tried_in : (number : ℕ) (judged : Judged) (report : List ℕ) → IsJudged (TrialCallsFor number) judged → (code_of judged.status == 7) ≡ false
@@ -68,8 +69,17 @@ tried_in number judged report (inr wants) some is =
 
 module _ (words : List (List ℕ)) (task : Task) (before after : ReadState) (report : List ℕ) (words_are : AskFor task words) where
   -- an input that was read past the limit
-  pub long_judged : (status : Status) → ReadsPast before after → status ≡ status_of TooLong → report ≡ report_of TooLong → Judges words before after status report
-  long_judged status past is text = inl (record { task = task; words_are = words_are; outcome = TooLong; reads = inl (refl, past); status_is = is; report_is = text })
+  pub long_judged : (most : ℕ) (status : Status) → most ≡ limit_of task → ReadsPast most before after → Gives status report (λ outcome. outcome ≡ TooLong most) → Judges words before after status report
+  long_judged most status same past (inl a) = inl (record {
+    task = task;
+    words_are = words_are;
+    outcome = TooLong (limit_of task);
+    reads = inl (refl, subst (λ (m : ℕ). ReadsPast m before after) same past);
+    status_is = a.status_is ∙ ap status_of (a.says_so ∙ ap TooLong same);
+    report_is = a.report_is ∙ ap report_of (a.says_so ∙ ap TooLong same);
+  })
+  long_judged most status same past (inr wants) =
+      subst (λ (s : Status). Judges words before after s report) (sym wants.status_is) (inr (inr (inl (task, words_are), wants.report_is)))
 
   -- memory is wanting
   pub input_wanted : (status : Status) → WantsMemory status report → Judges words before after status report

@@ -8,5 +8,6 @@ pub mod Ways
 pub mod Agreeing
 pub mod Answering
 pub mod Accepting
+pub mod Certifying
 pub mod Promising
 pub mod Alone

@@ -21,24 +21,30 @@ use Rattle.civl_verdicts.specs.Verdicts.{IsVerdict}
 use Rattle.civl_reports.proofs.Quiet.{never_accepts}
 use Rattle.civl_verdict_reports.specs.Verdicts.{accepted_text, rejected_text, undecided_text}
 use Rattle.civl_simulation.specs.Preserved.{AcceptedProgramsPreserve}
+use Rattle.civl_certify.specs.declared.certified.Certified.TheVariants as certified
+use Rattle.civl_proof_reports.specs.declared.making.Making.{Making}
+use Rattle.civl_proof_reports.specs.declared.making.Making.TheVariants as making
+use Rattle.civl_proof_reports.specs.declared.replaying.Replaying.{Replaying}
+use Rattle.civl_proof_reports.specs.declared.replaying.Replaying.TheVariants as replaying
 use Rattle.civl_words.specs.Words.{usual_budget}
 use Rattle.civl_command.specs.Tasks.{AskFor, AskForSome, AskForTrial}
 use Rattle.civl_command.specs.Texts.{IsReading, IsScriptReading}
-use Rattle.civl_command.specs.Outcome.{Outcome, TooLong, Unread, Broken, Judged, Heavy, Surveyed, Printed, Misfit, Ran, Checks, Surveys, Prints, Runs, OfRead, Finds, FindsBy, CallsFor, TrialCallsFor, verdict_status, survey_status, status_of, report_of, trial_text, trial_report, limit}
+use Rattle.civl_command.specs.Outcome.{Outcome, TooLong, Unread, Broken, Judged, Heavy, Surveyed, Printed, Misfit, Ran, Asked, Replayed, Checks, Surveys, Asks, Prints, Runs, OfRead, Finds, FindsBy, CallsFor, TrialCallsFor, verdict_status, survey_status, making_status, replaying_status, status_of, report_of, trial_text, trial_report, limit}
 use Rattle.civl_command.specs.Status.{code_of}
 use Rattle.civl_command.specs.Judge.{ReadState, WriteState, Reads, ReadsAll, JudgesInput, JudgesTrial, Fails, Judges, Explains}
 use Rattle.civl_command.specs.Report.{run_text, trial_line}
-use Rattle.civl_command.specs.Promises.{Writes, ReadsAndWrites, SpellsTaken, Accepts, AcceptsRightly, TrialAcceptsRightly, Rejects, RejectsRightly, LeavesOpen, LeavesOpenRightly, Tells, SurveysRightly, PrintsRightly, Replays, ReplaysRightly, RefusesRightly, Carries, AnswersAs, IsComplete, TrialAnswersAs, IsTrialComplete}
+use Rattle.civl_command.specs.Promises.{Writes, ReadsAndWrites, SpellsTaken, Accepts, AcceptsRightly, TrialAcceptsRightly, Rejects, RejectsRightly, LeavesOpen, LeavesOpenRightly, Tells, SurveysRightly, PrintsRightly, Replays, ReplaysRightly, CertifiesRightly, RefutesRightly, RefusesRightly, Carries, AnswersAs, IsComplete, TrialAnswersAs, IsTrialComplete}
 use Rattle.civl_command.specs.declared.reader.Fault.{Fault}
 use Rattle.civl_command.specs.declared.task.Task.{Task}
-use Rattle.civl_command.specs.declared.task.Task.TheVariants.{Check, Conditions, Fmt, RunLow, RunTop}
+use Rattle.civl_command.specs.declared.task.Task.TheVariants.{Check, Conditions, Fmt, RunLow, RunTop, Make, Replay}
 use Rattle.civl_command.specs.declared.status.Status.{Status}
 use Rattle.civl_command.specs.declared.status.Status.TheVariants.{Done, Rejected, Undecided, Refused, ReadFault, WriteFault, Usage, Memory}
 use Rattle.civl_command.proofs.Asking.{same_task, same_trial, task_or_trial}
 use Rattle.civl_command.proofs.Agreeing.{one_outcome}
+use Rattle.civl_command.proofs.Certifying.{certifying, replayed_as}
 use Rattle.civl_command.proofs.Lawful.{text_written}
 use Rattle.civl_command.proofs.Accepting.{preserved}
-use Rattle.civl_command.proofs.Ways.{Ways, IsDecided, check_way, survey_way, RunWays, IsRun, run_way}
+use Rattle.civl_command.proofs.Ways.{Ways, IsDecided, check_way, survey_way, AskWays, IsAsked, ask_way, RunWays, IsRun, run_way}
 
 -- ---- the bytes that are told
 
@@ -83,9 +89,19 @@ survey_code : (s : Survey) → code_of (survey_status s) ≤ 3
 survey_code survey.NoInitial = omega arith
 survey_code (survey.Findings initial findings) = omega arith
 
+making_code : (m : Making) → code_of (making_status m) ≤ 3
+making_code (making.Heavy first) = omega arith
+making_code (making.Beyond count) = omega arith
+making_code (making.Shown condition certified.NoInitial) = omega arith
+making_code (making.Shown condition (certified.Answer initial shown)) = omega arith
+
+replaying_code : (r : Replaying) → code_of (replaying_status r) ≤ 3
+replaying_code (replaying.Unread place) = omega arith
+replaying_code (replaying.Read found) = omega arith
+
 -- no outcome fails
 outcome_code : (outcome : Outcome) → code_of (status_of outcome) ≤ 3
-outcome_code TooLong = omega arith
+outcome_code (TooLong most) = omega arith
 outcome_code (Unread fault) = omega arith
 outcome_code (Broken refusal) = omega arith
 outcome_code (Heavy program first) = omega arith
@@ -94,6 +110,8 @@ outcome_code (Surveyed program budget s) = survey_code s
 outcome_code (Printed program) = omega arith
 outcome_code (Misfit number) = omega arith
 outcome_code (Ran program trace) = omega arith
+outcome_code (Asked program at budget m) = making_code m
+outcome_code (Replayed r) = replaying_code r
 
 no_outcome : (status : Status) (outcome : Outcome) → 3 < code_of status → status ≡ status_of outcome → ⊥
 no_outcome status outcome high is = let code = ap code_of is in omega (arith, outcome_code outcome, code)
@@ -147,12 +165,12 @@ module _ (task : Task) (before after : ReadState) (sink sink_after : WriteState)
   called (inr all) = inr (all_found task before after input outcome told all).finds
 
   carried : Reads task before after outcome → report ≡ report_of outcome → Carries after sink sink_after outcome
-  carried (inl past) text = record { written = written text; read = λ not. absurd (not past.0) }
+  carried (inl past) text = record { written = written text; read = λ not. absurd (not _ past.0) }
   carried (inr all) text = record { written = written text; read = λ not. (all_found task before after input outcome told all).read }
 
 -- an input that was read past the limit is refused
-long_refused : (outcome : Outcome) (status : Status) → outcome ≡ TooLong → status ≡ status_of outcome → status ≡ Refused
-long_refused outcome status long is = is ∙ ap status_of long
+long_refused : (most : ℕ) (outcome : Outcome) (status : Status) → outcome ≡ TooLong most → status ≡ status_of outcome → status ≡ Refused
+long_refused most outcome status long is = is ∙ ap status_of long
 
 done_not_refused : Done ≡ Refused → ⊥
 done_not_refused e = cc
@@ -295,6 +313,20 @@ run_plain plain_of script outcome (inl a) = inr (sym (ap status_of a.is))
 run_plain plain_of script outcome (inr (inl a)) = inr (sym (ap status_of a.is))
 run_plain plain_of script outcome (inr (inr a)) = inl (sym (ap status_of a.is))
 
+making_plain : (m : Making) → (Done ≡ making_status m) ⊎ (Refused ≡ making_status m)
+making_plain (making.Heavy first) = inr refl
+making_plain (making.Beyond count) = inr refl
+making_plain (making.Shown condition certified.NoInitial) = inr refl
+making_plain (making.Shown condition (certified.Answer initial shown)) = inl refl
+
+ask_plain : (at budget : ℕ) (program : Program) (outcome : Outcome) → AskWays at budget program outcome → IsPlain outcome
+ask_plain at budget program outcome (inl a) = inr (sym (ap status_of a.is))
+ask_plain at budget program outcome (inr a) = subst IsPlain (sym a.is) (making_plain a.making)
+
+replaying_plain : (r : Replaying) → (Done ≡ replaying_status r) ⊎ (Refused ≡ replaying_status r)
+replaying_plain (replaying.Unread place) = inr refl
+replaying_plain (replaying.Read found) = inl refl
+
 module _ {A : Type 0} (IsRead : List ℕ → Result A Fault → Type 0) (Says : A → Outcome → Type 0) (input : List ℕ) (outcome : Outcome) (plain : (value : A) → Says value outcome → IsPlain outcome) where
   read_plain : (reading : Result A Fault) → OfRead Says reading outcome → IsPlain outcome
   read_plain (Ok value) says = plain value says
@@ -316,6 +348,9 @@ of_check (Conditions budget) input outcome other found =
 of_check Fmt input outcome other found = absurd (other (find_plain IsReading Prints input outcome (λ program says. inl (sym (ap status_of says))) found))
 of_check RunLow input outcome other found = absurd (other (find_plain IsScriptReading (Runs lowest) input outcome (λ script says. run_plain lowest script outcome (run_way lowest script outcome says)) found))
 of_check RunTop input outcome other found = absurd (other (find_plain IsScriptReading (Runs topmost) input outcome (λ script says. run_plain topmost script outcome (run_way topmost script outcome says)) found))
+of_check (Make at budget) input outcome other found =
+    absurd (other (find_plain IsReading (Asks at budget) input outcome (λ program says. ask_plain at budget program outcome (ask_way at budget program outcome says)) found))
+of_check Replay input outcome other found = absurd (other (subst IsPlain (sym found.outcome_is) (replaying_plain found.replaying_)))
 
 rejected_other : (outcome : Outcome) → Rejected ≡ status_of outcome → IsPlain outcome → ⊥
 rejected_other outcome is (inl done) = let e : Rejected ≡ Done = is ∙ sym done in cc
@@ -353,6 +388,10 @@ replayed plain_of script outcome is (inl a) = absurd (done_not_refused (is ∙ a
 replayed plain_of script outcome is (inr (inl a)) = absurd (done_not_refused (is ∙ ap status_of a.is))
 replayed plain_of script outcome is (inr (inr a)) = a
 
+asked_by : (at budget : ℕ) (program : Program) (outcome : Outcome) → Done ≡ status_of outcome → AskWays at budget program outcome → IsAsked at budget program outcome
+asked_by at budget program outcome is (inl a) = absurd (done_not_refused (is ∙ ap status_of a.is))
+asked_by at budget program outcome is (inr a) = a
+
 -- a count that stayed didn't rise
 not_both : (before now : ℕ) → Stayed before now → Rose before now → ⊥
 not_both before now stayed rose = omega (arith, stayed.0, stayed.1, rose)
@@ -370,7 +409,7 @@ module _ (words : List (List ℕ)) (before after : ReadState) (sink sink_after :
   judgement status report input some told grown h = by h.reads
     where
       by : Reads h.task before after h.outcome → Judgement h.task input status
-      by (inl past) = absurd (some (long_refused h.outcome status past.0 h.status_is))
+      by (inl past) = absurd (some (long_refused _ h.outcome status past.0 h.status_is))
       by (inr all) =
           let found = all_found h.task before after input h.outcome told all in
           record {
@@ -456,6 +495,22 @@ module _ (words : List (List ℕ)) (before after : ReadState) (sink sink_after :
   pub top_by : Explains words before after sink sink_after Done → AskFor RunTop words → ReplaysRightly topmost before after sink sink_after
   top_by e top input told = let found = done_by RunTop e top input told in replays_by topmost input found.outcome found.status_is found.finds found.does
 
+  -- ---- certificates
+
+  pub certifies_by : (at budget : ℕ) → Explains words before after sink sink_after Done → AskFor (Make at budget) words → CertifiesRightly at budget before after sink sink_after
+  certifies_by at budget e make input told =
+      let found = done_by (Make at budget) e make input told in
+      let s = spelled IsReading (Asks at budget) input found.outcome Done done_not_refused found.status_is found.finds in
+      let asked = asked_by at budget s.value found.outcome found.status_is (ask_way at budget s.value found.outcome s.says) in
+      let c = certifying input at budget found.outcome s.value s.read.0 asked found.status_is in
+      (c.program, c.condition, c.certified_, c.certifies, written_as input _ found.outcome (ap report_of c.is) found.does)
+
+  pub refutes_by : Explains words before after sink sink_after Done → AskFor Replay words → RefutesRightly before after sink sink_after
+  refutes_by e replay input told =
+      let found = done_by Replay e replay input told in
+      let r = replayed_as input found.outcome found.finds found.status_is in
+      (r.set, r.log, r.found, r.replayed, written_as input _ found.outcome (ap report_of r.is) found.does)
+
   -- ---- what is found of the text of a trial
 
   -- a text that isn't refused isn't too long
@@ -463,7 +518,7 @@ module _ (words : List (List ℕ)) (before after : ReadState) (sink sink_after :
   tried_whole number status some t = by t.calls
     where
       by : TrialCallsFor number t.outcome → Finds IsReading (Checks usual_budget) (trial_text number) t.outcome
-      by (inl long) = absurd (some (long_refused t.outcome status long.0 t.status_is))
+      by (inl long) = absurd (some (long_refused _ t.outcome status long.0 t.status_is))
       by (inr finds) = finds
 
   -- the report in other words
@@ -492,7 +547,7 @@ module _ (words : List (List ℕ)) (before after : ReadState) (sink sink_after :
   on_check status some other report h = by h.reads
     where
       by : Reads h.task before after h.outcome → IsOfCheck h.task h.outcome
-      by (inl past) = absurd (some (long_refused h.outcome status past.0 h.status_is))
+      by (inl past) = absurd (some (long_refused _ h.outcome status past.0 h.status_is))
       by (inr all) = of_check h.task all.0 h.outcome (other h.outcome h.status_is) all.2
 
   pub rejects_by : Explains words before after sink sink_after Rejected → RejectsRightly words before after sink sink_after
@@ -554,21 +609,20 @@ module _ (words : List (List ℕ)) (before after : ReadState) (sink sink_after :
 
   -- ---- each input is answered
 
-  module _ (task : Task) (input : List ℕ) (outcome : Outcome) (ask : AskFor task words) (told : before.left ≡ Some input) (calls : CallsFor task input outcome) (stayed : Stayed before.faults after.faults) where
-    judged : (status : Status) (report : List ℕ) → Appends sink.bytes sink_after.bytes report → JudgesInput words before after status report → AnswersAs task input after sink sink_after status outcome ⊎ (status ≡ Memory)
+  module _ (task : Task) (input : List ℕ) (ask : AskFor task words) (told : before.left ≡ Some input) (stayed : Stayed before.faults after.faults) where
+    judged : (status : Status) (report : List ℕ) → Appends sink.bytes sink_after.bytes report → JudgesInput words before after status report → AnswersAs task input after sink sink_after status ⊎ (status ≡ Memory)
     judged status report grown h =
         let reads = subst (λ (t : Task). Reads t before after h.outcome) (same_task words h.task task h.words_are ask) h.reads in
         let found = called task before after sink sink_after input report told grown h.outcome reads in
-        let agree = one_outcome task input h.outcome outcome found calls in
         inl (record {
           found = h.outcome;
           calls = found;
           status_is = h.status_is;
-          alike = agree;
+          alike = λ outcome calls. one_outcome task input h.outcome outcome found calls;
           carries = carried task before after sink sink_after input report told grown h.outcome reads h.report_is;
         })
 
-    failed : (status : Status) (report : List ℕ) → Fails words before after status report → AnswersAs task input after sink sink_after status outcome ⊎ (status ≡ Memory)
+    failed : (status : Status) (report : List ℕ) → Fails words before after status report → AnswersAs task input after sink sink_after status ⊎ (status ≡ Memory)
     failed Done report f = absurd f
     failed Rejected report f = absurd f
     failed Undecided report f = absurd f
@@ -578,14 +632,14 @@ module _ (words : List (List ℕ)) (before after : ReadState) (sink sink_after :
     failed Usage report f = absurd (f.0 (inl (task, ask)))
     failed Memory report f = inr refl
 
-    answered : (status : Status) (report : List ℕ) → Appends sink.bytes sink_after.bytes report → Judges words before after status report → AnswersAs task input after sink sink_after status outcome ⊎ (status ≡ Memory)
+    answered : (status : Status) (report : List ℕ) → Appends sink.bytes sink_after.bytes report → Judges words before after status report → AnswersAs task input after sink sink_after status ⊎ (status ≡ Memory)
     answered status report grown (inl h) = judged status report grown h
     answered status report grown (inr (inl t)) = absurd (task_or_trial words task t.number ask t.words_are)
     answered status report grown (inr (inr f)) = failed status report f
 
   pub complete_by : (status : Status) → Explains words before after sink sink_after status → IsComplete words before after sink sink_after status
-  complete_by status e task input outcome ask told calls stayed faults stalls = elim e [
-    | inl h ↦ answered task input outcome ask told calls stayed status h.0 h.2 h.1
+  complete_by status e task input ask told stayed faults stalls = elim e [
+    | inl h ↦ answered task input ask told stayed status h.0 h.2 h.1
     | inr h ↦ elim h.4.cause [
       | inl rose ↦ absurd (not_both sink.faults sink_after.faults faults rose)
       | inr rose ↦ absurd (not_both sink.stalls sink_after.stalls stalls rose)

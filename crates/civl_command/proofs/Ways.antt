@@ -1,6 +1,6 @@
 -- The few outcomes that are found under each command.
 use Rattle.std.specs.Prelude.{Option, Some}
-use Rattle.std.proofs.Common.{◌≡◌, ℕ, ◌⊎◌, inl, inr, refl, ap, ap₂}
+use Rattle.std.proofs.Common.{◌≡◌, ℕ, ◌⊎◌, inl, inr, refl, ap, ap₂, ◌∙◌}
 use Rattle.civl_tree.specs.declared.program.Program.{Program}
 use Rattle.civl_tree.specs.declared.refusal.Refusal.{Refusal}
 use Rattle.civl_tree.specs.declared.script.Script.{Script}
@@ -12,8 +12,10 @@ use Rattle.civl_conditions.specs.declared.condition.Condition.{Condition}
 use Rattle.civl_conditions.specs.Weights.{heavy}
 use Rattle.civl_verdicts.specs.Surveys.{IsSurvey}
 use Rattle.civl_verdicts.specs.Verdicts.{IsVerdict}
+use Rattle.civl_proof_reports.specs.declared.making.Making.{Making}
+use Rattle.civl_proof_reports.specs.Making.{IsMaking}
 use Rattle.civl_command.specs.Rules.{static_refusal, IsLawful, IsTaken}
-use Rattle.civl_command.specs.Outcome.{Outcome, TooLong, Unread, Broken, Heavy, Judged, Surveyed, Printed, Misfit, Ran, Checks, Surveys, Runs, RunsBy}
+use Rattle.civl_command.specs.Outcome.{Outcome, TooLong, Unread, Broken, Heavy, Judged, Surveyed, Printed, Misfit, Ran, Asked, Replayed, Checks, Surveys, Asks, Runs, RunsBy}
 
 -- ---- of a program whose conditions are decided
 
@@ -40,7 +42,7 @@ Ways tell IsRight program outcome = IsBroken program outcome ⊎ (IsHeavy progra
 
 module _ (budget : ℕ) (program : Program) where
   pub check_way : (outcome : Outcome) → Checks budget program outcome → Ways (Judged program budget) (IsVerdict program budget) program outcome
-  check_way TooLong h = absurd h
+  check_way (TooLong most) h = absurd h
   check_way (Unread fault) h = absurd h
   check_way (Broken refusal) h = inl (record { refusal = refusal; is = refl; broken = h })
   check_way (Heavy weighed first) h = inr (inl (record { first = first; is = ap (λ (p : Program). Heavy p first) h.0; rules = h.1; weighs = h.2 }))
@@ -49,9 +51,11 @@ module _ (budget : ℕ) (program : Program) where
   check_way (Printed printed) h = absurd h
   check_way (Misfit number) h = absurd h
   check_way (Ran ran trace) h = absurd h
+  check_way (Asked asked at told making) h = absurd h
+  check_way (Replayed replaying) h = absurd h
 
   pub survey_way : (outcome : Outcome) → Surveys budget program outcome → Ways (Surveyed program budget) (IsSurvey program budget) program outcome
-  survey_way TooLong h = absurd h
+  survey_way (TooLong most) h = absurd h
   survey_way (Unread fault) h = absurd h
   survey_way (Broken refusal) h = inl (record { refusal = refusal; is = refl; broken = h })
   survey_way (Heavy weighed first) h = inr (inl (record { first = first; is = ap (λ (p : Program). Heavy p first) h.0; rules = h.1; weighs = h.2 }))
@@ -60,6 +64,36 @@ module _ (budget : ℕ) (program : Program) where
   survey_way (Printed printed) h = absurd h
   survey_way (Misfit number) h = absurd h
   survey_way (Ran ran trace) h = absurd h
+  survey_way (Asked asked at told making) h = absurd h
+  survey_way (Replayed replaying) h = absurd h
+
+-- ---- of a program and the number of a condition
+
+pub record IsAsked (at budget : ℕ) (program : Program) (outcome : Outcome) : Type 0 where
+  pub making : Making
+  pub is : outcome ≡ Asked program at budget making
+  pub rules : IsLawful program
+  pub right : IsMaking program budget at making
+
+abbrev pub AskWays : ℕ → ℕ → Program → Outcome → Type 0
+AskWays at budget program outcome = IsBroken program outcome ⊎ IsAsked at budget program outcome
+
+same_asked : (asked program : Program) (place at told budget : ℕ) (making : Making) → asked ≡ program → place ≡ at → told ≡ budget → Asked asked place told making ≡ Asked program at budget making
+same_asked asked program place at told budget making p q r = ap (λ (o : Program). Asked o place told making) p ∙ ap₂ (λ (m n : ℕ). Asked program m n making) q r
+
+module _ (at budget : ℕ) (program : Program) where
+  pub ask_way : (outcome : Outcome) → Asks at budget program outcome → AskWays at budget program outcome
+  ask_way (TooLong most) h = absurd h
+  ask_way (Unread fault) h = absurd h
+  ask_way (Broken refusal) h = inl (record { refusal = refusal; is = refl; broken = h })
+  ask_way (Heavy weighed first) h = absurd h
+  ask_way (Judged judged told verdict) h = absurd h
+  ask_way (Surveyed surveyed told survey) h = absurd h
+  ask_way (Printed printed) h = absurd h
+  ask_way (Misfit number) h = absurd h
+  ask_way (Ran ran trace) h = absurd h
+  ask_way (Asked asked place told making) h = inr (record { making = making; is = same_asked asked program place at told budget making h.0 h.1 h.2; rules = h.3; right = h.4 })
+  ask_way (Replayed replaying) h = absurd h
 
 -- ---- of a script
 
@@ -80,7 +114,7 @@ RunWays plain_of script outcome = IsBroken script.program outcome ⊎ (IsMisfit 
 
 module _ (plain_of : Program → Plain) (script : Script) where
   pub run_way : (outcome : Outcome) → Runs plain_of script outcome → RunWays plain_of script outcome
-  run_way TooLong h = absurd h
+  run_way (TooLong most) h = absurd h
   run_way (Unread fault) h = absurd h
   run_way (Broken refusal) h = inl (record { refusal = refusal; is = refl; broken = h })
   run_way (Heavy weighed first) h = absurd h
@@ -89,3 +123,5 @@ module _ (plain_of : Program → Plain) (script : Script) where
   run_way (Printed printed) h = absurd h
   run_way (Misfit number) h = inr (inl (record { number = number; is = refl; rules = h.0; wrong = h.1 }))
   run_way (Ran ran trace) h = inr (inr (record { trace = trace; is = ap (λ (p : Program). Ran p trace) h.0; rules = h.1; runs = h.2 }))
+  run_way (Asked asked at told making) h = absurd h
+  run_way (Replayed replaying) h = absurd h

@@ -5,7 +5,7 @@ use Rattle.civl_outside.specs.Count.{Rose}
 use Rattle.civl_outside.specs.Sent.{AppendsPart}
 use Rattle.civl_reports.specs.Lines.{line}
 use Rattle.civl_command.specs.Tasks.{AskFor, AskForSome, AskForTrial, AreTaken}
-use Rattle.civl_command.specs.Outcome.{Outcome, TooLong, FindsBy, TrialCallsFor, status_of, report_of, trial_report, limit}
+use Rattle.civl_command.specs.Outcome.{Outcome, TooLong, FindsBy, TrialCallsFor, status_of, report_of, trial_report, limit_of}
 use Rattle.civl_command.specs.Report.{bytes_of}
 use Rattle.civl_command.specs.declared.judged.Judged.{Judged}
 use Rattle.civl_command.specs.declared.task.Task.{Task}
@@ -37,9 +37,9 @@ pub record ReadsText (before after : ReadState) (bytes : List ℕ) : Type 0 wher
   pub taken : Consumes before.left after.left bytes
   pub at_end : IsAtEnd after.left
 
--- so many bytes were read as the limit, and one more
-abbrev pub ReadsPast : ReadState → ReadState → Type 0
-ReadsPast before after = (bytes : List ℕ) × Consumes before.left after.left bytes × (length bytes ≡ limit + 1)
+-- so many bytes were read, and one more
+abbrev pub ReadsPast : ℕ → ReadState → ReadState → Type 0
+ReadsPast most before after = (bytes : List ℕ) × Consumes before.left after.left bytes × (length bytes ≡ most + 1)
 
 -- the whole input was read, and this is found of it
 abbrev pub ReadsAll : Task → ReadState → ReadState → Outcome → Type 0
@@ -47,7 +47,7 @@ ReadsAll task before after outcome = (bytes : List ℕ) × ReadsText before afte
 
 -- what was read calls for this outcome: more than the limit, or the whole input
 abbrev pub Reads : Task → ReadState → ReadState → Outcome → Type 0
-Reads task before after outcome = ((outcome ≡ TooLong) × ReadsPast before after) ⊎ ReadsAll task before after outcome
+Reads task before after outcome = ((outcome ≡ TooLong (limit_of task)) × ReadsPast (limit_of task) before after) ⊎ ReadsAll task before after outcome
 
 -- memory is wanting, and nothing is reported
 pub record WantsMemory (status : Status) (report : List ℕ) : Type 0 where

@@ -1,12 +1,19 @@
 -- What follows from the definitions: for each task each input has one answer.
-use Rattle.std.specs.Prelude.{ℕ, List}
+use Rattle.std.specs.Prelude.{ℕ, List, ⊤}
 use Rattle.civl_command.specs.declared.task.Task.{Task}
+use Rattle.civl_command.specs.declared.task.Task.TheVariants.{Make, Replay}
 use Rattle.civl_command.specs.Outcome.{Outcome, CallsFor}
 use Rattle.civl_command.specs.Alike.{AreAlike}
 
--- each list of numbers as the input calls for some outcome
+-- no certificate is made or replayed
+abbrev pub NeedsNoCertificate : Task → Type 0
+NeedsNoCertificate (Make at budget) = ⊥
+NeedsNoCertificate Replay = ⊥
+NeedsNoCertificate _ = ⊤
+
+-- for each task without certificates each list of numbers as the input calls for some outcome
 abbrev pub EachInputIsAnswered : Type 0
-EachInputIsAnswered = (task : Task) (input : List ℕ) → (outcome : Outcome) × CallsFor task input outcome
+EachInputIsAnswered = (task : Task) (input : List ℕ) → NeedsNoCertificate task → (outcome : Outcome) × CallsFor task input outcome
 
 -- and all outcomes for which it calls are alike
 abbrev pub EachInputIsAnsweredOnce : Type 0

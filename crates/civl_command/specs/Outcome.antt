@@ -24,6 +24,14 @@ use Rattle.civl_verdicts.specs.Surveys.{IsSurvey}
 use Rattle.civl_verdicts.specs.Verdicts.{IsVerdict}
 use Rattle.civl_reports.specs.Findings.{heavy_text, survey_text}
 use Rattle.civl_verdict_reports.specs.Verdicts.{verdict_text}
+use Rattle.civl_certify.specs.declared.certified.Certified.TheVariants as certified
+use Rattle.civl_proof_reports.specs.declared.making.Making.{Making}
+use Rattle.civl_proof_reports.specs.declared.making.Making.TheVariants as making
+use Rattle.civl_proof_reports.specs.declared.replaying.Replaying.{Replaying}
+use Rattle.civl_proof_reports.specs.declared.replaying.Replaying.TheVariants as replaying
+use Rattle.civl_proof_reports.specs.Making.{IsMaking}
+use Rattle.civl_proof_reports.specs.Replaying.{IsReplaying}
+use Rattle.civl_proof_reports.specs.Reports.{making_text, replaying_text}
 use Rattle.civl_words.specs.Words.{usual_budget}
 use Rattle.civl_trial.specs.Trial.{trial}
 use Rattle.civl_command.specs.Report.{too_long_text, fault_text, refusal_text, misfit_text, run_text, trial_line}
@@ -31,20 +39,30 @@ use Rattle.civl_command.specs.Rules.{static_refusal, IsLawful, IsTaken}
 use Rattle.civl_command.specs.Texts.{IsReading, IsScriptReading}
 use Rattle.civl_command.specs.declared.reader.Fault.{Fault}
 use Rattle.civl_command.specs.declared.task.Task.{Task}
-use Rattle.civl_command.specs.declared.task.Task.TheVariants.{Check, Conditions, Fmt, RunLow, RunTop}
+use Rattle.civl_command.specs.declared.task.Task.TheVariants.{Check, Conditions, Fmt, RunLow, RunTop, Make, Replay}
 use Rattle.civl_command.specs.declared.status.Status.{Status}
 use Rattle.civl_command.specs.declared.status.Status.TheVariants.{Done, Rejected, Undecided, Refused}
 
--- the most bytes that an input may have
+-- the most bytes that an input with a program or a script may have
 abbrev pub limit : ℕ
 limit = 1048576
 
--- what an input calls for: it is longer than an input may be; it is no program or script, with the first fault; its program breaks a
+-- the most bytes that a certificate may have
+abbrev pub certificate_limit : ℕ
+certificate_limit = 67108864
+
+-- the most bytes that the input of a task may have
+abbrev pub limit_of : Task → ℕ
+limit_of Replay = certificate_limit
+limit_of _ = limit
+
+-- what an input calls for: it is longer than it may be, which is so many bytes; it is no program or script, with the first fault; its program breaks a
 -- static rule, with the first; a formula of its program weighs too much, with the first; under a budget its program has this verdict,
 -- or this is found of its program's conditions; its program is printed; its store or its moves don't fit, with the number of the first
--- that doesn't; or its schedule gives this trace
+-- that doesn't; or its schedule gives this trace. Or this is
+-- found of its program and the condition with a number, under a budget; or of it as a certificate
 pub data Outcome : Type 0 where
-  TooLong : Outcome
+  TooLong : ℕ → Outcome
   Unread : Fault → Outcome
   Broken : Refusal → Outcome
   Heavy : Program → Option Condition → Outcome
@@ -53,6 +71,8 @@ pub data Outcome : Type 0 where
   Printed : Program → Outcome
   Misfit : ℕ → Outcome
   Ran : Program → Trace → Outcome
+  Asked : Program → ℕ → ℕ → Making → Outcome
+  Replayed : Replaying → Outcome
 
 -- ---- what is found of what is read
 
@@ -74,6 +94,12 @@ Surveys budget program (Broken refusal) = static_refusal program ≡ Some refusa
 Surveys budget program (Heavy weighed first) = (weighed ≡ program) × IsLawful program × (heavy program ≡ Some first)
 Surveys budget program (Surveyed surveyed told survey) = (surveyed ≡ program) × (told ≡ budget) × IsTaken program × IsSurvey program budget survey
 Surveys budget program _ = ⊥
+
+-- `proof make`, of a program and the number of a condition, under a budget
+abbrev pub Asks : ℕ → ℕ → Program → Outcome → Type 0
+Asks at budget program (Broken refusal) = static_refusal program ≡ Some refusal
+Asks at budget program (Asked asked place told making) = (asked ≡ program) × (place ≡ at) × (told ≡ budget) × IsLawful program × IsMaking program budget at making
+Asks at budget program _ = ⊥
 
 -- `fmt`, of a program
 abbrev pub Prints : Program → Outcome → Type 0
@@ -107,6 +133,13 @@ pub record Finds {A : Type 0} (IsRead : List ℕ → Result A Fault → Type 0) 
   pub read : IsRead input reading
   pub says : OfRead Says reading outcome
 
+-- `proof replay`, of an input as a certificate
+pub record FindsReplayed (input : List ℕ) (outcome : Outcome) : Type 0 where
+  pub short : length input ≤ certificate_limit
+  pub replaying_ : Replaying
+  pub is : IsReplaying input replaying_
+  pub outcome_is : outcome ≡ Replayed replaying_
+
 -- by a task, of an input that may be read
 abbrev pub FindsBy : Task → List ℕ → Outcome → Type 0
 FindsBy (Check budget) input outcome = Finds IsReading (Checks budget) input outcome
@@ -114,10 +147,12 @@ FindsBy (Conditions budget) input outcome = Finds IsReading (Surveys budget) inp
 FindsBy Fmt input outcome = Finds IsReading Prints input outcome
 FindsBy RunLow input outcome = Finds IsScriptReading (Runs lowest) input outcome
 FindsBy RunTop input outcome = Finds IsScriptReading (Runs topmost) input outcome
+FindsBy (Make at budget) input outcome = Finds IsReading (Asks at budget) input outcome
+FindsBy Replay input outcome = FindsReplayed input outcome
 
 -- for a task the input calls for this outcome
 abbrev pub CallsFor : Task → List ℕ → Outcome → Type 0
-CallsFor task input outcome = ((outcome ≡ TooLong) × (limit < length input)) ⊎ FindsBy task input outcome
+CallsFor task input outcome = ((outcome ≡ TooLong (limit_of task)) × (limit_of task < length input)) ⊎ FindsBy task input outcome
 
 -- ---- the status and the report
 
@@ -135,9 +170,19 @@ abbrev pub survey_status : Survey → Status
 survey_status survey.NoInitial = Refused
 survey_status (survey.Findings initial findings) = Done
 
+abbrev pub making_status : Making → Status
+making_status (making.Heavy first) = Refused
+making_status (making.Beyond count) = Refused
+making_status (making.Shown condition certified.NoInitial) = Refused
+making_status (making.Shown condition (certified.Answer initial shown)) = Done
+
+abbrev pub replaying_status : Replaying → Status
+replaying_status (replaying.Unread place) = Refused
+replaying_status (replaying.Read found) = Done
+
 -- the status that an outcome has
 abbrev pub status_of : Outcome → Status
-status_of TooLong = Refused
+status_of (TooLong most) = Refused
 status_of (Unread fault) = Refused
 status_of (Broken refusal) = Refused
 status_of (Heavy program first) = Refused
@@ -146,10 +191,12 @@ status_of (Surveyed program budget survey) = survey_status survey
 status_of (Printed program) = Done
 status_of (Misfit number) = Refused
 status_of (Ran program trace) = Done
+status_of (Asked program at budget making) = making_status making
+status_of (Replayed replaying) = replaying_status replaying
 
 -- the report that an outcome has
 abbrev pub report_of : Outcome → List ℕ
-report_of TooLong = too_long_text
+report_of (TooLong most) = too_long_text most
 report_of (Unread fault) = fault_text fault
 report_of (Broken refusal) = refusal_text refusal
 report_of (Heavy program first) = heavy_text program first
@@ -158,6 +205,8 @@ report_of (Surveyed program budget survey) = survey_text program budget survey
 report_of (Printed program) = printed_text program
 report_of (Misfit number) = misfit_text number
 report_of (Ran program trace) = run_text program trace
+report_of (Asked program at budget making) = making_text program budget at making
+report_of (Replayed replaying) = replaying_text replaying
 
 -- ---- trials
 

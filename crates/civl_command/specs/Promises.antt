@@ -1,5 +1,5 @@
 -- What `command` promises where the source tells the bytes still to come and the sink those that it took.
-use Rattle.std.specs.Prelude.{◌≡◌, ◌≢◌, ℕ, ◌⊎◌, List, [], ◌++◌, length, codes, Option, Some}
+use Rattle.std.specs.Prelude.{◌≡◌, ◌≢◌, ℕ, ◌≤◌, ◌⊎◌, List, [], ◌++◌, length, codes, Option, Some}
 use Rattle.civl_outside.specs.Count.{Stayed}
 use Rattle.civl_tree.specs.declared.program.Program.{Program}
 use Rattle.civl_tree.specs.declared.script.Script.{Script}
@@ -7,12 +7,26 @@ use Rattle.civl_meaning.specs.declared.config.Plain.{Plain}
 use Rattle.civl_meaning.specs.Preserves.{Preserves}
 use Rattle.civl_run.specs.declared.trace.Trace.{Trace}
 use Rattle.civl_cnf.specs.Literal.{Literal}
+use Rattle.civl_cnf.specs.ClauseSet.{ClauseSet}
+use Rattle.civl_rup.specs.Rup.{IsUnsatisfiable}
+use Rattle.civl_rup.specs.declared.answer.Replay.{Replay as Replay_}
+use Rattle.civl_rup.specs.declared.answer.Replay.TheVariants.{Refutes}
+use Rattle.civl_proofs.specs.Text.{IsCertificate}
 use Rattle.civl_conditions.specs.declared.condition.Condition.{Condition}
 use Rattle.civl_conditions.specs.Listed.{conditions}
 use Rattle.civl_conditions.specs.Violated.{Violates}
 use Rattle.civl_verdicts.specs.declared.survey.Survey.{Survey}
 use Rattle.civl_verdicts.specs.declared.verdict.Counter.{Counter}
 use Rattle.civl_verdicts.specs.Surveys.{IsSurvey}
+use Rattle.civl_certify.specs.declared.certified.Shown.TheVariants.{Holds}
+use Rattle.civl_certify.specs.declared.certified.Certified.{Certified}
+use Rattle.civl_certify.specs.declared.certified.Certified.TheVariants.{Answer}
+use Rattle.civl_proof_reports.specs.declared.making.Making.TheVariants.{Shown}
+use Rattle.civl_proof_reports.specs.declared.replaying.Replaying.TheVariants.{Read}
+use Rattle.civl_proof_reports.specs.Making.{IsShownAt}
+use Rattle.civl_proof_reports.specs.Replaying.{IsReplay}
+use Rattle.civl_proof_reports.specs.Reports.{making_text, replaying_text}
+use Rattle.civl_proof_reports.specs.Laws.{StandsAlone}
 use Rattle.civl_words.specs.Words.{usual_budget}
 use Rattle.civl_verdicts.specs.Verdicts.{IsReached, AllHold, IsUndecided}
 use Rattle.civl_reports.specs.Lines.{HasLineThatBegins}
@@ -21,12 +35,12 @@ use Rattle.civl_verdict_reports.specs.Verdicts.{accepted_text, rejected_text, un
 use Rattle.civl_command.specs.Rules.{IsLawful, IsTaken}
 use Rattle.civl_command.specs.Texts.{SpellsProgram, SpellsScript}
 use Rattle.civl_command.specs.Tasks.{AskFor, AskForTrial}
-use Rattle.civl_command.specs.Outcome.{Outcome, TooLong, RunsBy, CallsFor, TrialCallsFor, printed_text, trial_text, status_of, report_of, trial_report}
+use Rattle.civl_command.specs.Outcome.{Outcome, TooLong, Replayed, RunsBy, FindsBy, CallsFor, TrialCallsFor, certificate_limit, printed_text, trial_text, status_of, report_of, trial_report}
 use Rattle.civl_command.specs.Alike.{AreAlike}
 use Rattle.civl_command.specs.Judge.{ReadState, WriteState}
 use Rattle.civl_command.specs.Report.{run_text, trial_line}
 use Rattle.civl_command.specs.declared.task.Task.{Task}
-use Rattle.civl_command.specs.declared.task.Task.TheVariants.{Check}
+use Rattle.civl_command.specs.declared.task.Task.TheVariants.{Check, Replay}
 use Rattle.civl_command.specs.declared.status.Status.{Status}
 use Rattle.civl_command.specs.declared.status.Status.TheVariants.{Done, Refused, WriteFault, Memory}
 
@@ -141,10 +155,41 @@ ReplaysRightly plain_of before after sink sink_after =
     (input : List ℕ) → before.left ≡ Some input →
     (script : Script) × (trace : Trace) × Replays plain_of input script trace × ReadsAndWrites after sink sink_after (run_text script.program trace)
 
+-- Of the program that the input spells, which breaks no static rule and no formula of which weighs too much, this is shown of the
+-- condition with the number; and where the condition holds, the report is a certificate that stands alone: of clauses that stand for its
+-- violation and of a log that is lean for them. If it is no longer than a certificate may be, `proof replay` finds of it that its log
+-- refutes its clauses.
+pub record Certifies (input : List ℕ) (at budget : ℕ) (program : Program) (condition : Condition) (certified : Certified) (report : List ℕ) : Type 0 where
+  pub spelled : SpellsTaken input program
+  pub shown : IsShownAt program budget at condition certified
+  pub alone : (initial : Option (List (List Literal))) (set : ClauseSet) (log : List (List Literal)) → certified ≡ Answer initial (Holds set log) → StandsAlone program condition set log report
+  pub refutes : (initial : Option (List (List Literal))) (set : ClauseSet) (log : List (List Literal)) → certified ≡ Answer initial (Holds set log) → length report ≤ certificate_limit → FindsBy Replay report (Replayed (Read Refutes))
+
+-- Done under `proof make`: that is so of the input, and the report says it.
+abbrev pub CertifiesRightly : ℕ → ℕ → ReadState → ReadState → WriteState → WriteState → Type 0
+CertifiesRightly at budget before after sink sink_after =
+    (input : List ℕ) → before.left ≡ Some input →
+    (program : Program) × (condition : Condition) × (certified : Certified)
+    × Certifies input at budget program condition certified (making_text program budget at (Shown condition certified))
+    × ReadsAndWrites after sink sink_after (making_text program budget at (Shown condition certified))
+
+-- The input is a certificate of this clause set and this log, and the replay of the log finds this. Where it finds that the log refutes
+-- the clause set, no bits make its clauses true.
+pub record IsReplayed (input : List ℕ) (set : ClauseSet) (log : List (List Literal)) (found : Replay_) : Type 0 where
+  pub certificate : IsCertificate input set log
+  pub replay : IsReplay set log found
+  pub sound : found ≡ Refutes → IsUnsatisfiable set.clauses
+
+-- Done under `proof replay`: that is so of the input, and the report says it.
+abbrev pub RefutesRightly : ReadState → ReadState → WriteState → WriteState → Type 0
+RefutesRightly before after sink sink_after =
+    (input : List ℕ) → before.left ≡ Some input →
+    (set : ClauseSet) × (log : List (List Literal)) × (found : Replay_) × IsReplayed input set log found × ReadsAndWrites after sink sink_after (replaying_text (Read found))
+
 -- what was written grew by the report of the outcome, and, but for a longer input, the whole was read
 pub record Carries (after : ReadState) (sink sink_after : WriteState) (outcome : Outcome) : Type 0 where
   pub written : Writes sink sink_after (report_of outcome)
-  pub read : outcome ≢ TooLong → after.left ≡ Some []
+  pub read : ((most : ℕ) → outcome ≢ TooLong most) → after.left ≡ Some []
 
 -- Refused: the words ask for a task or for a trial, the input or the trial's text calls for a refusal, and the report says which.
 abbrev pub RefusesRightly : List (List ℕ) → ReadState → ReadState → WriteState → WriteState → Type 0
@@ -155,22 +200,22 @@ RefusesRightly words before after sink sink_after =
     ⊎ ((number : ℕ) × AskForTrial number words
     × (outcome : Outcome) × TrialCallsFor number outcome × (status_of outcome ≡ Refused) × Writes sink sink_after (trial_report number outcome))
 
--- the status and the report are those of an outcome for which the input calls, and which is alike the given one: the two are verdicts
--- or surveys that don't speak against each other, or they are one
-pub record AnswersAs (task : Task) (input : List ℕ) (after : ReadState) (sink sink_after : WriteState) (status : Status) (outcome : Outcome) : Type 0 where
+-- the status and the report are those of an outcome for which the input calls, and which is alike each other one for which it does: the
+-- two are verdicts, surveys or findings of a condition that don't speak against each other, or they are one
+pub record AnswersAs (task : Task) (input : List ℕ) (after : ReadState) (sink sink_after : WriteState) (status : Status) : Type 0 where
   pub found : Outcome
   pub calls : CallsFor task input found
   pub status_is : status ≡ status_of found
-  pub alike : AreAlike found outcome
+  pub alike : (outcome : Outcome) → CallsFor task input outcome → AreAlike found outcome
   pub carries : Carries after sink sink_after found
 
 -- Where the words ask for a task and nothing failed or stalled, the answer is the one that the input calls for, but for want
 -- of memory.
 abbrev pub IsComplete : List (List ℕ) → ReadState → ReadState → WriteState → WriteState → Status → Type 0
 IsComplete words before after sink sink_after status =
-    (task : Task) (input : List ℕ) (outcome : Outcome) → AskFor task words → before.left ≡ Some input → CallsFor task input outcome →
+    (task : Task) (input : List ℕ) → AskFor task words → before.left ≡ Some input →
     Stayed before.faults after.faults → Stayed sink.faults sink_after.faults → Stayed sink.stalls sink_after.stalls →
-    AnswersAs task input after sink sink_after status outcome ⊎ (status ≡ Memory)
+    AnswersAs task input after sink sink_after status ⊎ (status ≡ Memory)
 
 -- the same of a trial's text
 pub record TrialAnswersAs (number : ℕ) (sink sink_after : WriteState) (status : Status) (outcome : Outcome) : Type 0 where

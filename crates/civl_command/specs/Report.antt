@@ -19,9 +19,9 @@ abbrev pub bytes_of : Report → List ℕ
 bytes_of (Fixed text) = text.now
 bytes_of (Made text) = text.items
 
--- that an input is longer than it may be
-abbrev pub too_long_text : List ℕ
-too_long_text = line (codes "refused E01 over 1048576 bytes")
+-- that an input is longer than it may be, which is so many bytes
+abbrev pub too_long_text : ℕ → List ℕ
+too_long_text most = line (codes "refused E01 over " ++ decimal most ++ codes " bytes")
 
 -- the first fault of a text that is no program: a byte at which no token begins, a token that may not stand where it
 -- does, or one that opens a bracket too many

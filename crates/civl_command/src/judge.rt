@@ -3,12 +3,13 @@ ghost use Rattle.std.specs.Prelude.{◌≡◌, ◌≤◌, ◌⊎◌, ℕ, List, 
 ghost use Rattle.civl_words.specs.Words.{AreWordsOf, HasFitNumbers};
 ghost use Rattle.civl_command.specs.Texts.{IsReading, IsScriptReading};
 ghost use Rattle.civl_command.specs.Replay.{plain_for};
-ghost use Rattle.civl_command.specs.Outcome.{Printed, Prints, Runs, Finds, FindsBy, limit};
+ghost use Rattle.civl_command.specs.Outcome.{Printed, Prints, Runs, Finds, FindsBy, limit, limit_of};
 ghost use Rattle.civl_command.specs.Tasks.{command_for, AskFor, AskForSome, AsksProvers, AskProvers};
 ghost use Rattle.civl_command.specs.Judge.{reading, IsJudged, Judges};
 ghost use Rattle.civl_command.specs.Report.{bytes_of};
 
-use crate::judged::{Judged, LIMIT, Report, judge_fault};
+use crate::certificates::{make_text, replay_bytes};
+use crate::judged::{CERTIFICATE_LIMIT, Judged, LIMIT, Report, judge_fault, too_long};
 use crate::reader::{Text, read_program, read_script};
 use crate::replay::{End, judge_script};
 use crate::status::Status;
@@ -60,9 +61,19 @@ fn run_text(alloc: Global, end: End, bytes: &[u8]) -> Judged
     }
 }
 
-/// What a task finds of a text, which is no longer than an input may be.
+/// The most bytes that the input of a task may have.
+fn limit_of(task: Task) -> usize
+    ensures { result ≡ limit_of task }
+{
+    match task {
+        Task::Replay => CERTIFICATE_LIMIT,
+        _ => LIMIT,
+    }
+}
+
+/// What a task finds of a text, which is no longer than its input may be.
 fn judge_text(alloc: Global, task: Task, bytes: &[u8], provers: &mut Vec<Box<dyn Prover>>) -> Judged
-    requires { length bytes.now ≤ limit }
+    requires { length bytes.now ≤ limit_of task }
     ensures judged { IsJudged (FindsBy task bytes.now) result }
     ensures unasked { (AsksProvers (command_for task) → ⊥) → provers.new ≡ provers.old }
 {
@@ -72,6 +83,8 @@ fn judge_text(alloc: Global, task: Task, bytes: &[u8], provers: &mut Vec<Box<dyn
         Task::Fmt => print_text(alloc, bytes),
         Task::RunLow => run_text(alloc, End::Low, bytes),
         Task::RunTop => run_text(alloc, End::Top, bytes),
+        Task::Make(at, budget) => make_text(alloc, at, budget, bytes, provers),
+        Task::Replay => replay_bytes(alloc, bytes),
     }
 }
 
@@ -88,9 +101,10 @@ fn judge_input<S: Source>(
         result.status (bytes_of result.report) }
     ensures unasked { (AsksProvers (command_for task) → ⊥) → provers.new ≡ provers.old }
 {
-    match read_whole(alloc, source, LIMIT) {
+    let most = limit_of(task);
+    match read_whole(alloc, source, most) {
         Whole::Bytes(bytes) => judge_text(alloc, task, bytes.as_slice(), provers),
-        Whole::Long => Judged::too_long(),
+        Whole::Long => too_long(alloc, most),
         Whole::Failed => Judged {
             status: Status::ReadFault,
             report: Report::Fixed(b""),
@@ -126,8 +140,10 @@ fn judge_command<S: Source>(
         Command::RunLow => judge_input(alloc, Task::RunLow, source, provers),
         Command::RunTop => judge_input(alloc, Task::RunTop, source, provers),
         Command::Trial(number) => judge_trial(alloc, number, provers),
-        Command::ProofMake(_, _) => Judged::usage(),
-        Command::ProofReplay => Judged::usage(),
+        Command::ProofMake(at, budget) => {
+            judge_input(alloc, Task::Make(at, budget), source, provers)
+        }
+        Command::ProofReplay => judge_input(alloc, Task::Replay, source, provers),
     }
 }
 

@@ -1,11 +1,11 @@
 // What is written, and the status if that is written whole.
 ghost use Rattle.std.specs.Prelude.{◌≡◌};
-ghost use Rattle.civl_command.specs.Outcome.{Unread, Broken, Heavy};
+ghost use Rattle.civl_command.specs.Outcome.{TooLong, Unread, Broken, Heavy};
 ghost use Rattle.civl_command.specs.Judge.{IsJudged};
 ghost use Rattle.civl_command.specs.Report.{bytes_of};
 
 use crate::reader::Fault;
-use crate::report::{report_fault, report_refusal};
+use crate::report::{report_fault, report_long, report_refusal};
 use crate::status::Status;
 use civl_conditions::Condition;
 use civl_layers::Layered;
@@ -13,8 +13,11 @@ use civl_reports::report_heavy;
 use civl_tree::Refusal;
 use std::alloc::Global;
 
-/// The most bytes that an input may have.
+/// The most bytes that an input with a program or a script may have.
 pub(crate) const LIMIT: usize = 1_048_576;
+
+/// The most bytes that a certificate may have.
+pub(crate) const CERTIFICATE_LIMIT: usize = 67_108_864;
 
 /// A report: a fixed text, or one that was made.
 #[derive(Drop)]
@@ -46,7 +49,6 @@ pub(crate) struct Judged {
 impl Judged {
     ghost use Rattle.civl_command.specs.Report.{bytes_of};
     ghost use Rattle.civl_command.specs.Judge.{WantsMemory, usage_text};
-    ghost use Rattle.civl_command.specs.Outcome.{TooLong, status_of, report_of};
 
     /// Memory is wanting, so nothing is written.
     pub(crate) fn wanting() -> Judged
@@ -68,16 +70,18 @@ impl Judged {
             report: Report::Fixed(b"usage: civl check|conditions|fmt|run|trial|prove|proof\n"),
         }
     }
+}
 
-    /// A text is longer than an input may be.
-    pub(crate) fn too_long() -> Judged
-        ensures status { result.status ≡ status_of TooLong }
-        ensures report { bytes_of result.report ≡ report_of TooLong }
-    {
-        Judged {
-            status: Status::Refused,
-            report: Report::Fixed(b"refused E01 over 1048576 bytes\n"),
-        }
+/// What is written of a text that is longer than it may be.
+pub(crate) fn too_long(alloc: Global, most: usize) -> Judged
+    ensures { IsJudged (λ outcome. outcome ≡ TooLong most) result }
+{
+    let Ok(report) = report_long(alloc, most) else {
+        return Judged::wanting();
+    };
+    Judged {
+        status: Status::Refused,
+        report: Report::Made(report),
     }
 }
 

@@ -3,10 +3,12 @@
 //!
 //! It takes the words of `civl_words`. `check` gives the verdict on every program that breaks no static rule, and `conditions` tells of
 //! every such program what is found of each of its conditions; `fmt` prints every program, and `run` replays a schedule of every program
-//! that breaks no static rule. `trial` gives the verdict on the text of a trial program.
+//! that breaks no static rule. `trial` gives the verdict on the text of a trial program. `proof make`
+//! gives a certificate of one condition, and `proof replay` replays one.
 #![tactic(auto)]
 
 mod admission;
+mod certificates;
 mod judge;
 mod judged;
 pub mod laws;

@@ -1,7 +1,7 @@
 // The text of a report.
 ghost use Rattle.std.specs.Prelude.{◌≡◌, ◌++◌, OnOk, IfOk, decimal};
 ghost use Rattle.civl_reports.specs.Lines.{line};
-ghost use Rattle.civl_command.specs.Report.{store_lines, fault_text, refusal_text, misfit_text, answer_text, stopped_text, failing_text, run_text, trial_line};
+ghost use Rattle.civl_command.specs.Report.{too_long_text, store_lines, fault_text, refusal_text, misfit_text, answer_text, stopped_text, failing_text, run_text, trial_line};
 
 use crate::reader::Fault;
 use civl_bits::Value;
@@ -44,6 +44,17 @@ fn put_place(out: &mut Vec<u8>, text: &[u8], place: usize) -> Result<(), Memory>
     put_number(out, place)?;
     put(out, b"\n")?;
     Ok(())
+}
+
+/// What is reported of a text that is longer than it may be.
+pub(crate) fn report_long(alloc: Global, most: usize) -> Result<Vec<u8>, Memory>
+    ensures { IfOk result (λ out. out.items ≡ too_long_text most) }
+{
+    let mut out = Vec::new(alloc);
+    put(&mut out, b"refused E01 over ")?;
+    put_number(&mut out, most)?;
+    put(&mut out, b" bytes\n")?;
+    Ok(out)
 }
 
 /// What is reported of a text that is no program.

@@ -6,7 +6,7 @@ ghost use Rattle.civl_command.specs.Outcome.{CallsFor, TrialCallsFor, trial_text
 ghost use Rattle.civl_command.specs.Judge.{IsJudged, IsTried};
 ghost use Rattle.civl_command.specs.declared.task.Task.TheVariants.{Check};
 
-use crate::judged::{Judged, LIMIT, Report};
+use crate::judged::{Judged, LIMIT, Report, too_long};
 use crate::report::report_trial;
 use crate::verdict::check_text;
 use civl_portfolio::Prover;
@@ -31,7 +31,7 @@ fn check_usually(alloc: Global, bytes: &[u8], provers: &mut Vec<Box<dyn Prover>>
     ensures { IsJudged (CallsFor (Check usual_budget) bytes.now) result }
 {
     if bytes.len() > LIMIT {
-        return Judged::too_long();
+        return too_long(alloc, LIMIT);
     }
     check_text(alloc, USUAL_BUDGET, bytes, provers)
 }

@@ -1,4 +1,4 @@
-use Rattle.civl_command.proofs.Promising.{usage_unasked, accepts_by, tries_by, surveys_by, prints_by, low_by, top_by, rejects_by, leaves_open_by, refuses_by, complete_by, trial_complete_by}
+use Rattle.civl_command.proofs.Promising.{usage_unasked, accepts_by, tries_by, surveys_by, prints_by, low_by, top_by, certifies_by, refutes_by, rejects_by, leaves_open_by, refuses_by, complete_by, trial_complete_by}
 use Rattle.civl_command.proofs.Alone.{alone_by, tried_alone_by}
 use Rattle.civl_command.proofs.top.command.Goals as goal
 
@@ -28,6 +28,12 @@ returns-clause-low g c = λ is low. low_by _ _ _ _ _ (rw is at c.respond.ensures
 
 pub returns-clause-top : goal.returns-clause-top
 returns-clause-top g c = λ is top. top_by _ _ _ _ _ (rw is at c.respond.ensures.explains) top
+
+pub returns-clause-certified : goal.returns-clause-certified
+returns-clause-certified g c = λ at budget is make. certifies_by _ _ _ _ _ at budget (rw is at c.respond.ensures.explains) make
+
+pub returns-clause-replayed : goal.returns-clause-replayed
+returns-clause-replayed g c = λ is replay. refutes_by _ _ _ _ _ (rw is at c.respond.ensures.explains) replay
 
 pub returns-clause-rejected : goal.returns-clause-rejected
 returns-clause-rejected g c = λ is. rejects_by _ _ _ _ _ (rw is at c.respond.ensures.explains)
