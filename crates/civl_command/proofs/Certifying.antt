@@ -1,6 +1,6 @@
 -- What `proof make` and `proof replay` tell where they are done.
 use Rattle.std.specs.Prelude.{IsTrue}
-use Rattle.std.proofs.Common.{◌≡◌, ◌∙◌, ℕ, ◌≤◌, List, length, refl, sym, ap, subst, Option}
+use Rattle.std.proofs.Common.{◌≡◌, ◌∙◌, ℕ, List, refl, sym, ap, subst, Option}
 use Rattle.civl_tree.specs.SpellingDomain.{allows_program}
 use Rattle.civl_tree.specs.declared.program.Program.{Program}
 use Rattle.civl_cnf.specs.Literal.{Literal}
