@@ -9,8 +9,8 @@ use Rattle.civl_rup.specs.Rup.{IsUnsatisfiable}
 use Rattle.civl_rup.specs.declared.answer.Replay.{Replay}
 use Rattle.civl_rup.specs.declared.answer.Replay.TheVariants.{Refutes}
 use Rattle.civl_conditions.specs.declared.condition.Condition.{Condition}
+use Rattle.civl_certify.specs.declared.certified.Shown.{Shown as ShownOf}
 use Rattle.civl_certify.specs.declared.certified.Shown.TheVariants.{Holds}
-use Rattle.civl_certify.specs.declared.certified.Certified.{Certified}
 use Rattle.civl_certify.specs.declared.certified.Certified.TheVariants.{NoInitial, Answer}
 use Rattle.civl_proof_reports.specs.declared.making.Making.{Making}
 use Rattle.civl_proof_reports.specs.declared.making.Making.TheVariants.{Heavy, Beyond, Shown}
@@ -34,33 +34,36 @@ done_refused e = cc
 -- ---- `proof make`
 
 -- the report of a condition that holds stands alone
-alone_at : (program : Program) (budget at : ℕ) (condition : Condition) (certified : Certified) (initial : Option (List (List Literal))) (set : ClauseSet) (log : List (List Literal)) → IsTrue (allows_program program) → IsShownAt program budget at condition certified
-    → certified ≡ Answer initial (Holds set log) → StandsAlone program condition set log (making_text program budget at (Shown condition certified))
-alone_at program budget at condition certified initial set log written right e =
-    subst (λ (c : Certified). IsShownAt program budget at condition c → StandsAlone program condition set log (making_text program budget at (Shown condition c))) (sym e)
+alone_at : (program : Program) (budget at : ℕ) (condition : Condition) (initial : Option (List (List Literal))) (shown : ShownOf) (set : ClauseSet) (log : List (List Literal)) → IsTrue (allows_program program)
+    → IsShownAt program budget at condition (Answer initial shown) → shown ≡ Holds set log → StandsAlone program condition set log (making_text program budget at (Shown condition (Answer initial shown)))
+alone_at program budget at condition initial shown set log written right e =
+    subst (λ (s : ShownOf). IsShownAt program budget at condition (Answer initial s) → StandsAlone program condition set log (making_text program budget at (Shown condition (Answer initial s)))) (sym e)
     (λ h. printed_stands_alone program budget at condition initial set log written h) right
 
 pub record IsCertifying (input : List ℕ) (at budget : ℕ) (outcome : Outcome) : Type 0 where
   pub program : Program
   pub condition : Condition
-  pub certified_ : Certified
-  pub certifies : Certifies input at budget program condition certified_ (making_text program budget at (Shown condition certified_))
-  pub is : outcome ≡ Asked program at budget (Shown condition certified_)
+  pub initial : Option (List (List Literal))
+  pub shown : ShownOf
+  pub certifies : Certifies input at budget program condition initial shown (making_text program budget at (Shown condition (Answer initial shown)))
+  pub is : outcome ≡ Asked program at budget (Shown condition (Answer initial shown))
 
 module _ (input : List ℕ) (at budget : ℕ) (outcome : Outcome) (program : Program) (spells : SpellsProgram input program) (asked : IsAsked at budget program outcome) where
-  of_shown : (condition : Condition) (certified : Certified) → IsShownAt program budget at condition certified → outcome ≡ Asked program at budget (Shown condition certified) → IsCertifying input at budget outcome
-  of_shown condition certified right same =
+  of_shown : (condition : Condition) (initial : Option (List (List Literal))) (shown : ShownOf) → IsShownAt program budget at condition (Answer initial shown)
+      → outcome ≡ Asked program at budget (Shown condition (Answer initial shown)) → IsCertifying input at budget outcome
+  of_shown condition initial shown right same =
       let written = text_written input program spells in
       record {
         program = program;
         condition = condition;
-        certified_ = certified;
+        initial = initial;
+        shown = shown;
         certifies = record {
           spelled = record { spells = spells; taken = record { rules = asked.rules; light = right.light } };
-          shown = right;
-          alone = λ initial set log e. alone_at program budget at condition certified initial set log written right e;
-          refutes = λ initial set log e short.
-              record { short = short; replaying_ = Read Refutes; is = (alone_at program budget at condition certified initial set log written right e).replayed; outcome_is = refl };
+          found = right;
+          alone = λ set log e. alone_at program budget at condition initial shown set log written right e;
+          refutes = λ set log e short.
+              record { short = short; replaying_ = Read Refutes; is = (alone_at program budget at condition initial shown set log written right e).replayed; outcome_is = refl };
         };
         is = same;
       }
@@ -69,7 +72,7 @@ module _ (input : List ℕ) (at budget : ℕ) (outcome : Outcome) (program : Pro
   of_making (Heavy first) right same done = absurd (done_refused done)
   of_making (Beyond count) right same done = absurd (done_refused done)
   of_making (Shown condition NoInitial) right same done = absurd (done_refused done)
-  of_making (Shown condition (Answer initial shown)) right same done = of_shown condition (Answer initial shown) right same
+  of_making (Shown condition (Answer initial shown)) right same done = of_shown condition initial shown right same
 
   pub certifying : Done ≡ status_of outcome → IsCertifying input at budget outcome
   certifying done = of_making asked.making asked.right asked.is (done ∙ ap status_of asked.is)

@@ -18,8 +18,8 @@ use Rattle.civl_conditions.specs.Violated.{Violates}
 use Rattle.civl_verdicts.specs.declared.survey.Survey.{Survey}
 use Rattle.civl_verdicts.specs.declared.verdict.Counter.{Counter}
 use Rattle.civl_verdicts.specs.Surveys.{IsSurvey}
+use Rattle.civl_certify.specs.declared.certified.Shown.{Shown as ShownOf}
 use Rattle.civl_certify.specs.declared.certified.Shown.TheVariants.{Holds}
-use Rattle.civl_certify.specs.declared.certified.Certified.{Certified}
 use Rattle.civl_certify.specs.declared.certified.Certified.TheVariants.{Answer}
 use Rattle.civl_proof_reports.specs.declared.making.Making.TheVariants.{Shown}
 use Rattle.civl_proof_reports.specs.declared.replaying.Replaying.TheVariants.{Read}
@@ -156,22 +156,22 @@ ReplaysRightly plain_of before after sink sink_after =
     (script : Script) × (trace : Trace) × Replays plain_of input script trace × ReadsAndWrites after sink sink_after (run_text script.program trace)
 
 -- Of the program that the input spells, which breaks no static rule and no formula of which weighs too much, this is shown of the
--- condition with the number; and where the condition holds, the report is a certificate that stands alone: of clauses that stand for its
--- violation and of a log that is lean for them. If it is no longer than a certificate may be, `proof replay` finds of it that its log
--- refutes its clauses.
-pub record Certifies (input : List ℕ) (at budget : ℕ) (program : Program) (condition : Condition) (certified : Certified) (report : List ℕ) : Type 0 where
+-- condition with the number, where some store is initial or the search for one spent the budget; and where the condition holds, the
+-- report is a certificate that stands alone: of clauses that stand for its violation and of a log that is lean for them. If it is no
+-- longer than a certificate may be, `proof replay` finds of it that its log refutes its clauses.
+pub record Certifies (input : List ℕ) (at budget : ℕ) (program : Program) (condition : Condition) (initial : Option (List (List Literal))) (shown : ShownOf) (report : List ℕ) : Type 0 where
   pub spelled : SpellsTaken input program
-  pub shown : IsShownAt program budget at condition certified
-  pub alone : (initial : Option (List (List Literal))) (set : ClauseSet) (log : List (List Literal)) → certified ≡ Answer initial (Holds set log) → StandsAlone program condition set log report
-  pub refutes : (initial : Option (List (List Literal))) (set : ClauseSet) (log : List (List Literal)) → certified ≡ Answer initial (Holds set log) → length report ≤ certificate_limit → FindsBy Replay report (Replayed (Read Refutes))
+  pub found : IsShownAt program budget at condition (Answer initial shown)
+  pub alone : (set : ClauseSet) (log : List (List Literal)) → shown ≡ Holds set log → StandsAlone program condition set log report
+  pub refutes : (set : ClauseSet) (log : List (List Literal)) → shown ≡ Holds set log → length report ≤ certificate_limit → FindsBy Replay report (Replayed (Read Refutes))
 
 -- Done under `proof make`: that is so of the input, and the report says it.
 abbrev pub CertifiesRightly : ℕ → ℕ → ReadState → ReadState → WriteState → WriteState → Type 0
 CertifiesRightly at budget before after sink sink_after =
     (input : List ℕ) → before.left ≡ Some input →
-    (program : Program) × (condition : Condition) × (certified : Certified)
-    × Certifies input at budget program condition certified (making_text program budget at (Shown condition certified))
-    × ReadsAndWrites after sink sink_after (making_text program budget at (Shown condition certified))
+    (program : Program) × (condition : Condition) × (initial : Option (List (List Literal))) × (shown : ShownOf)
+    × Certifies input at budget program condition initial shown (making_text program budget at (Shown condition (Answer initial shown)))
+    × ReadsAndWrites after sink sink_after (making_text program budget at (Shown condition (Answer initial shown)))
 
 -- The input is a certificate of this clause set and this log, and the replay of the log finds this. Where it finds that the log refutes
 -- the clause set, no bits make its clauses true.
