@@ -1,4 +1,4 @@
-// `check` and `fmt` on texts, and words that are no command. A row is as `holding` reads it.
+// `check` and `fmt` on texts, and the words of the command line. A row is as `holding` reads it.
 
 use crate::texts::{FLAG, edited, gives, holding, run};
 use civl_lex::tokens;
@@ -16,31 +16,53 @@ const USAGE: &str = "usage: civl check|conditions|fmt|run|trial|prove|proof";
 /// Lists of words that are no command, a line each; the first is the empty one.
 const WORDS: &str = "
 check --budget
-check --budget=1
+check --budget 10000001
+check --budget=10000001
+check --budget=1 --budget=1
+check --budget=x
 check x
 Check
 conditions x
 conditions --budget
-conditions --budget 10000001
-conditions --budget 007
 conditions --budget -1
-conditions --budget +1
 conditions --budget 1 1
-conditions --budget=1
 fmt fmt
 run
 run middle
---help";
+trial
+trial 0
+trial 9
+trial 1 1
+prove
+proof
+proof copy
+proof replay --at 0
+proof replay --budget=200000
+help
+help check
+--help
+-h
+check --help
+--version";
 
-/// How many of these lists of words get the usage line, up to the first that doesn't.
-fn unused(alloc: Global, lines: &str) -> Result<usize, Fail> {
+/// Lists of words of `check`.
+const CHECKS: &str = "check
+check --budget=1
+check --budget 007
+check --budget=0
+check --budget=10000000
+check --budget=+1
+check --budget=-0";
+
+/// How many of these lists of words get this report on the flag program, up to the first that doesn't.
+fn answered(alloc: Global, lines: &str, want: &str) -> Result<usize, Fail> {
     let mut count: usize = 0;
     for line in lines.split("\n") {
         let mut words = Vec::new(alloc);
         for word in line.split_whitespace() {
             words.push(word)?;
         }
-        if !gives(alloc, words.as_slice(), FLAG.as_bytes(), USAGE)? {
+        if !gives(alloc, words.as_slice(), FLAG.as_bytes(), want)? {
             return Ok(count);
         }
         count = count.saturating_add(1);
@@ -49,8 +71,9 @@ fn unused(alloc: Global, lines: &str) -> Result<usize, Fail> {
 }
 
 #[test]
-fn words_that_are_no_command(rt: HostRuntime) -> Result<(), Fail> {
-    assert_eq!(rt; unused(rt.alloc(), WORDS)?, 17);
+fn words_of_the_command_line(rt: HostRuntime) -> Result<(), Fail> {
+    assert_eq!(rt; answered(rt.alloc(), WORDS, USAGE)?, 30);
+    assert_eq!(rt; answered(rt.alloc(), CHECKS, ACCEPTED)?, 7);
     Ok(())
 }
 
@@ -507,6 +530,38 @@ fn limits_of_threads_and_bytes(rt: HostRuntime) -> Result<(), Fail> {
     );
     assert!(rt; gives_behind(alloc, "", " ", 1_048_576, "refused E03 at token 0")?);
     assert!(rt; gives_behind(alloc, "", " ", 1_048_577, "refused E01 over 1048576 bytes")?);
+    Ok(())
+}
+
+/// A global of 33 bits and of 32, and 33 locals and 32.
+const WIDTHS: &str = "
+global f @ global g : word(33) layers 0 to 1; global f @@
+@@ refused E20 at item 0 statement 0
+
+global f @ global g : word(32) layers 0 to 1; global f @@
+@@ accepted 6 conditions
+
+{ call @ { LOCALS call @@
+@@ accepted 6 conditions
+
+{ call @ { LOCALS var z : bool; call @@
+@@ refused E12 at item 4 statement 0
+";
+
+/// The table with so many locals in the place of the word for them.
+fn widths(alloc: Global) -> Result<String, AllocError> {
+    let mut locals = String::new(alloc);
+    for number in 0..32 {
+        let local = format!(in alloc; "var a{number} : bool; ")?;
+        locals.push_str(local.as_str())?;
+    }
+    WIDTHS.replacen(alloc, "LOCALS", locals.as_str(), 2)
+}
+
+#[test]
+fn limits_of_widths_and_locals(rt: HostRuntime) -> Result<(), Fail> {
+    let rows = widths(rt.alloc())?;
+    assert_eq!(rt; holding(rt.alloc(), CHECK, FLAG, rows.as_str())?, 4);
     Ok(())
 }
 

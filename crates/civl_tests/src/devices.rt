@@ -92,3 +92,25 @@ fn rooms_are_too_small(rt: HostRuntime) -> Result<(), Fail> {
     assert!(rt; is_cut(&found, Status::Done, REPORT.len()));
     Ok(())
 }
+
+/// The status and what is written under `trial 1`, where each read fails.
+fn tried(alloc: Global) -> Result<(Status, Vec<u8>), Fail> {
+    let words = words(alloc, &["trial", "1"])?;
+    let mut source = MemorySource::new(Vec::new(alloc), 16, [0].to_vec(alloc)?);
+    let mut sink = PlainSink::new(alloc, 100)?;
+    let mut provers: Vec<Box<dyn Prover>> = Vec::new(alloc);
+    let status = command(alloc, &words, &mut source, &mut sink, &mut provers);
+    Ok((status, sink.bytes().to_vec(alloc)?))
+}
+
+/// A trial reads nothing, and one of one copy has the conditions of a spinlock.
+#[test]
+fn a_trial_reads_nothing(rt: HostRuntime) -> Result<(), Fail> {
+    let found = tried(rt.alloc())?;
+    assert_eq!(rt; found.0, Status::Done);
+    assert_eq!(rt;
+        found.1.as_slice(),
+        b"trial 1\naccepted 112 conditions\n".as_slice()
+    );
+    Ok(())
+}

@@ -1,9 +1,9 @@
-// Provers that lie, under `conditions`: the report is that without them.
+// Provers that lie: the report is that without them.
 ghost use Rattle.std.specs.Prelude.{◌≡◌, IfOk, false, None};
 
 use crate::spinlocks::SPIN;
 use crate::texts::{FLAG, edited, words};
-use civl_cnf::{Bits, Clause, Cnf, Log};
+use civl_cnf::{Bits, Clause, Cnf, Lit, Log};
 use civl_command::{Status, command};
 use civl_outside::{PlainSink, PlainSource};
 use civl_portfolio::{Attempt, Prover};
@@ -18,6 +18,12 @@ enum Trick {
     NoLog,
     /// There are none, with a log that follows from nothing.
     WrongLog,
+    /// There are none, with a log that has one clause twice before the empty clause.
+    TwiceLog,
+    /// There are none, with a log of a variable that the clauses don't have.
+    StrangeLog,
+    /// There are none, with a log that shows nothing, when it is asked for the third time; else it has no answer.
+    LiesThird,
     /// There are some, and no bits.
     NoBits,
     /// There are some, each of whose bits is true.
@@ -49,6 +55,29 @@ fn wrong_log(alloc: Global, cnf: &Cnf) -> Result<Log, civl_cnf::Memory> {
     Ok(log)
 }
 
+/// The first clause twice, and then the empty clause.
+fn twice_log(alloc: Global, cnf: &Cnf) -> Result<Log, civl_cnf::Memory> {
+    let mut log = Log::new(alloc);
+    for _ in 0..2 {
+        if cnf.len() > 0 {
+            log.push(Clause::from_slice(alloc, cnf.clause(0).lits())?)?;
+        }
+    }
+    log.push(Clause::from_slice(alloc, &[])?)?;
+    Ok(log)
+}
+
+/// A clause of the first variable that isn't there, and then the empty clause.
+fn strange_log(alloc: Global, cnf: &Cnf) -> Result<Log, civl_cnf::Memory> {
+    let variable = cnf.variables();
+    let mut log = Log::new(alloc);
+    if variable < 2_147_483_648 {
+        log.push(Clause::from_slice(alloc, &[Lit::new(variable, true)])?)?;
+    }
+    log.push(Clause::from_slice(alloc, &[])?)?;
+    Ok(log)
+}
+
 /// A bit for each variable.
 fn bits(alloc: Global, count: u32, bit: bool) -> Result<Bits, civl_cnf::Memory> {
     let mut bits = Bits::new(alloc, count)?;
@@ -60,12 +89,21 @@ fn bits(alloc: Global, count: u32, bit: bool) -> Result<Bits, civl_cnf::Memory> 
     Ok(bits)
 }
 
-fn tricked(alloc: Global, trick: Trick, cnf: &Cnf) -> Result<Attempt, civl_cnf::Memory>
+fn tricked(alloc: Global, trick: Trick, asked: u64, cnf: &Cnf) -> Result<Attempt, civl_cnf::Memory>
     ensures { IfOk result (λ attempt. attempt ≡ Attempt.Memory → ⊥) }
 {
     match trick {
         Trick::NoLog => Ok(Attempt::Unsat(Log::new(alloc))),
         Trick::WrongLog => Ok(Attempt::Unsat(wrong_log(alloc, cnf)?)),
+        Trick::TwiceLog => Ok(Attempt::Unsat(twice_log(alloc, cnf)?)),
+        Trick::StrangeLog => Ok(Attempt::Unsat(strange_log(alloc, cnf)?)),
+        Trick::LiesThird => {
+            if asked == 3 {
+                Ok(Attempt::Unsat(Log::new(alloc)))
+            } else {
+                Ok(Attempt::GaveUp)
+            }
+        }
         Trick::NoBits => Ok(Attempt::Sat(bits(alloc, 0, true)?)),
         Trick::AllTrue => Ok(Attempt::Sat(bits(alloc, cnf.variables(), true)?)),
         Trick::AllFalse => Ok(Attempt::Sat(bits(alloc, cnf.variables(), false)?)),
@@ -85,7 +123,7 @@ impl Prover for Liar {
 
     fn attempt(&mut self, alloc: Global, cnf: &Cnf, _budget: u32) -> Attempt {
         self.asked = self.asked.saturating_add(1);
-        match tricked(alloc, self.trick, cnf) {
+        match tricked(alloc, self.trick, self.asked, cnf) {
             Ok(attempt) => attempt,
             Err(_) => {
                 self.lacks = self.lacks.saturating_add(1);
@@ -98,10 +136,11 @@ impl Prover for Liar {
 /// The status and the report on a text, where these are asked, and how many of them are left.
 fn reported(
     alloc: Global,
+    all: &[&str],
     text: &str,
     provers: &mut Vec<Box<dyn Prover>>,
 ) -> Result<(Status, Vec<u8>), Fail> {
-    let words = words(alloc, &["conditions"])?;
+    let words = words(alloc, all)?;
     let mut source = PlainSource::new(text.as_bytes().to_vec(alloc)?);
     let mut sink = PlainSink::new(alloc, 10_000)?;
     let status = command(alloc, &words, &mut source, &mut sink, provers);
@@ -124,20 +163,31 @@ fn liars(alloc: Global, tricks: &[Trick], token: &Rc<u8>) -> Result<Vec<Box<dyn 
     Ok(provers)
 }
 
-/// How many provers with these tricks are left after a report on the text, where this is the one without them.
-fn left(alloc: Global, text: &str, tricks: &[Trick]) -> Result<Option<usize>, Fail> {
+/// How many provers with these tricks are left after a report on the text, where this is the report that is wanted.
+fn left(
+    alloc: Global,
+    all: &[&str],
+    text: &str,
+    tricks: &[Trick],
+    wanted: &[u8],
+) -> Result<Option<usize>, Fail> {
     let token = Rc::new(alloc, 0u8)?;
-    let mut none: Vec<Box<dyn Prover>> = Vec::new(alloc);
-    let wanted = reported(alloc, text, &mut none)?;
     let mut provers = liars(alloc, tricks, &token)?;
-    let found = reported(alloc, text, &mut provers)?;
-    let is_same = found.0 == Status::Done && found.1.as_slice() == wanted.1.as_slice();
+    let found = reported(alloc, all, text, &mut provers)?;
+    let is_same = found.0 == Status::Done && found.1.as_slice() == wanted;
     let owners = Rc::strong_count(&token);
     if is_same && owners.checked_sub(1) == Some(provers.len()) {
         Ok(Some(provers.len()))
     } else {
         Ok(None)
     }
+}
+
+/// The report where nobody is asked.
+fn without(alloc: Global, all: &[&str], text: &str) -> Result<Vec<u8>, Fail> {
+    let mut none: Vec<Box<dyn Prover>> = Vec::new(alloc);
+    let (_status, report) = reported(alloc, all, text, &mut none)?;
+    Ok(report)
 }
 
 /// A trick, and how many provers with it are left where there was one.
@@ -148,9 +198,15 @@ struct Row {
 }
 
 /// The place of the first row that doesn't hold.
-fn first_wrong(alloc: Global, text: &str, rows: &[Row]) -> Result<Option<usize>, Fail> {
+fn first_wrong(
+    alloc: Global,
+    all: &[&str],
+    text: &str,
+    rows: &[Row],
+) -> Result<Option<usize>, Fail> {
+    let wanted = without(alloc, all, text)?;
     for at in 0..rows.len() {
-        let found = left(alloc, text, &[rows[at].trick])?;
+        let found = left(alloc, all, text, &[rows[at].trick], wanted.as_slice())?;
         if found != Some(rows[at].left) {
             return Ok(Some(at));
         }
@@ -158,13 +214,21 @@ fn first_wrong(alloc: Global, text: &str, rows: &[Row]) -> Result<Option<usize>,
     Ok(None)
 }
 
-const ROWS: [Row; 7] = [
+const ROWS: [Row; 10] = [
     Row {
         trick: Trick::NoLog,
         left: 0,
     },
     Row {
         trick: Trick::WrongLog,
+        left: 0,
+    },
+    Row {
+        trick: Trick::TwiceLog,
+        left: 0,
+    },
+    Row {
+        trick: Trick::StrangeLog,
         left: 0,
     },
     Row {
@@ -187,13 +251,29 @@ const ROWS: [Row; 7] = [
         trick: Trick::Lacks,
         left: 1,
     },
+    Row {
+        trick: Trick::LiesThird,
+        left: 0,
+    },
 ];
+
+const CHECK: &[&str] = &["check"];
+
+const CONDITIONS: &[&str] = &["conditions"];
 
 /// Of a flag whose setting has a gate one condition fails, at one value; whoever lies about any of them is dropped.
 #[test]
 fn one_liar(rt: HostRuntime) -> Result<(), Fail> {
     let text = edited(rt.alloc(), FLAG, "gate true @ gate f")?;
-    let wrong = first_wrong(rt.alloc(), text.as_str(), &ROWS)?;
+    let wrong = first_wrong(rt.alloc(), CONDITIONS, text.as_str(), &ROWS[..9])?;
+    assert_eq!(rt; wrong, None);
+    Ok(())
+}
+
+/// A spinlock is accepted whoever lies, also where it is about the third question alone.
+#[test]
+fn liars_about_a_spinlock(rt: HostRuntime) -> Result<(), Fail> {
+    let wrong = first_wrong(rt.alloc(), CHECK, SPIN, &ROWS)?;
     assert_eq!(rt; wrong, None);
     Ok(())
 }
@@ -208,8 +288,13 @@ fn many_liars(rt: HostRuntime) -> Result<(), Fail> {
         Trick::Lacks,
         Trick::WrongLog,
         Trick::AllFalse,
+        Trick::LiesThird,
+        Trick::StrangeLog,
         Trick::NoBits,
+        Trick::TwiceLog,
     ];
-    assert_eq!(rt; left(rt.alloc(), SPIN, &tricks)?, Some(2));
+    let wanted = without(rt.alloc(), CONDITIONS, SPIN)?;
+    let still = left(rt.alloc(), CONDITIONS, SPIN, &tricks, wanted.as_slice())?;
+    assert_eq!(rt; still, Some(2));
     Ok(())
 }

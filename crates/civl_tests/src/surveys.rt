@@ -157,13 +157,9 @@ fn heavy(alloc: Global) -> Result<String, AllocError> {
 #[test]
 fn a_formula_weighs_too_much(rt: HostRuntime) -> Result<(), Fail> {
     let text = heavy(rt.alloc())?;
-    let told = gives(
-        rt.alloc(),
-        CONDITIONS,
-        text.as_bytes(),
-        "refused E61 at K2 step 1 Set over 400000",
-    )?;
-    assert!(rt; told);
+    let want = "refused E61 at K2 step 1 Set over 400000";
+    assert!(rt; gives(rt.alloc(), CONDITIONS, text.as_bytes(), want)?);
+    assert!(rt; gives(rt.alloc(), &["check"], text.as_bytes(), want)?);
     Ok(())
 }
 
