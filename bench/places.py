@@ -35,9 +35,17 @@ thread Main(1:2);
 ADD = "call Add(1:2) -> ();"
 SCRIPT = "thread Main(1:2);\nschedule x = 0:2; pool = 0:4;\nmove 0 (); move 0 (1:2);\n"
 
-# The command, the change, what civl says (the first line with these words), and the places, as line:column.
+TWO = "action Two(lend a : word(2), lend b : word(2)) -> () choose () layers 0 to 1 atomic gate true guard true { }\n"
+
+
+def products(count):
+    """A sum of so many products of 32 bits."""
+    return "(5:32 * 7:32)" if count == 1 else f"({products(count // 2)} + {products(count - count // 2)})"
+
+
+# The command, the changes (what, and what is put in its place), what civl says (the first line with these words), and the places, as line:column.
 TRIES = [
-    ("check", ("", ""), "accepted", []),
+    ("check", (), "accepted", []),
     ("check", ("Step() ->", "Step() $ ->"), "refused E02 at byte 437", ["11:15"]),
     ("check", ("init (pool", "init pool"), "refused E03 at token 36", ["5:11"]),
     ("check", ("thread Main(1:2);\n", "thread Main(1:2)"), "refused E03 at token 247", ["18:17"]),
@@ -47,7 +55,7 @@ TRIES = [
     ("check", ("layers 1; perm", "layers 9; perm"), "refused E12 at item 0 statement 0", ["1:1", "3:1"]),
     ("check", ("b := true;", "b := (1:1 == 2:1);"), "refused E20 at item 7 statement 1", ["12:1", "14:19"]),
     ("check", ("if b {", "if 1:2 {"), "refused E21 at item 7 statement 0", ["12:1", "14:3"]),
-    ("check", ("x : word(2)", "x : row(7, 2)"), "refused E22 at item 0 statement 0", ["3:1"]),
+    ("check", ("global linear", "global r : row(7, 2) layers 0 to 1;\nglobal linear"), "refused E22 at item 1 statement 0", ["4:1"]),
     ("check", (ADD, "call Add() -> ();"), "refused E23 at item 7 statement 2", ["12:1", "15:3"]),
     ("check", ("global linear", "global r : row(6, 32) layers 0 to 1;\nglobal s : row(6, 32) layers 0 to 1;\nglobal linear"),
      "refused E24 at item 2 statement 0", ["5:1"]),
@@ -57,6 +65,9 @@ TRIES = [
     ("check", ("call Do() -> ();", "call Add(1:2) -> ();"), "refused E33 at item 8 statement 0", ["17:1", "17:42"]),
     ("check", ("action Step()", "action Step(val v : bool)"), "refused E34 at item 7 statement 0", ["12:1", "14:3"]),
     ("check", ("commit;", "commit; intro x := 0:2;"), "refused E35 at item 7 statement 4", ["12:1", "15:32"]),
+    ("check", ("// A comment;", "// A comment;" + 1048576 * "x"), "refused E01 over 1048576 bytes", ["2:1048544"]),
+    ("check", ("proc Do()", TWO + "proc Do()", "call Put(t)", "call Two(t, t) -> (); call Put(t)"), "refused E41 at item 9 statement 1", ["18:1", "18:59"]),
+    ("check", ("invariant 1 true", f"invariant 1 ({products(200)} == 0:32)"), "refused E61 at K1 step 1 invariant 0 over 400000", ["5:1", "6:1"]),
     ("check", ("call Put(t) -> ();", "call Put(t) -> (); call Put(t) -> ();"), "refused E40 at item 8 statement 2", ["17:1", "17:78"]),
     ("check", ("root { call Do() -> ();", "root { while false { call Put(t) -> (); }"), "refused E42 at item 8 statement 0", ["17:1", "17:42"]),
     ("check", ("Main(take t", "Main(lend t"), "refused E42 at item 8 statement 2", ["17:1", "17:78"]),
@@ -83,7 +94,10 @@ def answered(words):
 
 def wrong(binary, command, change, said, wanted):
     """What is told of a try; None where all is as wanted."""
-    text = FRAME.replace(*change) if change[0] else FRAME
+    text = FRAME
+    for old, new in zip(change[::2], change[1::2]):
+        assert old in text, old
+        text = text.replace(old, new)
     with tempfile.TemporaryDirectory() as folder:
         path = os.path.join(folder, "text")
         with open(path, "w") as file:
@@ -92,7 +106,7 @@ def wrong(binary, command, change, said, wanted):
             with open(path) as file:
                 report = subprocess.run([binary, *command.split()], stdin=file, capture_output=True, text=True).stdout.splitlines()
             if not any(line.startswith(said) for line in report):
-                return f"{change}: {said!r} is wanted, and it says {report[:1]}"
+                return f"{str(change)[:200]}: {said!r} is wanted, and it says {report[:1]}"
         lines = answered([sys.executable, PLACE, path, said]).stdout.splitlines()[::2]
     found = [":".join(line[len(path) + 1:].split(":")[:2]) for line in lines]
     return None if found == wanted else f"{said}: the places are {found}, and {wanted} are wanted"
