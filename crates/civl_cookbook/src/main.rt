@@ -6,7 +6,7 @@
 #![tactic(auto)]
 
 use civl_cnf::Bits;
-use civl_command::command;
+use civl_command::{Status, command};
 use civl_outside::{PlainSink, PlainSource, RealSink, Sent, write_all};
 use civl_portfolio::Prover;
 use civl_provers::{Probe, Splitter};
@@ -48,26 +48,31 @@ const DEPTH: u32 = 8;
 /// How many bytes of a report are kept. Those of the cookbook have some hundreds.
 const ROOM: usize = 100_000;
 
-/// The provers of the program `civl`.
-fn provers(alloc: Global) -> Result<Vec<Box<dyn Prover>>, AllocError> {
+/// The prover whose one try is that all bits are false.
+fn probe(alloc: Global) -> Result<Probe, AllocError> {
     let Ok(bits) = Bits::new(alloc, BITS) else {
         return Err(AllocError);
     };
     let mut tries = Vec::new(alloc);
     tries.push(bits)?;
+    Ok(Probe::new(tries))
+}
+
+/// What these words are answered, with the provers of the program `civl`.
+fn answer(
+    alloc: Global,
+    words: &Vec<String>,
+    source: &mut PlainSource,
+    sink: &mut PlainSink,
+) -> Result<Status, AllocError> {
     let mut provers: Vec<Box<dyn Prover>> = Vec::new(alloc);
-    provers.push(Box::new(alloc, Probe::new(tries))?)?;
+    provers.push(Box::new(alloc, probe(alloc)?)?)?;
     provers.push(Box::new(alloc, Splitter::new(DEPTH))?)?;
-    Ok(provers)
+    Ok(command(alloc, words, source, sink, &mut provers))
 }
 
 /// The report of these words on a text.
-fn report(
-    alloc: Global,
-    all: &[&str],
-    text: Vec<u8>,
-    provers: &mut Vec<Box<dyn Prover>>,
-) -> Result<Vec<u8>, AllocError> {
+fn report(alloc: Global, all: &[&str], text: Vec<u8>) -> Result<Vec<u8>, AllocError> {
     let mut words = Vec::new(alloc);
     for word in all {
         words.push(String::from_str(alloc, word)?)?;
@@ -76,7 +81,7 @@ fn report(
     let Ok(mut sink) = PlainSink::new(alloc, ROOM) else {
         return Err(AllocError);
     };
-    let _status = command(alloc, &words, &mut source, &mut sink, provers);
+    let _status = answer(alloc, &words, &mut source, &mut sink)?;
     sink.bytes().to_vec(alloc)
 }
 
@@ -102,11 +107,7 @@ fn line(alloc: Global, name: &str, report: &[u8], lines: usize) -> Result<Vec<u8
 }
 
 /// The lines of one design.
-fn lines(
-    rt: &HostRuntime,
-    design: &str,
-    provers: &mut Vec<Box<dyn Prover>>,
-) -> io::Result<Vec<u8>> {
+fn lines(rt: &HostRuntime, design: &str) -> io::Result<Vec<u8>> {
     let alloc = rt.alloc();
     let broken = format!(in alloc; "{design}_broken")?;
     let schedule = format!(in alloc; "{design}_broken.schedule")?;
@@ -116,21 +117,20 @@ fn lines(
     script.extend_from_slice(fs::read(rt, schedule.as_str())?.as_slice())?;
 
     let mut lines = Vec::new(alloc);
-    let right = report(alloc, &["check"], text, provers)?;
+    let right = report(alloc, &["check"], text)?;
     lines.extend_from_slice(line(alloc, design, right.as_slice(), 1)?.as_slice())?;
-    let wrong = report(alloc, &["check"], twin, provers)?;
+    let wrong = report(alloc, &["check"], twin)?;
     lines.extend_from_slice(line(alloc, broken.as_str(), wrong.as_slice(), 1)?.as_slice())?;
-    let run = report(alloc, &["run", "low"], script, provers)?;
+    let run = report(alloc, &["run", "low"], script)?;
     lines.extend_from_slice(line(alloc, schedule.as_str(), run.as_slice(), 2)?.as_slice())?;
     Ok(lines)
 }
 
 /// Writes the lines of all designs.
 fn book(rt: &HostRuntime) -> io::Result<Sent> {
-    let mut provers = provers(rt.alloc())?;
     let mut sink = RealSink::new(io::writer(rt));
     for design in DESIGNS {
-        let lines = lines(rt, design, &mut provers)?;
+        let lines = lines(rt, design)?;
         match write_all(&mut sink, lines.as_slice()) {
             Sent::All => {}
             fault => return Ok(fault),
