@@ -1,5 +1,5 @@
 -- What stands among statements, one statement at a time.
-use Rattle.std.proofs.Common.{◌≡◌, ℕ, ◌+◌, ◌<◌, List, ◌∷◌, drop, length, get_or, refl, sym, ap, ◌∙◌, add-one, drop-cons, Option}
+use Rattle.std.proofs.Common.{◌≡◌, ℕ, ◌+◌, ◌<◌, List, ◌∷◌, drop, length, get_or, refl, ap, ◌∙◌, add-one, drop-cons, Option}
 use Rattle.std.proofs.lemmas.Bool.{lt-ltb, eq-eqb, ne_eqb}
 use Rattle.std.specs.Prelude.{nat_lt, nat_eq, if◌then◌else◌}
 use Rattle.civl_tree.specs.declared.stmt.Stmt.{Stmt, the_lemmas as of_stmt}
@@ -34,13 +34,5 @@ among_inside s ss at next after wanted h e = among_is s ss at next after wanted 
 
 pub drop_is : (ss : List Stmt) (i : ℕ) (s : Stmt) → i < length ss → s ≡ get_or ss i s → drop i ss ≡ s ∷ drop (i + 1) ss
 drop_is ss i s h e = rw (add-one, drop-cons ss i s, ← e)
-
-pub here_drop : (ss : List Stmt) (i : ℕ) (s : Stmt) (at next : ℕ) (after : Option Spot) (wanted : ℕ) → i < length ss → s ≡ get_or ss i s → wanted < at + size_of s → wanted ≡ at → spot_among (drop i ss) at next after wanted ≡ first_in (drop i ss) at next after
-here_drop ss i s at next after wanted h e l q =
-    ap (λ (r : List Stmt). spot_among r at next after wanted) (drop_is ss i s h e) ∙ among_here s (drop (i + 1) ss) at next after wanted l q ∙ ap (λ (r : List Stmt). first_in r at next after) (sym (drop_is ss i s h e))
-
-pub inside_drop : (ss : List Stmt) (i : ℕ) (s : Stmt) (at next : ℕ) (after : Option Spot) (wanted : ℕ) → i < length ss → s ≡ get_or ss i s → wanted < at + size_of s → (wanted ≡ at → ⊥) → spot_among (drop i ss) at next after wanted ≡ inside_of s s at (start_of (drop (i + 1) ss) (at + size_of s) next) (first_in (drop (i + 1) ss) (at + size_of s) next after) wanted
-inside_drop ss i s at next after wanted h e l q =
-    ap (λ (r : List Stmt). spot_among r at next after wanted) (drop_is ss i s h e) ∙ among_inside s (drop (i + 1) ss) at next after wanted l q
 
 pub ruleset finding = (inside_is, of_stmt)

@@ -16,3 +16,5 @@ pub mod Begun
 pub mod Spots
 pub mod Calling
 pub mod Stacking
+pub mod Tables
+pub mod Zipping

@@ -13,7 +13,7 @@ use Rattle.civl_meaning.proofs.Finding.{among_is, among_here, among_inside}
 
 -- ---- sizes
 
-sizes_more : (s : Stmt) (ss : List Stmt) → sizes_of (s ∷ ss) ≡ size_of s + sizes_of ss
+pub sizes_more : (s : Stmt) (ss : List Stmt) → sizes_of (s ∷ ss) ≡ size_of s + sizes_of ss
 sizes_more s ss = grind (arith, common_steps)
 
 pub size_is : (s : Stmt) → size_of s ≡ size_step (map-Stmt Stmt ℕ size_of (out-Stmt s))
@@ -26,7 +26,7 @@ layer_is_some (YieldLoop e i a) = omega arith
 layer_is_some (RankLoop e r i a) = omega arith
 layer_is_some _ = omega arith
 
-size_is_some : (s : Stmt) → 1 ≤ size_of s
+pub size_is_some : (s : Stmt) → 1 ≤ size_of s
 size_is_some s = let h = layer_is_some (map-Stmt Stmt ℕ size_of (out-Stmt s)) in let e = size_is s in omega arith
 
 -- ---- among statements
@@ -47,7 +47,7 @@ pub start_below : (ss : List Stmt) (b next m : ℕ) → b ≤ m → next ≤ m �
 start_below [] b next m h n = n
 start_below (s ∷ ss) b next m h n = h
 
-among_past : (s : Stmt) (ss : List Stmt) (at next : ℕ) (after : Option Spot) (w : ℕ) → at + size_of s ≤ w → spot_among (s ∷ ss) at next after w ≡ spot_among ss (at + size_of s) next after w
+pub among_past : (s : Stmt) (ss : List Stmt) (at next : ℕ) (after : Option Spot) (w : ℕ) → at + size_of s ≤ w → spot_among (s ∷ ss) at next after w ≡ spot_among ss (at + size_of s) next after w
 among_past s ss at next after w h = among_is s ss at next after w ∙ rw (le-ltb w (at + size_of s) h) refl
 
 lift_here : (s : Stmt) (ss : List Stmt) (at next : ℕ) (after r : Option Spot) → Here ss (at + size_of s) next after r → Here (s ∷ ss) at next after r

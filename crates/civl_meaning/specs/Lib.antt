@@ -1,5 +1,7 @@
 pub mod Places
 pub mod Found
+pub mod Table
+pub mod Filled
 pub mod Left
 pub mod Rest
 pub mod Frame

@@ -1,5 +1,5 @@
 // What a step does.
-ghost use Rattle.std.specs.Prelude.{◌≡◌, ◌+◌, ◌^◌, ◌<◌, [], length, take, drop, slice_get, slice_set, if◌then◌else◌, IfOk};
+ghost use Rattle.std.specs.Prelude.{◌≡◌, ◌+◌, ◌^◌, ◌<◌, Some, [], length, take, drop, slice_get, slice_set, if◌then◌else◌, IfOk};
 ghost use Rattle.civl_tree.specs.declared.stmt.Stmt.{out-Stmt};
 ghost use Rattle.civl_meaning.specs.declared.config.State.TheVariants.{Before};
 ghost use Rattle.civl_firing.specs.Truth.{place_of};
@@ -16,7 +16,7 @@ ghost use Rattle.civl_meaning.specs.Meaning.{called, proc_number};
 ghost use Rattle.civl_meaning.specs.Change.{with_results, new_frame, acted, action_change, call_change, layer_change, returned_layer, returned_at, returned, leaves, outs_in, spot_change, proc_change, caller_of, change_of};
 
 use crate::config::{Activation, Change, Plain, Running, State, Stepped};
-use crate::found::{Found, begin, look_body, sizes};
+use crate::found::{Found, begin};
 use crate::meant::{Callee, of_name, of_proc};
 use civl_bits::Value;
 use civl_firing::expressions::{holds, value, values};
@@ -274,14 +274,16 @@ fn branch(
     test: &Expr,
     a: &List<Stmt>,
     b: &List<Stmt>,
+    second: usize,
 ) -> usize
-    requires { at + 1 + sizes_of a.now + sizes_of b.now < 2 ^ 64 }
+    requires at { at + 1 < 2 ^ 64 }
+    requires second { second ≡ at + 1 + sizes_of a.now }
     ensures { result ≡ (if is_true (value_of (frame_values standing.now.plain.now.program.globals standing.now.proc.now standing.now.locals.now) test.now) then start_of a.now (at + 1) next else start_of b.now (at + 1 + sizes_of a.now) next) }
 {
     if holds_in(standing, test) {
         begin(a.as_slice(), at + 1, next)
     } else {
-        begin(b.as_slice(), at + 1 + sizes(a), next)
+        begin(b.as_slice(), second, next)
     }
 }
 
@@ -348,24 +350,24 @@ fn calling(
     Ok(change)
 }
 
-/// A statement.
+/// A statement that was found.
 pub fn statement(
     alloc: Alloc,
     standing: &Standing<'_>,
     store: &Store,
     chosen: &[Value],
-    at: usize,
-    next: usize,
-    stmt: &Stmt,
+    found: &Found<'_>,
 ) -> Result<Change, Memory>
-    requires { at + size_of stmt.now < 2 ^ 64 }
-    ensures { IfOk result (λ c. c ≡ layer_change standing.now.plain.now store.now chosen.now standing.now.proc.now standing.now.locals.now at next (out-Stmt stmt.now)) }
+    requires { Fits (Some found.now) }
+    ensures { IfOk result (λ c. c ≡ layer_change standing.now.plain.now store.now chosen.now standing.now.proc.now standing.now.locals.now found.now.number found.now.next (out-Stmt found.now.stmt.now)) }
 {
-    match stmt {
+    let at = found.number;
+    let next = found.next;
+    match found.stmt {
         Stmt::Assign(name, expr) => assigned(alloc, standing, next, name, expr),
         Stmt::Assert(expr) => asserted(alloc, standing, next, expr),
         Stmt::If(test, a, b) => {
-            let place = branch(standing, at, next, test, a, b);
+            let place = branch(standing, at, next, test, a, b, found.second);
             let change = goes(alloc, standing.locals, place)?;
             Ok(change)
         }

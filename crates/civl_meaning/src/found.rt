@@ -1,17 +1,20 @@
 // What stands at a place of a procedure's body.
-ghost use Rattle.std.specs.Prelude.{◌≡◌, ◌+◌, ◌^◌, ◌<◌, sum, map, IfOk, IfSome};
-ghost use Rattle.civl_meaning.specs.Places.{is_skipped, start_of, first_in, spot_among, inside_of, spot_at, loop_spot};
+ghost use Rattle.std.specs.Prelude.{◌≡◌, ◌+◌, ◌^◌, ◌<◌, IfSome};
+ghost use Rattle.civl_tree.specs.declared.stmt.Stmt.{out-Stmt};
+ghost use Rattle.civl_meaning.specs.Places.{is_skipped, start_of, loop_spot};
 ghost use Rattle.civl_tree.specs.Numbering.{size_of, sizes_of};
-ghost use Rattle.civl_meaning.specs.Found.{spot, Fits};
+ghost use Rattle.civl_meaning.specs.Found.{spot, Fits, IsSecond};
 
-use civl_tree::{List, Memory, Stmt};
+use civl_tree::{List, Stmt};
 
-/// A statement, its number, and the place that comes after it.
+/// A statement, its number, and the place that comes after it. `second` is the place of the second branch of an `if`; at
+/// others it says nothing.
 #[derive(Clone, Copy)]
 pub struct Found<'a> {
     pub number: usize,
     pub stmt: &'a Stmt,
     pub next: usize,
+    pub second: usize,
 }
 
 /// How many statements a statement is, with those inside it, where a number says it.
@@ -93,70 +96,19 @@ pub fn begin(stmts: &[Stmt], at: usize, next: usize) -> usize
     }
 }
 
-/// The first statement of a plain program among these, or what comes after them.
-fn first<'a>(
-    stmts: &'a [Stmt],
-    at: usize,
-    next: usize,
-    after: Option<Found<'a>>,
-) -> Option<Found<'a>>
-    requires small { at + sum (map size_of stmts.now) < 2 ^ 64 }
-    requires after { Fits after }
-    ensures spot { spot result ≡ first_in stmts.now at next (spot after.entry) }
-    ensures fits { Fits result }
+/// The place of an `if`'s second branch.
+fn second(stmt: &Stmt, at: usize) -> usize
+    requires { at + size_of stmt.now < 2 ^ 64 }
+    ensures { IsSecond result at (out-Stmt stmt.now) }
 {
-    let mut here = at;
-    for i in 0..stmts.len() {
-        let stmt = &stmts[i];
-        let behind = here + size(stmt);
-        if !skipped(stmt) {
-            let next = begin(&stmts[i + 1..], behind, next);
-            return Some(Found {
-                number: here,
-                stmt,
-                next,
-            });
-        }
-        here = behind;
+    match stmt {
+        Stmt::If(_, a, _) => at + 1 + sizes(a),
+        _ => at,
     }
-    after
 }
 
-/// What stands at a place among these statements.
-#[cycle(look)]
-fn look<'a>(
-    stmts: &'a List<Stmt>,
-    at: usize,
-    next: usize,
-    after: Option<Found<'a>>,
-    wanted: usize,
-) -> Option<Found<'a>>
-    requires small { at + sizes_of stmts.now < 2 ^ 64 }
-    requires after { Fits after }
-    ensures spot { spot result ≡ spot_among stmts.now at next (spot after.entry) wanted }
-    ensures fits { Fits result }
-{
-    let items = stmts.as_slice();
-    let mut here = at;
-    for i in 0..items.len() {
-        let stmt = &items[i];
-        let behind = here + size(stmt);
-        if wanted < behind {
-            if wanted == here {
-                return first(&items[i..], here, next, after);
-            }
-            let rest = &items[i + 1..];
-            let after = first(rest, behind, next, after);
-            let next = begin(rest, behind, next);
-            return look_inside(stmt, here, next, after, wanted);
-        }
-        here = behind;
-    }
-    after
-}
-
-/// A loop, which comes again behind its body.
-fn again<'a>(stmt: &'a Stmt, at: usize, next: usize) -> Option<Found<'a>>
+/// A statement of a plain program, as it is found at its own number.
+pub fn itself<'a>(stmt: &'a Stmt, at: usize, next: usize) -> Option<Found<'a>>
     requires { at + size_of stmt.now < 2 ^ 64 }
     ensures spot { spot result ≡ loop_spot stmt.now at next }
     ensures fits { Fits result }
@@ -165,57 +117,6 @@ fn again<'a>(stmt: &'a Stmt, at: usize, next: usize) -> Option<Found<'a>>
         number: at,
         stmt,
         next,
+        second: second(stmt, at),
     })
-}
-
-/// What stands at a place inside a statement.
-#[cycle(look)]
-#[tactic(auto, using(crate::proofs::Finding::finding))]
-fn look_inside<'a>(
-    stmt: &'a Stmt,
-    at: usize,
-    next: usize,
-    after: Option<Found<'a>>,
-    wanted: usize,
-) -> Option<Found<'a>>
-    requires small { at + size_of stmt.now < 2 ^ 64 }
-    requires after { Fits after }
-    ensures spot { spot result ≡ inside_of stmt.now stmt.now at next (spot after.entry) wanted }
-    ensures fits { Fits result }
-{
-    match stmt {
-        Stmt::If(_, a, b) => {
-            let second = at + 1 + sizes(a);
-            if wanted < second {
-                look(a, at + 1, next, after, wanted)
-            } else {
-                look(b, second, next, after, wanted)
-            }
-        }
-        Stmt::While(_, a) => look(a, at + 1, at, again(stmt, at, next), wanted),
-        Stmt::YieldLoop(_, _, a) => look(a, at + 1, at, again(stmt, at, next), wanted),
-        Stmt::RankLoop(_, _, _, a) => look(a, at + 1, at, again(stmt, at, next), wanted),
-        Stmt::Assign(_, _) => after,
-        Stmt::Assert(_) => after,
-        Stmt::Call(_, _, _) => after,
-        Stmt::Yield(_) => after,
-        Stmt::Commit => after,
-        Stmt::Intro(_, _) => after,
-        Stmt::Spawn(_, _) => after,
-    }
-}
-
-/// The first statement of a plain program from a place of a body on; `None` where no statement is left.
-///
-/// # Errors
-///
-/// Where no number says how many statements the body has: there is no memory for so many.
-pub fn look_body<'a>(body: &'a List<Stmt>, wanted: usize) -> Result<Option<Found<'a>>, Memory>
-    ensures spot { IfOk result (λ found. spot found ≡ spot_at body.now wanted) }
-    ensures fits { IfOk result (λ found. Fits found) }
-{
-    match counted_all(body) {
-        None => Err(Memory),
-        Some(size) => Ok(look(body, 0, size, None, wanted)),
-    }
 }

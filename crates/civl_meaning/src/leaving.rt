@@ -2,12 +2,15 @@
 ghost use Rattle.std.specs.Prelude.{◌≡◌, length, take, drop, slice_get, IfOk};
 ghost use Rattle.civl_tree.specs.declared.stmt.Stmt.{out-Stmt};
 ghost use Rattle.civl_meaning.specs.Found.{spot, Fits};
+ghost use Rattle.civl_meaning.specs.Table.{ArePlaces};
 ghost use Rattle.civl_meaning.specs.Change.{returned_layer, returned_at, returned_in, returned, leaves, outs_in, spot_change, proc_change, caller_of, change_of};
 
 use crate::change::{Standing, first_call, frame_targets, statement, write_results};
 use crate::config::{Activation, Change, Plain, Running, State, Stepped};
-use crate::found::{Found, look_body};
+use crate::filling::found_at;
+use crate::found::Found;
 use crate::meant::of_proc;
+use crate::table::Places;
 use civl_bits::Value;
 use civl_firing::Store;
 use civl_tree::{List, Memory, Proc, Stmt};
@@ -80,9 +83,11 @@ fn returned_found(
 fn returned(
     alloc: Alloc,
     plain: &Plain,
+    places: &Places<'_>,
     outs: &[Value],
     frame: &Activation,
 ) -> Result<Activation, Memory>
+    requires { ArePlaces plain.now places.now }
     ensures { IfOk result (λ f. f ≡ returned plain.now outs.now frame.now) }
 {
     let procs = plain.program.procs.as_slice();
@@ -91,7 +96,7 @@ fn returned(
         return Ok(frame);
     }
     let proc = &procs[frame.procedure];
-    let found = look_body(&proc.body, frame.place)?;
+    let found = found_at(plain, places, frame.procedure, proc, frame.place);
     let after = returned_found(alloc, proc, outs, frame, found)?;
     Ok(after)
 }
@@ -100,15 +105,17 @@ fn returned(
 fn leave(
     alloc: Alloc,
     plain: &Plain,
+    places: &Places<'_>,
     outs: &[Value],
     below: &[Activation],
 ) -> Result<Change, Memory>
+    requires { ArePlaces plain.now places.now }
     ensures { IfOk result (λ c. c ≡ leaves plain.now outs.now (caller_of below.now)) }
 {
     if below.is_empty() {
         return Ok(Change::Leaves(None));
     }
-    let frame = returned(alloc, plain, outs, &below[below.len() - 1])?;
+    let frame = returned(alloc, plain, places, outs, &below[below.len() - 1])?;
     Ok(Change::Leaves(Some(frame)))
 }
 
@@ -145,12 +152,14 @@ fn outputs<'a>(proc: &Proc, locals: &'a [Value]) -> &'a [Value]
 fn found_change(
     alloc: Alloc,
     standing: &Standing<'_>,
+    places: &Places<'_>,
     store: &Store,
     chosen: &[Value],
     below: &[Activation],
     frame: &Activation,
     found: Option<Found<'_>>,
 ) -> Result<Change, Memory>
+    requires places { ArePlaces standing.now.plain.now places.now }
     requires frame { standing.now.locals.now ≡ frame.now.locals }
     requires found { Fits found }
     ensures { IfOk result (λ c. c ≡ spot_change standing.now.plain.now store.now chosen.now (caller_of below.now) frame.now standing.now.proc.now (spot found.entry)) }
@@ -158,19 +167,11 @@ fn found_change(
     match found {
         None => {
             let outs = outputs(standing.proc, standing.locals);
-            let change = leave(alloc, standing.plain, outs, below)?;
+            let change = leave(alloc, standing.plain, places, outs, below)?;
             Ok(change)
         }
         Some(found) => {
-            let change = statement(
-                alloc,
-                standing,
-                store,
-                chosen,
-                found.number,
-                found.next,
-                found.stmt,
-            )?;
+            let change = statement(alloc, standing, store, chosen, &found)?;
             Ok(change)
         }
     }
@@ -180,11 +181,13 @@ fn found_change(
 fn top_change(
     alloc: Alloc,
     plain: &Plain,
+    places: &Places<'_>,
     store: &Store,
     chosen: &[Value],
     below: &[Activation],
     frame: &Activation,
 ) -> Result<Change, Memory>
+    requires { ArePlaces plain.now places.now }
     ensures { IfOk result (λ c. c ≡ proc_change plain.now store.now chosen.now (caller_of below.now) frame.now (slice_get plain.now.program.procs frame.now.procedure)) }
 {
     let procs = plain.program.procs.as_slice();
@@ -192,13 +195,13 @@ fn top_change(
         return Ok(Change::Stays(Stepped::Blocked));
     }
     let proc = &procs[frame.procedure];
-    let found = look_body(&proc.body, frame.place)?;
+    let found = found_at(plain, places, frame.procedure, proc, frame.place);
     let standing = Standing {
         plain,
         proc,
         locals: frame.locals.as_slice(),
     };
-    let change = found_change(alloc, &standing, store, chosen, below, frame, found)?;
+    let change = found_change(alloc, &standing, places, store, chosen, below, frame, found)?;
     Ok(change)
 }
 
@@ -206,10 +209,12 @@ fn top_change(
 pub fn change_of(
     alloc: Alloc,
     plain: &Plain,
+    places: &Places<'_>,
     store: &Store,
     chosen: &[Value],
     thread: &Running,
 ) -> Result<Change, Memory>
+    requires { ArePlaces plain.now places.now }
     ensures { IfOk result (λ c. c ≡ change_of plain.now store.now chosen.now thread.now) }
 {
     match &thread.state {
@@ -220,7 +225,7 @@ pub fn change_of(
             Ok(change)
         }
         State::Inside(below, frame) => {
-            let change = top_change(alloc, plain, store, chosen, below.as_slice(), frame)?;
+            let change = top_change(alloc, plain, places, store, chosen, below.as_slice(), frame)?;
             Ok(change)
         }
     }

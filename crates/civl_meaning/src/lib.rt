@@ -16,6 +16,7 @@ mod change;
 mod config;
 mod configs;
 mod faults;
+mod filling;
 mod found;
 mod frame_copy;
 mod framing;
@@ -25,6 +26,7 @@ mod meant;
 mod moving;
 mod seeking;
 mod starting;
+mod table;
 
 pub use civl_firing::{
     Fired, Scope, Store, each_store_is_numbered, evaluate, fire, names, place, truth_table,
@@ -32,7 +34,9 @@ pub use civl_firing::{
 pub use config::{Activation, Config, Move, Plain, Running, State, Stepped};
 pub use configs::{copy_config, depth, same, store, threads};
 pub use faults::failing;
+pub use filling::places_of;
 pub use frame_copy::Frame;
 pub use framing::frame;
 pub use moving::step;
 pub use starting::start;
+pub use table::Places;

@@ -1,9 +1,11 @@
 // A step of a configuration.
 ghost use Rattle.std.specs.Prelude.{◌≡◌, ◌<◌, ◌≤◌, ◌+◌, ◌-◌, ◌++◌, ◌∷◌, [], length, take, slice_get, slice_set, Some, IfOk, IfErr, IfSome, OnErr};
+ghost use Rattle.civl_meaning.specs.Table.{ArePlaces};
 ghost use Rattle.civl_meaning.specs.Step.{goes_on, enters, left, moves_on, step_with, step_of};
 
 use crate::config::{Activation, Change, Config, Move, Plain, Running, State, Stepped};
 use crate::leaving::change_of;
+use crate::table::Places;
 use civl_bits::Value;
 use civl_tree::{List, Memory};
 use std::alloc::Global;
@@ -223,17 +225,20 @@ fn apply(alloc: Global, config: &mut Config, at: usize, change: Change) -> Resul
 
 /// One step of a configuration: the thread of the move takes one, with the move's values for the choices of an action
 /// that it calls. After any other answer than `Moved`, and for want of memory, the configuration is as it was. There is
-/// one thread more at most.
+/// one thread more at most. What stands at its place is looked up in the table of the program's places, which
+/// [`places_of`](crate::places_of) makes, so that a step takes no longer in a longer body.
 ///
 /// # Errors
 ///
-/// For want of memory; and where no `usize` says how many statements a body has, since no memory holds so many.
+/// For want of memory.
 pub fn step(
     alloc: Global,
     config: &mut Config,
     plain: &Plain,
+    places: &Places<'_>,
     chosen: &Move,
 ) -> Result<Stepped, Memory>
+    requires { ArePlaces plain.now places.now }
     ensures ok { IfOk result (λ a. (a, config.new) ≡ step_of plain.now config.old chosen.now) }
     ensures err { OnErr result (config.new ≡ config.old) }
     ensures more { length config.new.threads ≤ length config.old.threads + 1 }
@@ -246,6 +251,7 @@ pub fn step(
     let change = change_of(
         alloc,
         plain,
+        places,
         &config.store,
         chosen.choices.as_slice(),
         thread,

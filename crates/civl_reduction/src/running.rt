@@ -3,7 +3,7 @@ ghost use Rattle.std.specs.Prelude.{◌≡◌, ◌+◌, ◌<◌, ◌≤◌, ◌^
 ghost use Rattle.civl_reduction.specs.Ends.{end_of};
 ghost use Rattle.civl_reduction.specs.Swap.{RunAlike, RunsFailing};
 
-use civl_meaning::{Config, Move, Plain, Stepped, copy_config, failing, same, step};
+use civl_meaning::{Config, Move, Plain, Stepped, copy_config, failing, places_of, same, step};
 use civl_tree::Memory;
 use std::alloc::Global;
 
@@ -17,9 +17,10 @@ pub fn end_of(
     ensures end { IfOk result (λ end. end ≡ end_of plain.now moves.now from.now) }
     ensures few { IfOk result (λ end. IfSome end (λ c. length c.threads ≤ length from.now.threads + length moves.now)) }
 {
+    let places = places_of(alloc, plain)?;
     let mut config = copy_config(alloc, from)?;
     for chosen in moves {
-        let answer = step(alloc, &mut config, plain, chosen)?;
+        let answer = step(alloc, &mut config, plain, &places, chosen)?;
         if answer != Stepped::Moved {
             return Ok(None);
         }

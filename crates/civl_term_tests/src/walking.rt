@@ -5,7 +5,7 @@ use crate::notes::{Moment, value_at};
 use civl_bits::Value;
 use civl_firing::Store;
 use civl_layers::{Cut, CutKind};
-use civl_meaning::{Config, Frame, Move, Stepped, step};
+use civl_meaning::{Config, Frame, Move, Stepped, places_of, step};
 use civl_tree::{Global, List, Name, Stmt};
 use std::alloc::Global as Alloc;
 use std::test::Fail;
@@ -181,11 +181,12 @@ fn answer(
     config: &mut Config,
     chosen: &Move,
 ) -> Result<Stepped, Fail> {
-    let answer = step(alloc, config, course.plain, course.none)?;
+    let places = places_of(alloc, course.plain)?;
+    let answer = step(alloc, config, course.plain, &places, course.none)?;
     if answer != Stepped::BadChoices {
         return Ok(answer);
     }
-    let answer = step(alloc, config, course.plain, chosen)?;
+    let answer = step(alloc, config, course.plain, &places, chosen)?;
     Ok(answer)
 }
 

@@ -6,7 +6,8 @@ use civl_bits::Value;
 use civl_command::Status;
 use civl_lex::tokens;
 use civl_meaning::{
-    Config, Move, Plain, Stepped, Store, copy_config, depth, failing, frame, same, start, step,
+    Config, Move, Plain, Stepped, Store, copy_config, depth, failing, frame, places_of, same,
+    start, step,
 };
 use civl_parser::parse;
 use civl_tree::List;
@@ -46,11 +47,12 @@ fn with_flag(alloc: Global, plain: &Plain) -> Result<Config, Fail> {
 
 /// Whether the thread moves.
 fn moves(alloc: Global, config: &mut Config, plain: &Plain, thread: u32) -> Result<bool, Fail> {
+    let places = places_of(alloc, plain)?;
     let chosen = Move {
         thread,
         choices: List::new(alloc),
     };
-    let stepped = step(alloc, config, plain, &chosen)?;
+    let stepped = step(alloc, config, plain, &places, &chosen)?;
     Ok(stepped == Stepped::Moved)
 }
 

@@ -18,7 +18,11 @@ use Rattle.std.specs.Prelude.{ℕ, ◌≡◌, List, [], ◌∷◌, map, Option, 
 use Rattle.civl_tree.specs.declared.expr.Expr as expr
 use Rattle.civl_tree.specs.declared.stmt.Stmt.{Stmt}
 use Rattle.civl_tree.specs.declared.stmt.Stmt as stmt
+use Rattle.civl_tree.specs.declared.program.Proc.{Proc}
+use Rattle.civl_meaning.specs.declared.table.BodyPlaces.{BodyPlaces}
 use Rattle.civl_meaning.specs.Places.{Spot, spot_at}
+use Rattle.civl_meaning.specs.Found.{spot}
+use Rattle.civl_meaning.specs.Table.{entry, ArePlacesOf}
 use Rattle.civl_tree.specs.Numbering.{sizes_of}
 use Rattle.civl_firing.specs.examples.Written.{named, name, call}
 
@@ -53,4 +57,18 @@ PlacesInOrder =
 abbrev pub PlacesBehind : Type 0
 PlacesBehind =
     map (λ place. numbers (spot_at nested place)) (7 ∷ 8 ∷ 9 ∷ 10 ∷ 11 ∷ 12 ∷ 13 ∷ [])
+    ≡ Some (7, 8) ∷ Some (8, 10) ∷ Some (8, 10) ∷ Some (10, 12) ∷ Some (11, 10) ∷ None ∷ None ∷ []
+
+-- a table of a procedure with this body finds the same: the entries of the two `yield`s, 2 and 9, of the `commit`, 4, and of
+-- the `intro`, 6, are what comes after them, and at the last `commit`, 12, and at the exit there is nothing
+abbrev pub TableInOrder : Type 0
+TableInOrder =
+    (proc : Proc) (places : BodyPlaces) → proc.body ≡ nested → ArePlacesOf proc places →
+    map (λ place. numbers (spot (entry places.found.items place))) (0 ∷ 1 ∷ 2 ∷ 3 ∷ 4 ∷ 5 ∷ 6 ∷ [])
+    ≡ Some (0, 1) ∷ Some (1, 8) ∷ Some (3, 8) ∷ Some (3, 8) ∷ Some (5, 6) ∷ Some (5, 6) ∷ Some (3, 8) ∷ []
+
+abbrev pub TableBehind : Type 0
+TableBehind =
+    (proc : Proc) (places : BodyPlaces) → proc.body ≡ nested → ArePlacesOf proc places →
+    map (λ place. numbers (spot (entry places.found.items place))) (7 ∷ 8 ∷ 9 ∷ 10 ∷ 11 ∷ 12 ∷ 13 ∷ [])
     ≡ Some (7, 8) ∷ Some (8, 10) ∷ Some (8, 10) ∷ Some (10, 12) ∷ Some (11, 10) ∷ None ∷ None ∷ []
