@@ -6,10 +6,10 @@ use Rattle.std.proofs.lemmas.Bool.Decides.{eqb_tells}
 use Rattle.std.proofs.lemmas.List.{get_or-set_same, get_or-set_other, get_or_default, get_or_past}
 use Rattle.civl_cnf.specs.Literal.{Literal}
 use Rattle.civl_cnf.specs.ClauseSet.{IsBelow, AreBelow}
-use Rattle.civl_rup.specs.Propagation.{Holds, IsFalsified, IsUnit, IsClosedAt, IsClosed, HasConflict}
-use Rattle.civl_rup.specs.Marks.{is_marked, marked, IsQuiet}
-use Rattle.civl_rup.proofs.MarkLemmas.{same_self, below_or_not, lt_or_eq}
-use Rattle.civl_rup.proofs.Propagating.{same_is}
+use Rattle.civl_units.specs.Propagation.{Holds, IsFalsified, IsUnit, IsClosedAt, IsClosed, HasConflict}
+use Rattle.civl_units.specs.Marks.{is_marked, marked, IsQuiet}
+use Rattle.civl_units.proofs.MarkLemmas.{same_self, below_or_not, lt_or_eq}
+use Rattle.civl_units.proofs.Propagating.{same_is}
 use Rattle.civl_cdcl.specs.Trail.{TrailState, before, IsAt, IsStep, ReasonSays, IsTrail, IsTrailOver, LastSays}
 use Rattle.civl_cdcl.specs.Analysis.{sees, HasVariable, Sees, Resolves, Analyses, HasOne, IsUnseen}
 use Rattle.civl_cdcl.specs.declared.trail.Step.{Step}

@@ -15,9 +15,9 @@ use Rattle.std.proofs.lemmas.Map.Steps.{length-le_from_distinct_below}
 use Rattle.civl_cnf.specs.Literal.{Literal}
 use Rattle.civl_cnf.specs.ClauseSet.{ClauseSet, IsBelow}
 use Rattle.civl_rup.specs.Rup.{HasEachOnce, Spends}
-use Rattle.civl_rup.proofs.MarkLemmas.{lt_or_eq, below_or_not}
+use Rattle.civl_units.proofs.MarkLemmas.{lt_or_eq, below_or_not}
 use Rattle.civl_rup.proofs.LawLemmas.{new_is_no_superset}
-use Rattle.civl_rup.proofs.Listing.{contains_or_not}
+use Rattle.civl_units.proofs.Listing.{contains_or_not}
 use Rattle.civl_cdcl.specs.Laws.{variable, negation, SpentBudgetIsSmall}
 
 abbrev choice : {A B : Type 0} → A ⊎ (A → ⊥) → B ⊎ (B → ⊥) → ℕ

@@ -4,7 +4,7 @@ use Rattle.std.specs.Prelude.{All, Option, None}
 use Rattle.std.proofs.Math.ListN.{length-set}
 use Rattle.std.proofs.lemmas.List.{get_or_default, length-take-le}
 use Rattle.civl_cnf.specs.Literal.{Literal}
-use Rattle.civl_rup.specs.Marks.{marked, IsQuiet}
+use Rattle.civl_units.specs.Marks.{marked, IsQuiet}
 use Rattle.civl_cdcl.specs.Trail.{TrailState, before, IsTrailOf, IsTrailOver, IsStanding, IsPopped, IsUnstarted, IsBack, IsCutBack}
 use Rattle.civl_cdcl.specs.declared.trail.Step.{Step}
 use Rattle.civl_cdcl.proofs.Trails.{some_step, trail_same, trail_pop, trail_unstart, before_all}

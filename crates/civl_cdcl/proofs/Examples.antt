@@ -4,9 +4,9 @@ use Rattle.std.specs.Prelude.{All, ◌≢◌}
 use Rattle.std.proofs.lemmas.List.Elements.{All-nil, All-cons}
 use Rattle.civl_cnf.specs.Literal.{Literal, truth_of}
 use Rattle.civl_cnf.specs.ClauseSet.{SatisfiesClause, assignment}
-use Rattle.civl_rup.specs.Propagation.{Holds, Fails, IsClosed}
+use Rattle.civl_units.specs.Propagation.{Holds, Fails, IsClosed}
 use Rattle.civl_rup.specs.Rup.{HasRup}
-use Rattle.civl_rup.specs.Marks.{IsQuiet}
+use Rattle.civl_units.specs.Marks.{IsQuiet}
 use Rattle.civl_rup.proofs.Replays.{refuted}
 use Rattle.civl_cdcl.specs.Outcome.{IsModel, IsLearned}
 use Rattle.civl_cdcl.specs.Laws.{ModelExcludesRefutation, variable, negation, half, square, HalfHasModels, SquareIsRefuted}

@@ -6,12 +6,12 @@ use Rattle.std.proofs.lemmas.List.{take-append-le, take_all, get_or_append_left,
 use Rattle.std.proofs.lemmas.List.Elements.{All-nil, All-cons, All-push, All-contains, Contains-get_or, Contains-append_right, Contains-push}
 use Rattle.civl_cnf.specs.Literal.{Literal, truth_of}
 use Rattle.civl_cnf.specs.ClauseSet.{ClauseSet, IsBelow, AreBelow, SatisfiesClause, Satisfies, assignment}
-use Rattle.civl_rup.specs.Propagation.{Fails}
+use Rattle.civl_units.specs.Propagation.{Fails}
 use Rattle.civl_rup.specs.Rup.{HasRup, Refutes}
-use Rattle.civl_rup.specs.Marks.{is_marked, marked, IsQuiet}
-use Rattle.civl_rup.specs.Occurrences.{OccurrenceLists, AreListed, IsSingle, IsUnitListed, AreOccurrences}
-use Rattle.civl_rup.proofs.MarkLemmas.{below_or_not, lt_or_eq}
-use Rattle.civl_rup.proofs.Listing.{single_or_not, occurrences_more}
+use Rattle.civl_units.specs.Marks.{is_marked, marked, IsQuiet}
+use Rattle.civl_units.specs.Occurrences.{OccurrenceLists, AreListed, IsSingle, IsUnitListed, AreOccurrences}
+use Rattle.civl_units.proofs.MarkLemmas.{below_or_not, lt_or_eq}
+use Rattle.civl_units.proofs.Listing.{single_or_not, occurrences_more}
 use Rattle.civl_cdcl.specs.Trail.{TrailState, before, IsTrailOver}
 use Rattle.civl_cdcl.specs.Propagation.{IsSearch, IsServed, IsDue, ChoiceSays}
 use Rattle.civl_cdcl.specs.Outcome.{IsModel, IsLearned, HaveLearned, RefutesWithin, SpendsWhole}

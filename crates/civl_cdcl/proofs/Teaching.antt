@@ -5,10 +5,10 @@ use Rattle.std.proofs.lemmas.Bool.Decides.{eqb_tells}
 use Rattle.std.proofs.lemmas.List.{get_or_default, get_or_past, get_or_append_left, get_or_push, length_push}
 use Rattle.std.proofs.lemmas.List.Elements.{All-push, All-weaker}
 use Rattle.civl_cnf.specs.Literal.{Literal}
-use Rattle.civl_rup.specs.Propagation.{Fails}
-use Rattle.civl_rup.specs.Marks.{same, is_marked, marked, IsQuiet}
-use Rattle.civl_rup.proofs.MarkLemmas.{same_self, below_or_not, lt_or_eq}
-use Rattle.civl_rup.proofs.LawLemmas.{not_not}
+use Rattle.civl_units.specs.Propagation.{Fails}
+use Rattle.civl_units.specs.Marks.{same, is_marked, marked, IsQuiet}
+use Rattle.civl_units.proofs.MarkLemmas.{same_self, below_or_not, lt_or_eq}
+use Rattle.civl_units.proofs.LawLemmas.{not_not}
 use Rattle.civl_cdcl.specs.Trail.{TrailState, those, before, IsTrail, IsTrailOver, LastSays}
 use Rattle.civl_cdcl.specs.Analysis.{sees, HasOne, Negates, ReachSays, LearnSays}
 use Rattle.civl_cdcl.proofs.Trails.{some_lit, those_test, those_marked, those_by, before_place, before_by}

@@ -4,11 +4,11 @@ use Rattle.std.specs.Prelude.{IsTrue, Option, None, Some}
 use Rattle.std.proofs.lemmas.List.{get_or_append_left, length-append}
 use Rattle.std.proofs.lemmas.List.Elements.{All-push}
 use Rattle.civl_cnf.specs.Literal.{Literal}
-use Rattle.civl_rup.specs.Propagation.{Holds, IsFalsified, IsUnit, IsClosed}
+use Rattle.civl_units.specs.Propagation.{Holds, IsFalsified, IsUnit, IsClosed}
 use Rattle.civl_rup.specs.Rup.{HasRup}
-use Rattle.civl_rup.specs.Marks.{marked, IsQuiet, IsIncluded}
-use Rattle.civl_rup.proofs.MarkLemmas.{lt_or_eq}
-use Rattle.civl_rup.proofs.Propagating.{unit_grows}
+use Rattle.civl_units.specs.Marks.{marked, IsQuiet, IsIncluded}
+use Rattle.civl_units.proofs.MarkLemmas.{lt_or_eq}
+use Rattle.civl_units.proofs.Propagating.{unit_grows}
 use Rattle.civl_cdcl.specs.Trail.{TrailState, before, IsAt, ReasonSays, IsTrail, IsTrailOf, IsTrailOver, IsCutBack, LastSays}
 use Rattle.civl_cdcl.specs.Analysis.{LearnSays}
 use Rattle.civl_cdcl.specs.declared.trail.Step.{Step}

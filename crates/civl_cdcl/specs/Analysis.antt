@@ -2,9 +2,9 @@
 use Rattle.std.specs.Prelude.{◌≡◌, ◌⊎◌, ◌<◌, ◌≤◌, ◌+◌, ℕ, List, Bool, false, not, IsTrue, All, length, slice_index_or, Option}
 use Rattle.civl_cnf.specs.Literal.{Literal}
 use Rattle.civl_cnf.specs.ClauseSet.{IsBelow}
-use Rattle.civl_rup.specs.Propagation.{Fails, IsClosed, HasConflict}
+use Rattle.civl_units.specs.Propagation.{Fails, IsClosed, HasConflict}
 use Rattle.civl_rup.specs.Rup.{HasEachOnce}
-use Rattle.civl_rup.specs.Marks.{marked, IsQuiet, IsIncluded}
+use Rattle.civl_units.specs.Marks.{marked, IsQuiet, IsIncluded}
 use Rattle.civl_cdcl.specs.Trail.{TrailState, those, before}
 use Rattle.civl_cdcl.specs.Outcome.{IsLearned}
 use Rattle.civl_cdcl.specs.declared.trail.Step.{Step}

@@ -2,10 +2,10 @@
 use Rattle.std.specs.Prelude.{◌≡◌, ◌⊎◌, ◌<◌, ◌≤◌, ◌+◌, ◌^◌, ℕ, List, [], Bool, All, Contains, length, slice_index_or, Option, None, Some}
 use Rattle.civl_cnf.specs.Literal.{Literal}
 use Rattle.civl_cnf.specs.ClauseSet.{AreBelow}
-use Rattle.civl_rup.specs.Propagation.{Holds, IsFalsified, IsUnit}
-use Rattle.civl_rup.specs.Marks.{marked, IsQuiet, IsIncluded}
-use Rattle.civl_rup.specs.Occurrences.{OccurrenceLists, AreOccurrences}
-use Rattle.civl_rup.specs.Trail.{IsOpen, open_count}
+use Rattle.civl_units.specs.Propagation.{Holds, IsFalsified, IsUnit}
+use Rattle.civl_units.specs.Marks.{marked, IsQuiet, IsIncluded}
+use Rattle.civl_units.specs.Occurrences.{OccurrenceLists, AreOccurrences}
+use Rattle.civl_units.specs.Trail.{IsOpen, open_count}
 use Rattle.civl_cdcl.specs.Trail.{TrailState, before, IsAt, IsTrailOver}
 use Rattle.civl_cdcl.specs.declared.propagation.Ended.{Ended}
 use Rattle.civl_cdcl.specs.declared.propagation.Ended.TheVariants.{Conflict, Quiet}

@@ -1,7 +1,7 @@
 -- The search up to its next conflict.
 use Rattle.std.specs.Prelude.{◌≡◌, ◌<◌, ◌++◌, ◌∷◌, [], ℕ, List, Bool, true, false, All, length, slice_index_or, Option, None, unwrap_or}
 use Rattle.civl_cnf.specs.Literal.{Literal}
-use Rattle.civl_rup.specs.Marks.{marked, IsQuiet}
+use Rattle.civl_units.specs.Marks.{marked, IsQuiet}
 use Rattle.civl_rup.specs.Rup.{HasRup}
 use Rattle.civl_cdcl.specs.Trail.{TrailState, IsTrailOver}
 use Rattle.civl_cdcl.specs.Propagation.{ChoiceSays}

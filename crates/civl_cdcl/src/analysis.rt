@@ -1,8 +1,8 @@
 // What a conflict teaches.
 ghost use Rattle.std.specs.Prelude.{◌≡◌, ◌<◌, ◌≤◌, ◌^◌, Some, false, length, All, IfOk, IsFalse};
 ghost use Rattle.civl_cnf.specs.ClauseSet.{IsBelow, AreBelow};
-ghost use Rattle.civl_rup.specs.Propagation.{IsFalsified};
-ghost use Rattle.civl_rup.specs.Marks.{marked};
+ghost use Rattle.civl_units.specs.Propagation.{IsFalsified};
+ghost use Rattle.civl_units.specs.Marks.{marked};
 ghost use Rattle.civl_cdcl.specs.declared.trail.Step.{Step as StepOf};
 ghost use Rattle.civl_cdcl.specs.Trail.{IsAt, IsTrailOver, LastSays};
 ghost use Rattle.civl_cdcl.specs.Analysis.{Sees, Resolves, Analyses, HasOne, IsUnseen, Negates, ReachSays, LearnSays};

@@ -7,7 +7,7 @@ ghost use Rattle.civl_cdcl.specs.Propagation.{VisitSays, VisitsSay, EndsBy, IsSe
 use crate::Memory;
 use crate::clauses::Clauses;
 use crate::trail::Trail;
-use civl_rup::{Occurrences, Rule, rule_of};
+use civl_units::{Occurrences, Rule, rule_of};
 
 /// How propagation ends: the clause with this number is falsified, or nothing more is forced.
 #[derive(Clone, Copy, Debug, PartialEq, Eq)]

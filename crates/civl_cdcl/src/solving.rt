@@ -9,7 +9,7 @@ use crate::trail::Trail;
 use crate::turn::{Turn, take_turn};
 use crate::{Memory, Outcome};
 use civl_cnf::{Bits, Clause, Cnf, Log};
-use civl_rup::occurrences_of;
+use civl_units::occurrences_of;
 use std::alloc::Global;
 
 /// The values as bits, false for a variable without one.

@@ -10,7 +10,7 @@ use crate::clauses::Clauses;
 use crate::propagation::{Ended, propagate, visit_all};
 use crate::trail::Trail;
 use civl_cnf::Clause;
-use civl_rup::Occurrences;
+use civl_units::Occurrences;
 use std::alloc::Global;
 
 /// What the search finds by its next conflict: all variables have a value, the clauses are refuted, no clause may be learned any more, or this clause was learned.

@@ -4,7 +4,7 @@ use Rattle.std.specs.Prelude.{Option, None, Some, IfSome, IfNone, IsTrue, All}
 use Rattle.std.proofs.lemmas.List.{get_or_append_left, get_or_push, length_push}
 use Rattle.std.proofs.lemmas.List.Elements.{All-push}
 use Rattle.civl_cnf.specs.ClauseSet.{ClauseSet}
-use Rattle.civl_rup.proofs.MarkLemmas.{lt_or_eq}
+use Rattle.civl_units.proofs.MarkLemmas.{lt_or_eq}
 use Rattle.civl_cdcl.specs.declared.outcome.Outcome.{Outcome}
 use Rattle.civl_cdcl.specs.declared.outcome.Outcome.TheVariants.{Sat, Unsat, Spent}
 use Rattle.civl_portfolio.specs.declared.attempt.Attempt.{Attempt}

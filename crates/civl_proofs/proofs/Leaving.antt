@@ -7,7 +7,7 @@ use Rattle.std.proofs.lemmas.List.{append-nil, drop_more, take-append-drop, leng
 use Rattle.std.proofs.lemmas.List.Elements.{All-contains, Contains-get_or, Contains-append_left, Contains-append_right, Contains-append_cases}
 use Rattle.civl_cnf.specs.Literal.{Literal}
 use Rattle.civl_cnf.specs.ClauseSet.{ClauseSet, IsBelow}
-use Rattle.civl_rup.specs.Propagation.{Fails, IsFalsified, IsClosedAt, IsClosed, HasConflict, GivesConflict}
+use Rattle.civl_units.specs.Propagation.{Fails, IsFalsified, IsClosedAt, IsClosed, HasConflict, GivesConflict}
 use Rattle.civl_rup.specs.Rup.{HasEachOnce, HasRup, HaveRup, Refutes}
 use Rattle.civl_proofs.specs.Lean.{IsLean, IsSublist}
 

@@ -2,13 +2,13 @@
 ghost use Rattle.std.specs.Prelude.{◌≡◌, ◌↔◌, ◌++◌, ◌<◌, ◌≤◌, ℕ, [], length, take, slice_index_or, IfOk, OnOk, IsTrue, Contains};
 ghost use Rattle.std.specs.List.{remove};
 ghost use Rattle.civl_cnf.specs.ClauseSet.{AreBelow};
-ghost use Rattle.civl_rup.specs.Occurrences.{AreOccurrences};
+ghost use Rattle.civl_units.specs.Occurrences.{AreOccurrences};
 ghost use Rattle.civl_rup.specs.Rup.{HasRup, HaveRup, Refutes};
 ghost use Rattle.civl_proofs.specs.Lean.{IsLean, IsSublist};
 
 use crate::Memory;
 use civl_cnf::{Clause, Cnf, Lit, Log};
-use civl_rup::{Marks, Occurrences, assume, occurrences_of, propagate};
+use civl_units::{Marks, Occurrences, assume, occurrences_of, propagate};
 use std::alloc::Global;
 
 /// Whether a clause has reverse unit propagation from the formula and the clauses before it. There is a mark for each variable, and what the marks were doesn't matter; the occurrence lists are those of both lists of clauses.

@@ -6,13 +6,13 @@ use Rattle.std.proofs.lemmas.List.{get_or_default, get_or_append_left, get_or_pu
 use Rattle.std.proofs.lemmas.List.Elements.{All-nil, All-push}
 use Rattle.civl_cnf.specs.Literal.{Literal}
 use Rattle.civl_cnf.specs.ClauseSet.{IsBelow, AreBelow}
-use Rattle.civl_rup.specs.Propagation.{Holds, IsFalsified, IsUnit, IsClosed, HasConflict}
-use Rattle.civl_rup.specs.Marks.{is_marked, marked, IsQuiet, IsIncluded}
-use Rattle.civl_rup.specs.Occurrences.{OccurrenceLists, AreOccurrences, AreListed, IsUnitListed}
-use Rattle.civl_rup.specs.Trail.{IsOpen}
-use Rattle.civl_rup.proofs.MarkLemmas.{lt_or_eq, same_self, below_or_not}
-use Rattle.civl_rup.proofs.Propagating.{unit_grows}
-use Rattle.civl_rup.proofs.Listing.{occurrences_more}
+use Rattle.civl_units.specs.Propagation.{Holds, IsFalsified, IsUnit, IsClosed, HasConflict}
+use Rattle.civl_units.specs.Marks.{is_marked, marked, IsQuiet, IsIncluded}
+use Rattle.civl_units.specs.Occurrences.{OccurrenceLists, AreOccurrences, AreListed, IsUnitListed}
+use Rattle.civl_units.specs.Trail.{IsOpen}
+use Rattle.civl_units.proofs.MarkLemmas.{lt_or_eq, same_self, below_or_not}
+use Rattle.civl_units.proofs.Propagating.{unit_grows}
+use Rattle.civl_units.proofs.Listing.{occurrences_more}
 use Rattle.civl_propagation.specs.Trail.{TrailState, before, IsAt, ReasonSays, IsTrail, IsTrailOver, IsDecided, IsCut, AreDecided}
 use Rattle.civl_propagation.specs.Propagation.{IsServed, IsServedTo, Goes, Grows, PropagationSays, VisitSays}
 use Rattle.civl_propagation.specs.Engine.{EngineState, IsEngine, IsAtRest, IsQuietBelow, EndsBy}

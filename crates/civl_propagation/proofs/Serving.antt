@@ -6,15 +6,15 @@ use Rattle.std.proofs.lemmas.List.{get_or-set_same, get_or_default, get_or_appen
 use Rattle.std.proofs.lemmas.List.Elements.{All-contains, Contains-get_or, Contains-push}
 use Rattle.civl_cnf.specs.Literal.{Literal, opposite}
 use Rattle.civl_cnf.specs.ClauseSet.{IsBelow}
-use Rattle.civl_rup.specs.Propagation.{Holds, Fails, IsFalsified, IsUnit}
-use Rattle.civl_rup.specs.Marks.{is_marked, marked, IsQuiet, IsIncluded}
-use Rattle.civl_rup.specs.Occurrences.{OccurrenceLists, numbers_of, AreOccurrences}
-use Rattle.civl_rup.specs.Trail.{IsOpen, open_count}
-use Rattle.civl_rup.proofs.MarkLemmas.{same_self, lt_or_eq}
-use Rattle.civl_rup.proofs.LawLemmas.{not_not}
-use Rattle.civl_rup.proofs.Listing.{contains_or_not}
-use Rattle.civl_rup.proofs.Propagating.{marks_stay, same_is, unit_grows}
-use Rattle.civl_rup.proofs.Trails.{open_set}
+use Rattle.civl_units.specs.Propagation.{Holds, Fails, IsFalsified, IsUnit}
+use Rattle.civl_units.specs.Marks.{is_marked, marked, IsQuiet, IsIncluded}
+use Rattle.civl_units.specs.Occurrences.{OccurrenceLists, numbers_of, AreOccurrences}
+use Rattle.civl_units.specs.Trail.{IsOpen, open_count}
+use Rattle.civl_units.proofs.MarkLemmas.{same_self, lt_or_eq}
+use Rattle.civl_units.proofs.LawLemmas.{not_not}
+use Rattle.civl_units.proofs.Listing.{contains_or_not}
+use Rattle.civl_units.proofs.Propagating.{marks_stay, same_is, unit_grows}
+use Rattle.civl_units.proofs.Trails.{open_set}
 use Rattle.civl_propagation.specs.Trail.{TrailState, before, IsAt, IsStep, ReasonSays, IsTrail, IsTrailOver, IsPushed, IsDecided, AreDecided}
 use Rattle.civl_propagation.specs.Propagation.{IsServed, IsServedTo, Goes, Grows, VisitsSay}
 use Rattle.civl_propagation.specs.declared.trail.Step.{Step}

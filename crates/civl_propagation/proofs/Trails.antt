@@ -8,9 +8,9 @@ use Rattle.std.proofs.lemmas.Bool.{ltb-true, lt-ltb, le-ltb}
 use Rattle.std.proofs.lemmas.List.{get_or-set_same, get_or-set_other, get_or_append_left, get_or_push, length_push, get_or-take, length-take-le}
 use Rattle.std.proofs.lemmas.List.Elements.{Contains-append_left}
 use Rattle.civl_cnf.specs.Literal.{Literal}
-use Rattle.civl_rup.specs.Marks.{is_marked, marked, IsQuiet}
-use Rattle.civl_rup.proofs.MarkLemmas.{lt_or_eq}
-use Rattle.civl_rup.proofs.LawLemmas.{and_both}
+use Rattle.civl_units.specs.Marks.{is_marked, marked, IsQuiet}
+use Rattle.civl_units.proofs.MarkLemmas.{lt_or_eq}
+use Rattle.civl_units.proofs.LawLemmas.{and_both}
 use Rattle.civl_propagation.specs.Trail.{those, before, IsStep, ReasonSays, IsTrail}
 use Rattle.civl_propagation.specs.declared.trail.Step.{Step}
 

@@ -7,12 +7,12 @@ use Rattle.std.proofs.lemmas.Bool.Decides.{eqb_tells}
 use Rattle.std.proofs.lemmas.List.{get_or-set_same, get_or-set_other, get_or_default}
 use Rattle.std.proofs.lemmas.List.Elements.{All-contains, All-push, Contains-get_or, Contains-push, Contains-append_left}
 use Rattle.civl_cnf.specs.Literal.{Literal, opposite}
-use Rattle.civl_rup.specs.Propagation.{Holds, Fails, IsFalsified, IsUnit}
-use Rattle.civl_rup.specs.Marks.{is_marked, marked, IsQuiet, IsIncluded}
-use Rattle.civl_rup.specs.Occurrences.{BothSigns, IsSingle}
-use Rattle.civl_rup.specs.Trail.{IsOpen}
-use Rattle.civl_rup.proofs.MarkLemmas.{lt_or_eq, same_self}
-use Rattle.civl_rup.proofs.LawLemmas.{not_not}
+use Rattle.civl_units.specs.Propagation.{Holds, Fails, IsFalsified, IsUnit}
+use Rattle.civl_units.specs.Marks.{is_marked, marked, IsQuiet, IsIncluded}
+use Rattle.civl_units.specs.Occurrences.{BothSigns, IsSingle}
+use Rattle.civl_units.specs.Trail.{IsOpen}
+use Rattle.civl_units.proofs.MarkLemmas.{lt_or_eq, same_self}
+use Rattle.civl_units.proofs.LawLemmas.{not_not}
 use Rattle.civl_propagation.specs.Trail.{TrailState, before, IsAt, IsStep, IsTrailOver, IsPushed}
 use Rattle.civl_propagation.specs.Propagation.{IsServed, Grows, Goes}
 use Rattle.civl_propagation.specs.Watches.{WatchState, watchers, IsListed, IsUnlisted, IsWatchedBy, IsWatched, AreWatched, Answers, KeepsUp, AllKeepUp, KeepUpBelow, IsHeld, IsDueFrom, IsVisiting}

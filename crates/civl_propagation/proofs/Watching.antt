@@ -7,10 +7,10 @@ use Rattle.std.proofs.lemmas.Bool.Decides.{eqb_tells}
 use Rattle.std.proofs.lemmas.List.{get_or-set_same, get_or-set_other, get_or_default, get_or-take, length-take-le, get_or_past}
 use Rattle.std.proofs.lemmas.List.Elements.{All-contains, All-push, Contains-get_or, Contains-push, Contains-append_left}
 use Rattle.civl_cnf.specs.Literal.{Literal, opposite}
-use Rattle.civl_rup.specs.Propagation.{Holds, Fails, IsFalsified, IsUnit}
-use Rattle.civl_rup.specs.Marks.{is_marked, marked, IsQuiet, IsIncluded}
-use Rattle.civl_rup.specs.Occurrences.{BothSigns, nowhere, of_sign, with_number, IsSingle}
-use Rattle.civl_rup.proofs.MarkLemmas.{lt_or_eq}
+use Rattle.civl_units.specs.Propagation.{Holds, Fails, IsFalsified, IsUnit}
+use Rattle.civl_units.specs.Marks.{is_marked, marked, IsQuiet, IsIncluded}
+use Rattle.civl_units.specs.Occurrences.{BothSigns, nowhere, of_sign, with_number, IsSingle}
+use Rattle.civl_units.proofs.MarkLemmas.{lt_or_eq}
 use Rattle.civl_propagation.specs.Trail.{TrailState, before, IsAt, IsTrailOver}
 use Rattle.civl_propagation.specs.Propagation.{IsServed, Grows, Goes}
 use Rattle.civl_propagation.specs.Watches.{WatchState, watchers, without_number, with_listed, with_unlisted, IsListed, IsUnlisted, IsWatchedBy, IsWatched, AreWatched, Answers, KeepsUp, AllKeepUp, KeepUpBelow}

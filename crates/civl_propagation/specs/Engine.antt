@@ -2,9 +2,9 @@
 use Rattle.std.specs.Prelude.{◌≡◌, ◌<◌, ◌≤◌, ◌^◌, ℕ, List, All, length, slice_index_or}
 use Rattle.civl_cnf.specs.Literal.{Literal}
 use Rattle.civl_cnf.specs.ClauseSet.{AreBelow}
-use Rattle.civl_rup.specs.Propagation.{IsFalsified}
-use Rattle.civl_rup.specs.Marks.{marked, IsQuiet}
-use Rattle.civl_rup.specs.Occurrences.{OccurrenceLists, AreOccurrences}
+use Rattle.civl_units.specs.Propagation.{IsFalsified}
+use Rattle.civl_units.specs.Marks.{marked, IsQuiet}
+use Rattle.civl_units.specs.Occurrences.{OccurrenceLists, AreOccurrences}
 use Rattle.civl_propagation.specs.Trail.{TrailState, before, IsAt, IsTrailOver}
 use Rattle.civl_propagation.specs.declared.propagation.Ended.{Ended}
 use Rattle.civl_propagation.specs.declared.propagation.Ended.TheVariants.{Conflict, Quiet}

@@ -1,9 +1,9 @@
 -- Propagation along the trail, by the clauses in which the opposite of a literal stands.
 use Rattle.std.specs.Prelude.{◌≡◌, ◌⊎◌, ◌<◌, ◌≤◌, ◌+◌, ℕ, List, [], Bool, All, Contains, length, slice_index_or}
 use Rattle.civl_cnf.specs.Literal.{Literal}
-use Rattle.civl_rup.specs.Propagation.{Holds, IsFalsified, IsUnit}
-use Rattle.civl_rup.specs.Marks.{marked, IsQuiet, IsIncluded}
-use Rattle.civl_rup.specs.Trail.{open_count}
+use Rattle.civl_units.specs.Propagation.{Holds, IsFalsified, IsUnit}
+use Rattle.civl_units.specs.Marks.{marked, IsQuiet, IsIncluded}
+use Rattle.civl_units.specs.Trail.{open_count}
 use Rattle.civl_propagation.specs.Trail.{TrailState, before, IsAt, IsTrailOver}
 use Rattle.civl_propagation.specs.declared.trail.Step.{Step}
 use Rattle.civl_propagation.specs.declared.propagation.Ended.{Ended}

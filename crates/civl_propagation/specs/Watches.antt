@@ -2,9 +2,9 @@
 use Rattle.std.specs.Prelude.{◌≡◌, ◌≢◌, ◌⊎◌, ◌<◌, ◌≤◌, ◌+◌, ◌++◌, ◌∷◌, [], ℕ, List, Bool, true, false, All, Contains, length, slice_index_or, slice_set, Option, None, Some}
 use Rattle.std.specs.List.{swap_remove}
 use Rattle.civl_cnf.specs.Literal.{Literal, opposite}
-use Rattle.civl_rup.specs.Propagation.{Holds, Fails, IsFalsified}
-use Rattle.civl_rup.specs.Marks.{marked}
-use Rattle.civl_rup.specs.Occurrences.{BothSigns, nowhere, of_sign, with_number, IsSingle}
+use Rattle.civl_units.specs.Propagation.{Holds, Fails, IsFalsified}
+use Rattle.civl_units.specs.Marks.{marked}
+use Rattle.civl_units.specs.Occurrences.{BothSigns, nowhere, of_sign, with_number, IsSingle}
 use Rattle.civl_propagation.specs.Trail.{TrailState, before, IsAt, IsTrailOver}
 use Rattle.civl_propagation.specs.Propagation.{Grows}
 use Rattle.civl_propagation.specs.declared.trail.Step.{Step}

@@ -2,7 +2,7 @@
 ghost use Rattle.std.specs.Prelude.{◌≡◌, ◌<◌, ◌++◌, ◌∷◌, [], ◌≤◌, ◌^◌, List, length, take, slice_index_or, IfOk, OnOk};
 ghost use Rattle.civl_cnf.specs.Literal.{Literal};
 ghost use Rattle.civl_cnf.specs.ClauseSet.{IsBelow};
-ghost use Rattle.civl_rup.specs.Trail.{IsOpen, open_count};
+ghost use Rattle.civl_units.specs.Trail.{IsOpen, open_count};
 ghost use Rattle.civl_propagation.specs.Trail.{AreDecided, IsCut};
 ghost use Rattle.civl_propagation.specs.Engine.{IsEngine, IsAtRest, IsQuietBelow, EndsBy};
 ghost use Rattle.civl_propagation.specs.Propagation.{Grows};
@@ -11,7 +11,7 @@ use crate::Memory;
 use crate::propagation::{Ended, propagate, visit};
 use crate::trail::Trail;
 use civl_cnf::{Clause, Lit};
-use civl_rup::Occurrences;
+use civl_units::Occurrences;
 use std::alloc::Global;
 use std::marker::Model;
 

@@ -23,8 +23,8 @@ impl From<civl_cnf::Memory> for Memory {
     }
 }
 
-impl From<civl_rup::Memory> for Memory {
-    fn from(_wanting: civl_rup::Memory) -> Memory {
+impl From<civl_units::Memory> for Memory {
+    fn from(_wanting: civl_units::Memory) -> Memory {
         Memory
     }
 }

@@ -1,14 +1,14 @@
 // Unit propagation along the trail.
 ghost use Rattle.std.specs.Prelude.{◌≡◌, ◌<◌, ◌≤◌, [], All, length, slice_index_or, IfOk};
 ghost use Rattle.civl_cnf.specs.ClauseSet.{AreBelow};
-ghost use Rattle.civl_rup.specs.Occurrences.{AreOccurrences};
+ghost use Rattle.civl_units.specs.Occurrences.{AreOccurrences};
 ghost use Rattle.civl_propagation.specs.Trail.{IsTrailOver};
 ghost use Rattle.civl_propagation.specs.Propagation.{VisitSays, VisitsSay, PropagationSays, IsServedTo};
 
 use crate::Memory;
 use crate::trail::Trail;
 use civl_cnf::{Clause, Lit};
-use civl_rup::{Occurrences, Rule, rule_of};
+use civl_units::{Occurrences, Rule, rule_of};
 
 /// How propagation ends: the clause with this number is falsified, or nothing more is forced.
 #[derive(Clone, Copy, Debug, PartialEq, Eq)]

@@ -1,6 +1,6 @@
 // The literals of clauses that are watched.
 ghost use Rattle.std.specs.Prelude.{◌≡◌, ◌<◌, ◌++◌, ◌∷◌, [], None, Some, length, replicate, slice_set, slice_index_or, IfOk, OnOk};
-ghost use Rattle.civl_rup.specs.Occurrences.{nowhere, of_sign, with_number};
+ghost use Rattle.civl_units.specs.Occurrences.{nowhere, of_sign, with_number};
 ghost use Rattle.civl_propagation.specs.Watches.{watchers, without_number, with_listed, with_unlisted};
 
 use crate::Memory;
@@ -31,7 +31,7 @@ struct Signs {
 }
 
 impl Model for Signs {
-    ghost use Rattle.civl_rup.specs.Occurrences.{BothSigns};
+    ghost use Rattle.civl_units.specs.Occurrences.{BothSigns};
 
     ghost Value = { BothSigns };
 

@@ -5,11 +5,11 @@ use Rattle.std.proofs.lemmas.List.{get_or_append_left, get_or_push, length_push,
 use Rattle.std.proofs.lemmas.List.Elements.{All-push, All-contains, Contains-append_left, Contains-append_right, Contains-push}
 use Rattle.civl_cnf.specs.Literal.{Literal, opposite}
 use Rattle.civl_cnf.specs.ClauseSet.{ClauseSet, IsBelow}
-use Rattle.civl_rup.specs.Propagation.{Holds, Fails, IsFalsified, IsUnit, IsClosedAt, GivesConflict}
+use Rattle.civl_units.specs.Propagation.{Holds, Fails, IsFalsified, IsUnit, IsClosedAt, GivesConflict}
 use Rattle.civl_rup.specs.Rup.{HasRup, HasEachOnce, Refutes}
-use Rattle.civl_rup.proofs.MarkLemmas.{lt_or_eq}
-use Rattle.civl_rup.proofs.LawLemmas.{not_not}
-use Rattle.civl_rup.proofs.Propagating.{all_left, any_by}
+use Rattle.civl_units.proofs.MarkLemmas.{lt_or_eq}
+use Rattle.civl_units.proofs.LawLemmas.{not_not}
+use Rattle.civl_units.proofs.Propagating.{all_left, any_by}
 use Rattle.civl_cdcl.proofs.Outcomes.{log_push}
 use Rattle.civl_provers.specs.Branch.{IsImplied, IsLeftOpen, IsBranch}
 use Rattle.civl_provers.specs.Splitter.{IsSplit, IsRefuted}

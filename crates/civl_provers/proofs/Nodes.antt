@@ -6,8 +6,8 @@ use Rattle.std.proofs.lemmas.List.Folds.{Any-from_list_any, list_any-from_Any}
 use Rattle.std.proofs.lemmas.List.Sums.{AllPass-from_list_all, list_all-from_AllPass}
 use Rattle.civl_cnf.specs.Literal.{Literal}
 use Rattle.civl_cnf.specs.ClauseSet.{ClauseSet, AreBelow, assignment}
-use Rattle.civl_rup.specs.Propagation.{Holds, IsClosed}
-use Rattle.civl_rup.specs.Marks.{is_marked, marked, IsQuiet}
+use Rattle.civl_units.specs.Propagation.{Holds, IsClosed}
+use Rattle.civl_units.specs.Marks.{is_marked, marked, IsQuiet}
 use Rattle.civl_cdcl.specs.Turn.{AreBits}
 use Rattle.civl_cdcl.specs.Propagation.{ChoiceSays}
 use Rattle.civl_cdcl.proofs.Outcomes.{satisfied}

@@ -2,7 +2,7 @@
 use Rattle.std.proofs.Common.{◌≡◌, ◌⊎◌, ℕ, zero, suc, ◌<◌, List, [], ◌∷◌, refl, inl, inr, arith, Bool, true, false}
 use Rattle.std.proofs.lemmas.List.Elements.{All-nil}
 use Rattle.civl_cnf.specs.Literal.{Literal}
-use Rattle.civl_rup.specs.Propagation.{Holds, Fails, GivesConflict}
+use Rattle.civl_units.specs.Propagation.{Holds, Fails, GivesConflict}
 use Rattle.civl_cdcl.specs.Laws.{variable, negation, square}
 use Rattle.civl_cdcl.proofs.Examples.{none, all_two, square_closed, square_refuted}
 use Rattle.civl_provers.specs.Branch.{IsTrueBy, IsUndecided}

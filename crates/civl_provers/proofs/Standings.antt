@@ -5,9 +5,9 @@ use Rattle.std.proofs.lemmas.List.{map-append, take-map, length-map, length_push
 use Rattle.std.proofs.lemmas.List.Elements.{All-nil, All-cons, All-head, All-tail}
 use Rattle.civl_cnf.specs.Literal.{Literal, opposite}
 use Rattle.civl_cnf.specs.ClauseSet.{ClauseSet}
-use Rattle.civl_rup.specs.Propagation.{Holds, Fails, IsFalsified, IsClosed, GivesConflict}
-use Rattle.civl_rup.specs.Marks.{is_marked, marked, IsQuiet}
-use Rattle.civl_rup.proofs.MarkLemmas.{same_self}
+use Rattle.civl_units.specs.Propagation.{Holds, Fails, IsFalsified, IsClosed, GivesConflict}
+use Rattle.civl_units.specs.Marks.{is_marked, marked, IsQuiet}
+use Rattle.civl_units.proofs.MarkLemmas.{same_self}
 use Rattle.civl_propagation.specs.Trail.{IsAt, IsCut, AreDecided}
 use Rattle.civl_propagation.specs.Engine.{EngineState, IsEngine, IsAtRest}
 use Rattle.civl_propagation.proofs.Engines.{least_by, decided_hold, conflict_by}

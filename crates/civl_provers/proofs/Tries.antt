@@ -6,7 +6,7 @@ use Rattle.std.proofs.lemmas.List.Elements.{All-nil, All-cons}
 use Rattle.civl_cnf.specs.Literal.{Literal}
 use Rattle.civl_cnf.specs.ClauseSet.{ClauseSet, Satisfies, assignment}
 use Rattle.civl_cnf.proofs.Satisfying.{all_true, Satisfies-from_all_true, all_true-from_Satisfies}
-use Rattle.civl_rup.proofs.LawLemmas.{and_both}
+use Rattle.civl_units.proofs.LawLemmas.{and_both}
 use Rattle.civl_portfolio.specs.Attempt.{MakesTrue, Stands}
 use Rattle.civl_portfolio.specs.declared.attempt.Attempt.TheVariants.{Unsat, Sat, GaveUp, Memory}
 use Rattle.civl_provers.specs.Probe.{makes_true, first_true, IsFirstTrue}

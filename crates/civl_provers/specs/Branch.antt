@@ -2,7 +2,7 @@
 use Rattle.std.specs.Prelude.{◌≡◌, ℕ, ◌<◌, List, Bool, All, Any, length, take, slice_index_or}
 use Rattle.civl_cnf.specs.Literal.{Literal}
 use Rattle.civl_cnf.specs.ClauseSet.{ClauseSet}
-use Rattle.civl_rup.specs.Propagation.{Holds, Fails, IsClosed, GivesConflict}
+use Rattle.civl_units.specs.Propagation.{Holds, Fails, IsClosed, GivesConflict}
 
 -- Making these literals false and propagating units makes the literal true: it is in each closed set in which they are false.
 abbrev pub IsImplied : List (List Literal) → List Literal → Literal → Type 0

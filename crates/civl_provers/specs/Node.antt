@@ -2,8 +2,8 @@
 use Rattle.std.specs.Prelude.{◌≡◌, ℕ, ◌<◌, List, Bool, All, Any, Option, None, Some, length, slice_index_or}
 use Rattle.civl_cnf.specs.Literal.{Literal}
 use Rattle.civl_cnf.specs.ClauseSet.{ClauseSet}
-use Rattle.civl_rup.specs.Propagation.{Holds, Fails, IsClosed}
-use Rattle.civl_rup.specs.Marks.{marked, IsQuiet, IsIncluded}
+use Rattle.civl_units.specs.Propagation.{Holds, Fails, IsClosed}
+use Rattle.civl_units.specs.Marks.{marked, IsQuiet, IsIncluded}
 use Rattle.civl_portfolio.specs.Attempt.{MakesTrue}
 use Rattle.civl_provers.specs.Branch.{IsLeftOpen, IsUnsettled}
 use Rattle.civl_provers.specs.declared.looking.Node.{Node}

@@ -2,7 +2,7 @@
 use Rattle.std.specs.Prelude.{ℕ, ◌+◌, ◌<◌, ◌≤◌, List, [], ◌∷◌, ◌++◌, Bool, true, false, IsFalse, Contains, if◌then◌else◌, length, take, slice_index_or, suc, zero}
 use Rattle.civl_cnf.specs.Literal.{Literal, opposite}
 use Rattle.civl_cnf.specs.ClauseSet.{ClauseSet}
-use Rattle.civl_rup.specs.Propagation.{GivesConflict}
+use Rattle.civl_units.specs.Propagation.{GivesConflict}
 use Rattle.civl_rup.specs.Rup.{HaveRup, Refutes}
 use Rattle.civl_portfolio.specs.Attempt.{MakesTrue}
 use Rattle.civl_portfolio.specs.declared.attempt.Attempt.{Attempt}

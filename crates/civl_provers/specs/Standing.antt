@@ -2,7 +2,7 @@
 use Rattle.std.specs.Prelude.{◌≡◌, ◌⊎◌, List, [], ◌∷◌, ◌++◌, Bool, true, false, map, length}
 use Rattle.civl_cnf.specs.Literal.{Literal, opposite}
 use Rattle.civl_cnf.specs.ClauseSet.{ClauseSet}
-use Rattle.civl_rup.specs.Propagation.{GivesConflict}
+use Rattle.civl_units.specs.Propagation.{GivesConflict}
 use Rattle.civl_propagation.specs.Trail.{AreDecided}
 use Rattle.civl_propagation.specs.Engine.{EngineState, IsEngine, IsAtRest}
 use Rattle.civl_provers.specs.Branch.{IsBranch}

@@ -2,7 +2,7 @@
 ghost use Rattle.std.specs.Prelude.{◌≡◌, ◌<◌, ◌++◌, ◌∷◌, [], List, length, IfOk};
 ghost use Rattle.civl_cnf.specs.Literal.{Literal};
 ghost use Rattle.civl_cnf.specs.ClauseSet.{ClauseSet};
-ghost use Rattle.civl_rup.specs.Trail.{IsOpen};
+ghost use Rattle.civl_units.specs.Trail.{IsOpen};
 ghost use Rattle.civl_propagation.specs.Trail.{AreDecided};
 ghost use Rattle.civl_propagation.specs.Engine.{IsAtRest};
 ghost use Rattle.civl_provers.specs.Standing.{IsAtBranch, LookSays, IsTurning};

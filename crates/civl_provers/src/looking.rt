@@ -2,7 +2,7 @@
 ghost use Rattle.std.specs.Prelude.{◌≡◌, ◌≤◌, ◌^◌, All, length, IfOk};
 ghost use Rattle.std.specs.List.{list_any, list_all};
 ghost use Rattle.civl_cnf.specs.ClauseSet.{IsBelow, AreBelow};
-ghost use Rattle.civl_rup.specs.Marks.{marked, IsQuiet};
+ghost use Rattle.civl_units.specs.Marks.{marked, IsQuiet};
 ghost use Rattle.civl_provers.specs.Node.{LastOpen, JudgeSays};
 
 use crate::memory::Memory;

@@ -6,7 +6,7 @@ use Rattle.std.proofs.lemmas.List.Elements.{All-contains}
 use Rattle.std.proofs.lemmas.List.Folds.{Any-from_list_any}
 use Rattle.civl_cnf.specs.Literal.{Literal, truth_of}
 use Rattle.civl_cnf.specs.ClauseSet.{SatisfiesClause, Satisfies}
-use Rattle.civl_rup.specs.Propagation.{Fails, IsFalsified, IsClosedAt, HasConflict}
+use Rattle.civl_units.specs.Propagation.{Fails, IsFalsified, IsClosedAt, HasConflict}
 use Rattle.civl_rup.specs.Rup.{HasRup}
 
 -- the literals that an assignment makes true

@@ -1,9 +1,4 @@
-pub mod MarkLemmas
-pub mod Propagating
-pub mod Trails
-pub mod Assumed
 pub mod Entailing
 pub mod Replays
 pub mod LawLemmas
-pub mod Listing
-pub mod Visiting
+pub mod Standings

@@ -5,14 +5,15 @@ use Rattle.std.proofs.lemmas.List.Elements.{All-append, All-more}
 use Rattle.std.proofs.lemmas.List.{get_or_default, length-take-le, get_or-take}
 use Rattle.civl_cnf.specs.Literal.{Literal}
 use Rattle.civl_cnf.specs.ClauseSet.{ClauseSet, IsBelow, AreBelow, SatisfiesClause, Satisfies}
-use Rattle.civl_rup.specs.Propagation.{Fails, HasConflict}
+use Rattle.civl_units.specs.Propagation.{Fails, HasConflict}
 use Rattle.civl_rup.specs.Rup.{HasRup, HasEachOnce, HaveRup, Refutes, HasRupAndNoEmpty, IsFirstWithoutRup, IsUnsatisfiable}
-use Rattle.civl_rup.specs.Marks.{marked, EndsBy, AreAssumed, IsQuiet, ScanSays, Propagates}
+use Rattle.civl_units.specs.Marks.{marked, EndsBy, AreAssumed, IsQuiet, Propagates}
+use Rattle.civl_rup.specs.Standing.{ScanSays}
 use Rattle.civl_rup.specs.declared.answer.Replay.{Replay}
 use Rattle.civl_rup.specs.declared.answer.Replay.TheVariants.{Refutes as Refuting, NotRup, NoEmpty}
-use Rattle.civl_rup.proofs.MarkLemmas.{lt_or_eq, below_or_not}
+use Rattle.civl_units.proofs.MarkLemmas.{lt_or_eq, below_or_not}
 use Rattle.civl_rup.proofs.Entailing.{rup_entails}
-use Rattle.civl_rup.proofs.Propagating.{conflict_grows}
+use Rattle.civl_units.proofs.Propagating.{conflict_grows}
 
 -- RUP by propagation, and the other way round
 pub rup_by : (first last : List (Option Bool)) (variables : ℕ) (clauses : List (List Literal)) (clause : List Literal) (r : Bool) → IsBelow variables clause → HasEachOnce clause → AreAssumed first clause → Propagates first last clauses → EndsBy last clauses r → (IsTrue r → HasRup variables clauses clause) × (HasRup variables clauses clause → IsTrue r)

@@ -2,7 +2,7 @@
 use Rattle.std.specs.Prelude.{◌≡◌, ◌≢◌, ◌⊎◌, ℕ, ◌<◌, List, [], ◌++◌, Bool, All, AllPairs, Contains, length, take, slice_index_or}
 use Rattle.civl_cnf.specs.Literal.{Literal}
 use Rattle.civl_cnf.specs.ClauseSet.{ClauseSet, IsBelow, Satisfies}
-use Rattle.civl_rup.specs.Propagation.{Holds, Fails, IsClosed, HasConflict, GivesConflict}
+use Rattle.civl_units.specs.Propagation.{Holds, Fails, IsClosed, HasConflict, GivesConflict}
 
 -- no variable stands twice
 abbrev pub HasEachOnce : List Literal → Type 0

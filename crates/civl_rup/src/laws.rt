@@ -1,10 +1,5 @@
-// Laws of unit propagation and of reverse unit propagation. Each function does nothing, and its contract is the law.
-ghost use Rattle.civl_rup.specs.Laws.{CompleteRunDecides, CompleteRunShowsNew, RupIsEntailed, NewIsNoSuperset, SpentIsNoSuperset};
-
-/// A complete run of unit propagation, in any order of the clauses, meets a conflict exactly where propagation gives one.
-pub fn complete_run_decides()
-    ensures { CompleteRunDecides }
-{}
+// Laws of reverse unit propagation. Each function does nothing, and its contract is the law.
+ghost use Rattle.civl_rup.specs.Laws.{CompleteRunShowsNew, RupIsEntailed, NewIsNoSuperset, SpentIsNoSuperset};
 
 /// A complete run from the other literals of a clause shows whether the clause is new by this literal.
 pub fn complete_run_shows_new()

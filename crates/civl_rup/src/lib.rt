@@ -2,23 +2,16 @@
 #![tactic(auto)]
 
 mod answer;
+mod conflicts;
 mod laws;
-mod marking;
-mod marks;
 mod memory;
-mod occurrences;
-mod propagation;
 mod replaying;
-mod rule;
+mod taking;
 
 pub use answer::Replay;
 pub use laws::{
-    complete_run_decides, complete_run_shows_new, new_clause_is_no_superset,
-    rup_clause_is_entailed, spent_clause_is_no_superset,
+    complete_run_shows_new, new_clause_is_no_superset, rup_clause_is_entailed,
+    spent_clause_is_no_superset,
 };
-pub use marks::Marks;
 pub use memory::Memory;
-pub use occurrences::Occurrences;
-pub use propagation::{assume, propagate};
-pub use replaying::{occurrences_of, replay};
-pub use rule::{Rule, rule_of};
+pub use replaying::replay;

@@ -1,18 +1,17 @@
 // Memory was wanting.
-use std::alloc::{AllocError, AllocFailed};
 
 /// Memory was wanting.
 #[derive(Clone, Copy, Debug, PartialEq, Eq)]
 pub struct Memory;
 
-impl From<AllocError> for Memory {
-    fn from(_error: AllocError) -> Memory {
+impl From<civl_units::Memory> for Memory {
+    fn from(_wanting: civl_units::Memory) -> Memory {
         Memory
     }
 }
 
-impl<T: Drop> From<AllocFailed<T>> for Memory {
-    fn from(_failed: AllocFailed<T>) -> Memory {
+impl From<civl_propagation::Memory> for Memory {
+    fn from(_wanting: civl_propagation::Memory) -> Memory {
         Memory
     }
 }

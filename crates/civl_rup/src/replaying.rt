@@ -1,14 +1,14 @@
 // Replaying a log.
-ghost use Rattle.std.specs.Prelude.{◌≡◌, ◌↔◌, [], ℕ, length, IfOk, IsTrue, Contains};
-ghost use Rattle.civl_rup.specs.Marks.{ScanSays, ScanLists};
-ghost use Rattle.civl_rup.specs.Occurrences.{AreOccurrences};
+ghost use Rattle.std.specs.Prelude.{◌≡◌, ◌↔◌, [], ℕ, IfOk, IsTrue, Contains};
+ghost use Rattle.civl_rup.specs.Standing.{ScanSays};
 ghost use Rattle.civl_rup.specs.Rup.{HasRupAndNoEmpty, IsFirstWithoutRup, IsUnsatisfiable, Refutes};
 
-use crate::marks::Marks;
-use crate::occurrences::Occurrences;
-use crate::propagation::has_rup;
+use crate::conflicts::load;
+use crate::taking::take_clause;
 use crate::{Memory, Replay};
 use civl_cnf::{Clause, Cnf, Log};
+use civl_propagation::Engine;
+use civl_units::Marks;
 use std::alloc::Global;
 
 /// Whether one of the clauses is empty.
@@ -23,38 +23,19 @@ fn has_empty(clauses: &[Clause]) -> bool
     false
 }
 
-/// Where the literals stand in the clause set, its clauses numbered from 0.
-pub fn occurrences_of(alloc: Global, cnf: &Cnf) -> Result<Occurrences, Memory>
-    ensures size { IfOk result (λ lists. length lists.variables ≡ cnf.now.variables) }
-    ensures lists { IfOk result (AreOccurrences cnf.now.clauses) }
+/// Goes through the log.
+fn scan(alloc: Global, cnf: &Cnf, log: &Log) -> Result<Replay, Memory>
+    ensures { IfOk result (λ found. ScanSays cnf.now log.now found) }
 {
-    let mut occurrences = Occurrences::new(alloc, cnf.variables())?;
-    for at in 0..cnf.len() {
-        occurrences.add(cnf.clause(at).lits(), at)?;
-    }
-    Ok(occurrences)
-}
-
-/// Goes through the log, with a mark for each variable and a list for each literal.
-fn scan(
-    marks: &mut Marks,
-    occurrences: &mut Occurrences,
-    cnf: &Cnf,
-    log: &Log,
-) -> Result<Replay, Memory>
-    requires marks { length marks.old.values ≡ cnf.now.variables }
-    requires size { length occurrences.old.variables ≡ cnf.now.variables }
-    requires lists { AreOccurrences cnf.now.clauses occurrences.old }
-    ensures found { IfOk result (λ found. ScanSays cnf.now log.now found) }
-    ensures lists { IfOk result (λ found. ScanLists cnf.now log.now occurrences.new found) }
-{
+    let mut engine = Engine::new(alloc, cnf.variables())?;
+    let mut marks = Marks::new(alloc, cnf.variables())?;
+    let mut refuted = load(&mut engine, cnf)?;
     let clauses = log.clauses();
     for at in 0..clauses.len() {
-        let clause = clauses[at].lits();
-        if !has_rup(marks, occurrences, cnf.clauses(), &clauses[..at], clause)? {
-            return Ok(Replay::NotRup(at));
+        match take_clause(&mut engine, &mut marks, refuted, clauses[at].lits())? {
+            None => return Ok(Replay::NotRup(at)),
+            Some(refuted_now) => refuted = refuted_now,
         }
-        occurrences.add(clause, cnf.len() + at)?;
     }
     if has_empty(clauses) {
         Ok(Replay::Refutes)
@@ -70,8 +51,6 @@ pub fn replay(alloc: Global, cnf: &Cnf, log: &Log) -> Result<Replay, Memory>
     ensures refutes { IfOk result (λ r. (r ≡ Replay.Refutes) ↔ Refutes cnf.now log.now) }
     ensures sound { IfOk result (λ r. r ≡ Replay.Refutes → IsUnsatisfiable cnf.now.clauses) }
 {
-    let mut marks = Marks::new(alloc, cnf.variables())?;
-    let mut occurrences = occurrences_of(alloc, cnf)?;
-    let found = scan(&mut marks, &mut occurrences, cnf, log)?;
+    let found = scan(alloc, cnf, log)?;
     Ok(found)
 }

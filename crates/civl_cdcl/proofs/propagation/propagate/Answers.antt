@@ -1,7 +1,7 @@
 use Rattle.std.proofs.Common.{arith, sym, ◌∙◌, ap, subst, refl, length, ◌≡◌, ◌<◌, ℕ}
 use Rattle.std.specs.Prelude.{All}
 use Rattle.civl_cnf.specs.Literal.{Literal, opposite}
-use Rattle.civl_rup.specs.Occurrences.{numbers_of}
+use Rattle.civl_units.specs.Occurrences.{numbers_of}
 use Rattle.civl_cdcl.proofs.Analysing.{step_at}
 use Rattle.civl_cdcl.proofs.Visiting.{goes_trans, served_next, served_all, numbers_below, visits_of}
 use Rattle.civl_cdcl.proofs.propagation.propagate.Goals as goal

@@ -1,8 +1,8 @@
 use Rattle.std.proofs.Common.{arith, subst, length, List, Bool, refl}
 use Rattle.std.specs.Prelude.{Option}
-use Rattle.civl_rup.specs.Marks.{marked}
-use Rattle.civl_rup.specs.Marks.{RuleSays}
-use Rattle.civl_rup.specs.declared.rule.Rule.TheVariants.{Forces}
+use Rattle.civl_units.specs.Marks.{marked}
+use Rattle.civl_units.specs.Marks.{RuleSays}
+use Rattle.civl_units.specs.declared.rule.Rule.TheVariants.{Forces}
 use Rattle.civl_cdcl.proofs.Analysing.{clause_within}
 use Rattle.civl_cdcl.proofs.Visiting.{unit_within, visit_forces}
 use Rattle.civl_cdcl.proofs.propagation.visit.Goals as goal

@@ -3,7 +3,7 @@ use Rattle.std.specs.Prelude.{All, Option, None}
 use Rattle.std.proofs.lemmas.Bool.{ltb-true}
 use Rattle.std.proofs.lemmas.List.{length_push, length-replicate}
 use Rattle.civl_cnf.specs.Literal.{Literal}
-use Rattle.civl_rup.specs.Occurrences.{AreListed, IsUnitListed}
+use Rattle.civl_units.specs.Occurrences.{AreListed, IsUnitListed}
 use Rattle.civl_rup.specs.Rup.{HasRup}
 use Rattle.civl_cdcl.specs.Trail.{TrailState}
 use Rattle.civl_cdcl.specs.Propagation.{IsSearch, IsDue}

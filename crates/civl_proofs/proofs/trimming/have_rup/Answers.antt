@@ -1,7 +1,7 @@
 use Rattle.std.proofs.Common.{arith, ◌≡◌, ◌≤◌, ◌<◌, ◌++◌, ℕ, List, [], length, get_or, refl, sym, subst, ◌∙◌, ap}
 use Rattle.std.proofs.lemmas.List.{get_or_default}
 use Rattle.civl_cnf.specs.Literal.{Literal}
-use Rattle.civl_rup.proofs.Listing.{next_listed}
+use Rattle.civl_units.proofs.Listing.{next_listed}
 use Rattle.civl_rup.proofs.Replays.{have_next}
 use Rattle.civl_proofs.proofs.trimming.have_rup.Goals as goal
 

@@ -1,5 +1,5 @@
 use Rattle.std.proofs.Common.{◌≡◌, ◌++◌, length, take}
-use Rattle.civl_rup.specs.Occurrences.{AreOccurrences}
+use Rattle.civl_units.specs.Occurrences.{AreOccurrences}
 use Rattle.civl_rup.specs.Rup.{HaveRup}
 use Rattle.civl_proofs.proofs.trimming.have_rup.Given as goal
 

@@ -2,7 +2,7 @@ use Rattle.std.proofs.Common.{◌≡◌, ◌-◌, ◌+◌, ◌<◌, ◌≤◌, �
 use Rattle.std.proofs.lemmas.List.{length-replicate}
 use Rattle.civl_cnf.specs.Literal.{Literal}
 use Rattle.civl_rup.specs.Rup.{Refutes, HaveRup}
-use Rattle.civl_rup.specs.Trail.{Marking}
+use Rattle.civl_units.specs.Trail.{Marking}
 use Rattle.civl_proofs.specs.Lean.{IsSublist}
 use Rattle.civl_proofs.proofs.Leaving.{NeededFrom, needed_shorter, needed_here, rup_before, length_shorter, sublist_same, sublist_trans, sublist_shorter}
 use Rattle.civl_proofs.proofs.trimming.trim.Goals as goal

@@ -2,7 +2,7 @@ use Rattle.std.proofs.Common.{arith, sym, ◌∙◌, ap, subst, refl, length, �
 use Rattle.std.specs.Prelude.{All}
 use Rattle.civl_cnf.specs.Literal.{Literal, opposite}
 use Rattle.civl_cnf.specs.ClauseSet.{AreBelow}
-use Rattle.civl_rup.specs.Occurrences.{numbers_of}
+use Rattle.civl_units.specs.Occurrences.{numbers_of}
 use Rattle.civl_propagation.specs.Propagation.{VisitsSay}
 use Rattle.civl_propagation.specs.declared.trail.Step.{Step}
 use Rattle.civl_propagation.proofs.Serving.{goes_self, goes_trans, served_next, served_all, numbers_below, visits_of}

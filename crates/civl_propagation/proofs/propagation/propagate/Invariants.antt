@@ -1,5 +1,5 @@
 use Rattle.std.proofs.Common.{◌≤◌, ◌+◌, ◌-◌, length}
-use Rattle.civl_rup.specs.Trail.{open_count}
+use Rattle.civl_units.specs.Trail.{open_count}
 use Rattle.civl_propagation.specs.Propagation.{Goes, IsServedTo}
 use Rattle.civl_propagation.proofs.propagation.propagate.Given as goal
 

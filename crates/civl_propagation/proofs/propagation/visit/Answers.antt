@@ -3,9 +3,9 @@ use Rattle.std.specs.Prelude.{Option}
 use Rattle.std.proofs.lemmas.List.{get_or_default}
 use Rattle.civl_cnf.specs.Literal.{Literal}
 use Rattle.civl_cnf.specs.ClauseSet.{IsBelow}
-use Rattle.civl_rup.specs.Propagation.{IsFalsified, IsUnit}
-use Rattle.civl_rup.specs.Marks.{marked, IsQuiet, RuleSays}
-use Rattle.civl_rup.specs.declared.rule.Rule.TheVariants.{Falsified, Forces, Quiet}
+use Rattle.civl_units.specs.Propagation.{IsFalsified, IsUnit}
+use Rattle.civl_units.specs.Marks.{marked, IsQuiet, RuleSays}
+use Rattle.civl_units.specs.declared.rule.Rule.TheVariants.{Falsified, Forces, Quiet}
 use Rattle.civl_propagation.proofs.Serving.{unit_within, goes_self, visit_forces, visit_quiet}
 use Rattle.civl_propagation.proofs.propagation.visit.Goals as goal
 

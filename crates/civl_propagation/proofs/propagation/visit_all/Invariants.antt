@@ -1,5 +1,5 @@
 use Rattle.std.proofs.Common.{ℕ, ◌<◌, get_or}
-use Rattle.civl_rup.specs.Marks.{marked}
+use Rattle.civl_units.specs.Marks.{marked}
 use Rattle.civl_propagation.specs.Trail.{IsAt}
 use Rattle.civl_propagation.specs.Propagation.{Goes, IsServed}
 use Rattle.civl_propagation.proofs.propagation.visit_all.Given as goal

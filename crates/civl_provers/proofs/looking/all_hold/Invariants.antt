@@ -1,6 +1,6 @@
 use Rattle.std.proofs.Common.{◌≡◌, true, take}
 use Rattle.std.specs.List.{list_any, list_all}
-use Rattle.civl_rup.specs.Marks.{marked}
+use Rattle.civl_units.specs.Marks.{marked}
 use Rattle.civl_provers.proofs.looking.all_hold.Given as goal
 
 abbrev pub invariant-loop-clause : goal.invariant-loop-clause

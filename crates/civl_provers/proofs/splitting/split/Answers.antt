@@ -3,7 +3,7 @@ use Rattle.std.specs.Prelude.{All, IsFalse, None}
 use Rattle.std.proofs.lemmas.List.{length_push}
 use Rattle.civl_cnf.specs.Literal.{Literal}
 use Rattle.civl_cnf.specs.ClauseSet.{ClauseSet}
-use Rattle.civl_rup.specs.Marks.{marked, IsQuiet}
+use Rattle.civl_units.specs.Marks.{marked, IsQuiet}
 use Rattle.civl_provers.specs.Branch.{IsBranch}
 use Rattle.civl_provers.specs.Splitter.{IsSplit, AfterRefuted, left}
 use Rattle.civl_provers.specs.Standing.{LookSays, IsTurning}

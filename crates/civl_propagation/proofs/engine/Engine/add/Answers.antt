@@ -2,7 +2,7 @@ use Rattle.std.proofs.Common.{◌≡◌, ◌∙◌, ◌++◌, ◌∷◌, [], Lis
 use Rattle.std.proofs.lemmas.List.{length_push}
 use Rattle.civl_cnf.specs.Literal.{Literal}
 use Rattle.civl_cnf.specs.ClauseSet.{IsBelow, AreBelow}
-use Rattle.civl_rup.specs.Occurrences.{AreOccurrences}
+use Rattle.civl_units.specs.Occurrences.{AreOccurrences}
 use Rattle.civl_propagation.specs.Trail.{IsTrailOver}
 use Rattle.civl_propagation.specs.Propagation.{Grows, IsServedTo, PropagationSays, VisitSays}
 use Rattle.civl_propagation.specs.Engine.{EngineState, IsAtRest, IsQuietBelow}

@@ -1,6 +1,6 @@
 use Rattle.std.proofs.Common.{◌++◌, ◌∷◌, [], ◌<◌, List, length, sym, subst, arith}
 use Rattle.civl_cnf.specs.Literal.{Literal}
-use Rattle.civl_rup.specs.Trail.{IsOpen, open_count}
+use Rattle.civl_units.specs.Trail.{IsOpen, open_count}
 use Rattle.civl_propagation.specs.Trail.{IsTrailOver, AreDecided}
 use Rattle.civl_propagation.specs.Propagation.{IsServedTo, PropagationSays}
 use Rattle.civl_propagation.specs.Engine.{EngineState, IsAtRest}

@@ -1,5 +1,5 @@
 use Rattle.std.proofs.Common.{◌≡◌, replicate}
-use Rattle.civl_rup.specs.Occurrences.{nowhere}
+use Rattle.civl_units.specs.Occurrences.{nowhere}
 use Rattle.civl_propagation.proofs.watches.Watches.new.Given as goal
 
 abbrev pub invariant-loop-at : goal.invariant-loop-at

@@ -1,5 +1,0 @@
-use Rattle.civl_rup.proofs.LawLemmas.{run_decides}
-use Rattle.civl_rup.proofs.laws.complete_run_decides.Goals as goal
-
-pub returns : goal.returns
-returns c = run_decides

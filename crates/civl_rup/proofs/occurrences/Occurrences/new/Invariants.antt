@@ -1,6 +1,0 @@
-use Rattle.std.proofs.Common.{◌≡◌, replicate}
-use Rattle.civl_rup.specs.Occurrences.{nowhere}
-use Rattle.civl_rup.proofs.occurrences.Occurrences.new.Given as goal
-
-abbrev pub invariant-loop-at : goal.invariant-loop-at
-invariant-loop-at l = l.lists.items ≡ replicate l._at nowhere

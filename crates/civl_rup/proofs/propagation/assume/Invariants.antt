@@ -1,6 +1,0 @@
-use Rattle.std.proofs.Common.{length}
-use Rattle.civl_rup.proofs.Assumed.{Assumes}
-use Rattle.civl_rup.proofs.propagation.assume.Given as goal
-
-abbrev pub invariant-loop-lit : goal.invariant-loop-lit
-invariant-loop-lit l = Assumes l.marks.values (length l.fn.marks.values) l.clause l.lit-index

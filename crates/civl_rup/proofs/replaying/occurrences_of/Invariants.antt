@@ -1,9 +1,0 @@
-use Rattle.std.proofs.Common.{◌≡◌, length, take}
-use Rattle.civl_rup.specs.Occurrences.{AreOccurrences}
-use Rattle.civl_rup.proofs.replaying.occurrences_of.Given as goal
-
-abbrev pub invariant-loop-at : goal.invariant-loop-at
-invariant-loop-at l = record {
-  size : length l.occurrences.variables ≡ l.cnf.variables;
-  lists : AreOccurrences (take l.at l.cnf.clauses) l.occurrences;
-}

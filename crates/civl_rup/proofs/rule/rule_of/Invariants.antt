@@ -1,5 +1,0 @@
-use Rattle.civl_rup.proofs.MarkLemmas.{Scanned}
-use Rattle.civl_rup.proofs.rule.rule_of.Given as goal
-
-abbrev pub invariant-loop-lit : goal.invariant-loop-lit
-invariant-loop-lit l = Scanned l.marks l.clause l.open l.lit-index

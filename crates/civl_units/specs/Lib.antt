@@ -1,0 +1,5 @@
+pub mod Propagation
+pub mod Laws
+pub mod Trail
+pub mod Occurrences
+pub mod Marks

@@ -1,0 +1,18 @@
+// Memory was wanting.
+use std::alloc::{AllocError, AllocFailed};
+
+/// Memory was wanting.
+#[derive(Clone, Copy, Debug, PartialEq, Eq)]
+pub struct Memory;
+
+impl From<AllocError> for Memory {
+    fn from(_error: AllocError) -> Memory {
+        Memory
+    }
+}
+
+impl<T: Drop> From<AllocFailed<T>> for Memory {
+    fn from(_failed: AllocFailed<T>) -> Memory {
+        Memory
+    }
+}
