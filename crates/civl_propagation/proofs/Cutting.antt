@@ -1,11 +1,11 @@
 -- Levels that are taken back.
-use Rattle.std.proofs.Common.{◌≡◌, ℕ, ◌+◌, ◌-◌, ◌<◌, ◌≤◌, List, [], length, get_or, take, refl, sym, ◌∙◌, ap, subst, arith, Bool}
-use Rattle.std.specs.Prelude.{All, Option, None}
+use Rattle.std.proofs.Common.{◌≡◌, ℕ, ◌-◌, ◌<◌, ◌≤◌, List, length, get_or, take, refl, sym, ◌∙◌, ap, subst, arith}
+use Rattle.std.specs.Prelude.{All, None}
 use Rattle.std.proofs.Math.ListN.{set, length-set}
 use Rattle.std.proofs.lemmas.List.{get_or_default, get_or-take, length-take-le, take-take}
 use Rattle.civl_cnf.specs.Literal.{Literal}
 use Rattle.civl_units.specs.Marks.{marked, IsQuiet}
-use Rattle.civl_propagation.specs.Trail.{TrailState, before, IsStep, IsTrail, IsTrailOver, IsStanding, IsPopped, IsUnstarted, IsCut, AreDecided}
+use Rattle.civl_propagation.specs.Trail.{TrailState, before, IsStep, IsTrailOver, IsStanding, IsPopped, IsUnstarted, IsCut, AreDecided}
 use Rattle.civl_propagation.specs.declared.trail.Step.{Step}
 use Rattle.civl_propagation.proofs.Trails.{some_step, trail_same, trail_pop, trail_unstart, before_all, before_pop}
 

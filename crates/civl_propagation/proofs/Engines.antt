@@ -1,27 +1,31 @@
 -- What holds of an engine, and what its decisions and marks are to each other.
-use Rattle.std.proofs.Common.{◌≡◌, ◌⊎◌, ℕ, suc, zero, ◌+◌, ◌^◌, ◌<◌, ◌≤◌, List, [], ◌∷◌, ◌++◌, length, get_or, replicate, refl, sym, ◌∙◌, ap, subst, inl, inr, arith, Bool, true, not}
-use Rattle.std.specs.Prelude.{IsTrue, All, Contains, Option, None, Some}
-use Rattle.std.proofs.Math.ListN.{length-set}
-use Rattle.std.proofs.lemmas.List.{get_or_default, get_or_append_left, get_or_push, length_push, length-append, length-replicate, get_or-replicate, get_or_past}
+use Rattle.std.proofs.Common.{◌≡◌, ℕ, suc, zero, ◌+◌, ◌^◌, ◌<◌, ◌≤◌, List, [], ◌∷◌, ◌++◌, length, get_or, replicate, refl, sym, ◌∙◌, ap, subst, inl, inr, arith, Bool, true, false}
+use Rattle.std.specs.Prelude.{IsTrue, All, Option, None, Some}
+use Rattle.std.proofs.Math.ListN.{set, length-set}
+use Rattle.std.proofs.lemmas.List.{get_or_default, get_or_append_left, get_or_push, length_push, length-append, length-replicate, get_or-replicate, get_or_past, get_or-take}
 use Rattle.std.proofs.lemmas.List.Elements.{All-nil, All-push}
 use Rattle.civl_cnf.specs.Literal.{Literal}
 use Rattle.civl_cnf.specs.ClauseSet.{IsBelow, AreBelow}
 use Rattle.civl_units.specs.Propagation.{Holds, IsFalsified, IsUnit, IsClosed, HasConflict}
 use Rattle.civl_units.specs.Marks.{is_marked, marked, IsQuiet, IsIncluded}
-use Rattle.civl_units.specs.Occurrences.{OccurrenceLists, AreOccurrences, AreListed, IsUnitListed}
+use Rattle.civl_units.specs.Occurrences.{nowhere, of_sign}
 use Rattle.civl_units.specs.Trail.{IsOpen}
 use Rattle.civl_units.proofs.MarkLemmas.{lt_or_eq, same_self, below_or_not}
-use Rattle.civl_units.proofs.Propagating.{unit_grows}
-use Rattle.civl_units.proofs.Listing.{occurrences_more}
-use Rattle.civl_propagation.specs.Trail.{TrailState, before, IsAt, ReasonSays, IsTrail, IsTrailOver, IsDecided, IsCut, AreDecided}
-use Rattle.civl_propagation.specs.Propagation.{IsServed, IsServedTo, Goes, Grows, PropagationSays, VisitSays}
+use Rattle.civl_units.proofs.Propagating.{marks_stay, unit_grows}
+use Rattle.civl_propagation.specs.Trail.{TrailState, before, IsAt, ReasonSays, IsTrailOver, IsDecided, IsCut, AreDecided}
+use Rattle.civl_propagation.specs.Propagation.{IsServed, Grows, ServeSays}
+use Rattle.civl_propagation.specs.Watches.{WatchState, watchers, with_pair, AreWatched, KeepsUp, AllKeepUp, IsHeld, ChoiceSays, PropagationSays}
 use Rattle.civl_propagation.specs.Engine.{EngineState, IsEngine, IsAtRest, IsQuietBelow, EndsBy}
 use Rattle.civl_propagation.specs.declared.trail.Step.{Step}
+use Rattle.civl_propagation.specs.declared.watches.Pair.{Pair}
 use Rattle.civl_propagation.specs.declared.propagation.Ended.{Ended}
 use Rattle.civl_propagation.specs.declared.propagation.Ended.TheVariants.{Conflict, Quiet}
-use Rattle.civl_propagation.proofs.Trails.{some_step, before_place, before_by, before_marked, before_all}
-use Rattle.civl_propagation.proofs.Serving.{mark_is, falsified_grows, served_grows, served_quiet, trail_decides}
-use Rattle.civl_propagation.proofs.Cutting.{cut_quiet}
+use Rattle.civl_propagation.proofs.Trails.{some_step, before_place, before_by, before_marked, before_push, before_all}
+use Rattle.civl_propagation.proofs.Serving.{mark_is, falsified_grows, served_quiet, trail_decides}
+use Rattle.civl_propagation.proofs.Cutting.{cut_count, cut_quiet}
+use Rattle.civl_propagation.proofs.Watching.{keeps_served, keeps_grow}
+use Rattle.civl_propagation.proofs.Visiting.{held_grows}
+use Rattle.civl_propagation.proofs.Choosing.{chosen_keeps, watched_more, keep_up_more}
 
 abbrev no_mark : Option Bool
 no_mark = None
@@ -178,6 +182,26 @@ conflict_by t clauses decisions r h d at set hold closed =
     let clause = get_or clauses r [] in
     (r, clause, at.0, get_or_same clauses r at.0, falsified_grows (marked t.marks) set clause (least_by t clauses decisions h d set hold closed) at.1)
 
+of_nowhere : (b : Bool) → of_sign b nowhere ≡ []
+of_nowhere true = refl
+of_nowhere false = refl
+
+-- where no clause is watched, each list is empty
+none_watch : (n : ℕ) (l : Literal) → watchers (replicate n nowhere) l ≡ []
+none_watch n l = elim (below_or_not l.variable n) [
+  | inl low ↦ ap (of_sign l.positive) (get_or-replicate n l.variable nowhere nowhere low) ∙ of_nowhere l.positive
+  | inr above ↦
+      let size : length (replicate n nowhere) ≡ n = length-replicate n nowhere in
+      ap (of_sign l.positive) (get_or_past (replicate n nowhere) l.variable nowhere (omega arith)) ∙ of_nowhere l.positive
+]
+
+-- a decision at the end changes nothing before it
+before_decide : (old new : TrailState) (l : Literal) (p : ℕ) → length old.places ≡ length old.marks → IsDecided old new l → l.variable < length old.marks → IsOpen old.marks l → p ≤ length old.steps → before new.marks new.places p ≡ before old.marks old.places p
+before_decide old new l p size is low free fits =
+    ap (λ m. before m new.places p) is.marks
+    ∙ ap (λ x. before (set old.marks l.variable (Some l.positive)) x p) is.places
+    ∙ before_push old.marks old.places (length old.steps) p l.variable l.positive fits low size free
+
 -- an engine with no clause
 pub engine_none : (n : ℕ) → IsTrailOver (record { marks = replicate n None; places = replicate n 0; steps = []; starts = [] }) []
 engine_none n = record {
@@ -212,132 +236,220 @@ trail_more t clauses clause h quiet = record {
   closed = λ k low. All-push (IsQuiet (before t.marks t.places (get_or t.starts k 0))) clauses clause (h.closed k low) (quiet k low);
 }
 
--- once a new clause was visited, all are served
-pub served_more : (old new : TrailState) (clauses : List (List Literal)) (clause : List Literal) → IsTrailOver old clauses → All (IsQuiet (marked old.marks)) clauses → Grows old new → IsAt (clauses ++ clause ∷ []) (length clauses) (IsServed (marked old.marks) (marked new.marks)) → IsServedTo new (clauses ++ clause ∷ []) (length old.steps)
-served_more old new clauses clause h quiet g last =
-    let all : before old.marks old.places (length old.steps) ≡ marked old.marks = before_all old.marks old.places old.steps old.starts clauses h in
-    let same : before new.marks new.places (length old.steps) ≡ marked old.marks = g.same (length old.steps) (omega arith) ∙ all in
-    subst (λ f. All (IsServed f (marked new.marks)) (clauses ++ clause ∷ [])) (sym same)
-    (All-push (IsServed (marked old.marks) (marked new.marks)) clauses clause
-    (λ k d low. served_grows (marked old.marks) (marked old.marks) (marked new.marks) (get_or clauses k d) g.stays (served_quiet (marked old.marks) (get_or clauses k d) (quiet k d low)))
-    (subst (IsServed (marked old.marks) (marked new.marks)) (get_or_push clauses clause [] (length clauses) refl) last.1))
+-- what an engine holds of its trail, its clauses and their watches
+pub held_of : (e : EngineState) → IsEngine e → IsHeld e.trail e.clauses e.watches
+held_of e h = record { trail = h.trail; watched = h.watched; below = h.keeps }
 
 -- an engine whose trail went on
-pub engine_goes : (e : EngineState) (t : TrailState) → IsEngine e → Goes e.trail t e.clauses → IsEngine (record { trail = t; clauses = e.clauses; lists = e.lists })
-engine_goes e t h g =
-    let size : length t.marks ≡ length e.trail.marks = g.grows.size in
+pub engine_held : (e : EngineState) (t : TrailState) (w : WatchState) → IsEngine e → Grows e.trail t → IsHeld t e.clauses w → IsEngine (record { trail = t; clauses = e.clauses; watches = w })
+engine_held e t w h g held =
+    let size : length t.marks ≡ length e.trail.marks = g.size in
     let few = h.few in
     record {
       few = omega arith;
       below = subst (λ (n : ℕ). AreBelow n e.clauses) (sym size) h.below;
-      trail = g.trail;
-      size = h.size ∙ sym size;
-      numbers = h.numbers;
+      trail = held.trail;
+      watched = held.watched;
+      keeps = held.below;
     }
+
+-- where all clauses keep up, none forces anything more, and none is falsified
+pub quiet_by : (t : TrailState) (clauses : List (List Literal)) (w : WatchState) → AreWatched (length t.marks) clauses w → AllKeepUp (marked t.marks) (marked t.marks) clauses w.pairs → All (IsQuiet (marked t.marks)) clauses
+quiet_by t clauses w are keeps n d low =
+    let set = marked t.marks in
+    let s = keeps_served t.marks set set (get_or clauses n []) n w.lists (get_or w.pairs n None) (λ v b m. m) (λ v b m. m) (are.each n low) (keeps n low) in
+    subst (IsQuiet set) (get_or_default clauses n [] d low) (s.forced, s.quiet)
 
 -- how propagation in an engine ended
-pub ends_by : (e : EngineState) (t : TrailState) (ended : Ended) → IsEngine e → PropagationSays e.trail t e.clauses ended → EndsBy (record { trail = t; clauses = e.clauses; lists = e.lists }) ended
-ends_by e t (Conflict r) h says = (engine_goes e t h says.0, says.1)
-ends_by e t Quiet h says = record { engine = engine_goes e t h says.0; quiet = says.1 }
+pub ends_by : (e : EngineState) (t : TrailState) (w : WatchState) (ended : Ended) → IsEngine e → PropagationSays e.trail t e.clauses w ended → EndsBy (record { trail = t; clauses = e.clauses; watches = w }) ended
+ends_by e t w (Conflict r) h says = (engine_held e t w h says.0 says.1, says.2)
+ends_by e t w Quiet h says = record {
+  engine = engine_held e t w h says.0 says.1;
+  quiet = quiet_by t e.clauses w says.1.watched says.2;
+  keeps = says.2;
+}
 
-pub grows_by : (e : EngineState) (t : TrailState) (ended : Ended) → PropagationSays e.trail t e.clauses ended → Grows e.trail t
-grows_by e t (Conflict r) says = says.0.grows
-grows_by e t Quiet says = says.0.grows
+pub grows_of : (old new : TrailState) (clauses : List (List Literal)) (w : WatchState) (ended : Ended) → PropagationSays old new clauses w ended → Grows old new
+grows_of old new clauses w (Conflict r) says = says.0
+grows_of old new clauses w Quiet says = says.0
 
--- an engine with one clause more
-pub engine_more : (e : EngineState) (clause : List Literal) (clauses : List (List Literal)) (lists : OccurrenceLists) (number : ℕ) → IsAtRest e → IsBelow (length e.trail.marks) clause → IsQuietBelow e.trail clause → clauses ≡ e.clauses ++ clause ∷ [] → number ≡ length e.clauses → AreListed e.lists lists clause number → IsUnitListed e.lists lists clause number → length lists.variables ≡ length e.lists.variables → IsEngine (record { trail = e.trail; clauses = clauses; lists = lists })
-engine_more e clause clauses lists number rest below quiet is at listed unit size =
+-- what adding a clause comes to, up to the look at the clause
+pub record Adding (e : EngineState) (clause : List Literal) (pair : Option Pair) (clauses : List (List Literal)) (w : WatchState) (number from : ℕ) : Type 0 where
+  pub rest : IsAtRest e
+  pub is : clauses ≡ e.clauses ++ clause ∷ []
+  pub watches_are : w ≡ with_pair e.watches pair
+  pub chosen : ChoiceSays e.trail clause pair
+  pub engine : IsEngine (record { trail = e.trail; clauses = clauses; watches = w })
+  pub number_is : number ≡ length e.clauses
+  pub from_is : from ≡ length e.trail.steps
+
+pub adding_by : (e : EngineState) (clause : List Literal) (pair : Option Pair) (clauses : List (List Literal)) (w : WatchState) (number from : ℕ) → IsAtRest e → IsBelow (length e.trail.marks) clause → IsQuietBelow e.trail clause → clauses ≡ e.clauses ++ clause ∷ [] → w ≡ with_pair e.watches pair → ChoiceSays e.trail clause pair → number ≡ length e.clauses → from ≡ length e.trail.steps → Adding e clause pair clauses w number from
+adding_by e clause pair clauses w number from rest below quiet is watches_are chosen at start =
     let h = rest.engine in
-    let whole : IsEngine (record { trail = e.trail; clauses = e.clauses ++ clause ∷ []; lists = lists }) = record {
+    let t = e.trail in
+    let whole : IsEngine (record { trail = t; clauses = e.clauses ++ clause ∷ []; watches = w }) = record {
       few = h.few;
-      below = All-push (IsBelow (length e.trail.marks)) e.clauses clause h.below below;
-      trail = trail_more e.trail e.clauses clause h.trail quiet;
-      size = size ∙ h.size;
-      numbers = occurrences_more e.clauses clause e.lists lists number at h.numbers listed unit;
+      below = All-push (IsBelow (length t.marks)) e.clauses clause h.below below;
+      trail = trail_more t e.clauses clause h.trail quiet;
+      watched = watched_more t (length t.marks) e.clauses clause e.watches w pair below h.watched chosen watches_are;
+      keeps = λ k low.
+          let p = get_or t.starts k 0 in
+          keep_up_more (before t.marks t.places p) (before t.marks t.places p) e.clauses clause e.watches w pair h.watched.pairs watches_are (h.keeps k low)
+          (chosen_keeps t (before t.marks t.places p) clause pair p chosen (h.trail.low k low) (served_quiet (before t.marks t.places p) clause (quiet k low)));
     } in
-    subst (λ (cs : List (List Literal)). IsEngine (record { trail = e.trail; clauses = cs; lists = lists })) (sym is) whole
-
--- once the new clause was visited, all are served
-pub added_served : (old new : TrailState) (clauses all : List (List Literal)) (clause : List Literal) (number from : ℕ) (ended : Ended) → all ≡ clauses ++ clause ∷ [] → number ≡ length clauses → from ≡ length old.steps → IsTrailOver old clauses → All (IsQuiet (marked old.marks)) clauses → VisitSays old new all number ended → ended ≡ Quiet → IsServedTo new all from
-added_served old new clauses all clause number from ended is at start h quiet says end =
-    let now : VisitSays old new all number Quiet = subst (VisitSays old new all number) end says in
-    let last : IsAt (clauses ++ clause ∷ []) (length clauses) (IsServed (marked old.marks) (marked new.marks)) = subst (λ (cs : List (List Literal)). IsAt cs (length clauses) (IsServed (marked old.marks) (marked new.marks))) is
-    (subst (λ (n : ℕ). IsAt all n (IsServed (marked old.marks) (marked new.marks))) at now.1) in
-    subst (λ (cs : List (List Literal)). IsServedTo new cs from) (sym is)
-    (subst (IsServedTo new (clauses ++ clause ∷ [])) (sym start) (served_more old new clauses clause h quiet now.0.grows last))
-
--- an engine with a decision
-pub engine_decides : (e : EngineState) (t : TrailState) (l : Literal) → IsAtRest e → IsDecided e.trail t l → l.variable < length e.trail.marks → IsOpen e.trail.marks l → IsEngine (record { trail = t; clauses = e.clauses; lists = e.lists })
-engine_decides e t l rest is low free =
-    let h = rest.engine in
-    let size : length t.marks ≡ length e.trail.marks = ap length is.marks ∙ length-set e.trail.marks l.variable (Some l.positive) in
-    let few = h.few in
     record {
-      few = omega arith;
-      below = subst (λ (n : ℕ). AreBelow n e.clauses) (sym size) h.below;
-      trail = trail_decides e.trail t e.clauses l h.trail rest.quiet is low free;
-      size = h.size ∙ sym size;
-      numbers = h.numbers;
+      rest = rest;
+      is = is;
+      watches_are = watches_are;
+      chosen = chosen;
+      engine = subst (λ (cs : List (List Literal)). IsEngine (record { trail = t; clauses = cs; watches = w })) (sym is) whole;
+      number_is = at;
+      from_is = start;
     }
 
--- an engine whose levels were taken back
-pub engine_cut : (e : EngineState) (t : TrailState) (levels : ℕ) → IsEngine e → levels < length e.trail.starts → IsCut e.trail t levels → IsAtRest (record { trail = t; clauses = e.clauses; lists = e.lists })
-engine_cut e t levels h fits cut =
-    let size : length t.marks ≡ length e.trail.marks = cut.size in
+-- once the new clause was looked at, all keep up
+pub added_keeps : (e : EngineState) (clause : List Literal) (pair : Option Pair) (clauses : List (List Literal)) (w : WatchState) (number from : ℕ) (new : TrailState) → Adding e clause pair clauses w number from → Grows e.trail new → IsAt clauses number (IsServed (marked e.trail.marks) (marked new.marks)) → AllKeepUp (before new.marks new.places from) (marked new.marks) clauses w.pairs
+added_keeps e clause pair clauses w number from new a g at =
+    let old = e.trail in
+    let h = a.rest.engine in
+    let n = length old.steps in
+    let all : before old.marks old.places n ≡ marked old.marks = before_all old.marks old.places old.steps old.starts e.clauses h.trail in
+    let same : before new.marks new.places from ≡ before old.marks old.places n = ap (before new.marks new.places) a.from_is ∙ g.same n (omega arith) in
+    let here : get_or clauses number [] ≡ clause = ap (λ (cs : List (List Literal)). get_or cs number []) a.is ∙ get_or_push e.clauses clause [] number (sym a.number_is) in
+    let served : IsServed (before old.marks old.places n) (marked new.marks) clause = subst (λ f. IsServed f (marked new.marks) clause) (sym all) (subst (IsServed (marked old.marks) (marked new.marks)) here at.1) in
+    let last = chosen_keeps old (marked new.marks) clause pair n a.chosen (omega arith) served in
+    let older : AllKeepUp (before old.marks old.places n) (marked new.marks) e.clauses e.watches.pairs = λ k low.
+    keeps_grow (before old.marks old.places n) (marked old.marks) (marked new.marks) (get_or e.clauses k []) (get_or e.watches.pairs k None) g.stays
+    (subst (λ f. KeepsUp f (marked old.marks) (get_or e.clauses k []) (get_or e.watches.pairs k None)) (sym all) (a.rest.keeps k low)) in
+    subst (λ f. AllKeepUp f (marked new.marks) clauses w.pairs) (sym same)
+    (subst (λ (cs : List (List Literal)). AllKeepUp (before old.marks old.places n) (marked new.marks) cs w.pairs) (sym a.is)
+    (keep_up_more (before old.marks old.places n) (marked new.marks) e.clauses clause e.watches w pair h.watched.pairs a.watches_are older last))
+
+-- what stands when propagation begins
+pub record Added (old new : TrailState) (clauses : List (List Literal)) (w : WatchState) (from : ℕ) : Type 0 where
+  pub grows : Grows old new
+  pub held : IsHeld new clauses w
+  pub low : from ≤ length new.steps
+  pub keeps : AllKeepUp (before new.marks new.places from) (marked new.marks) clauses w.pairs
+
+pub adding_served : (e : EngineState) (clause : List Literal) (pair : Option Pair) (clauses : List (List Literal)) (w : WatchState) (number from : ℕ) (t : TrailState) (ended : Ended) → Adding e clause pair clauses w number from → ServeSays e.trail t clauses number ended → ended ≡ Quiet → Added e.trail t clauses w from
+adding_served e clause pair clauses w number from t ended a says end =
+    let now : ServeSays e.trail t clauses number Quiet = subst (ServeSays e.trail t clauses number) end says in
+    let start = a.from_is in
+    let longer = now.0.grows.longer in
+    record {
+      grows = now.0.grows;
+      held = held_grows e.trail t clauses w (held_of (record { trail = e.trail; clauses = clauses; watches = w }) a.engine) now.0;
+      low = omega arith;
+      keeps = added_keeps e clause pair clauses w number from t a now.0.grows now.1;
+    }
+
+-- the new clause is falsified at once
+pub adding_falsified : (e : EngineState) (clause : List Literal) (pair : Option Pair) (clauses : List (List Literal)) (w : WatchState) (number from : ℕ) (t : TrailState) (r : ℕ) → Adding e clause pair clauses w number from → ServeSays e.trail t clauses number (Conflict r) → EndsBy (record { trail = t; clauses = clauses; watches = w }) (Conflict r)
+adding_falsified e clause pair clauses w number from t r a says =
+    let mid : EngineState = record { trail = e.trail; clauses = clauses; watches = w } in
+    (engine_held mid t w a.engine says.0.grows (held_grows e.trail t clauses w (held_of mid a.engine) says.0), says.1)
+
+-- a level begins with a decision: what keeps up with all that was true does so below its start
+decided_held : (old new : TrailState) (clauses : List (List Literal)) (w : WatchState) (l : Literal) → IsHeld old clauses w → All (IsQuiet (marked old.marks)) clauses → AllKeepUp (marked old.marks) (marked old.marks) clauses w.pairs → IsDecided old new l → l.variable < length old.marks → IsOpen old.marks l → IsHeld new clauses w
+decided_held old new clauses w l h quiet keeps is low free =
+    let n = length old.steps in
+    let size : length new.marks ≡ length old.marks = ap length is.marks ∙ length-set old.marks l.variable (Some l.positive) in
+    let same : (p : ℕ) → p ≤ n → before new.marks new.places p ≡ before old.marks old.places p = λ p fits. before_decide old new l p h.trail.size is low free fits in
+    let count : length new.starts ≡ length old.starts + 1 = ap length is.starts ∙ length_push old.starts n in
+    record {
+      trail = trail_decides old new clauses l h.trail quiet is low free;
+      watched = subst (λ (k : ℕ). AreWatched k clauses w) (sym size) h.watched;
+      below = λ k inside. elim (lt_or_eq k (length old.starts) (omega arith)) [
+        | inl less ↦
+            let at : get_or new.starts k 0 ≡ get_or old.starts k 0 = ap (λ (x : List ℕ). get_or x k 0) is.starts ∙ get_or_append_left old.starts (n ∷ []) 0 k less in
+            let f : before new.marks new.places (get_or new.starts k 0) ≡ before old.marks old.places (get_or old.starts k 0) = ap (before new.marks new.places) at ∙ same (get_or old.starts k 0) (h.trail.low k less) in
+            subst (λ s. AllKeepUp s s clauses w.pairs) (sym f) (h.below k less)
+        | inr last ↦
+            let at : get_or new.starts k 0 ≡ n = ap (λ (x : List ℕ). get_or x k 0) is.starts ∙ get_or_push old.starts n 0 k (sym last) in
+            let f : before new.marks new.places (get_or new.starts k 0) ≡ marked old.marks = ap (before new.marks new.places) at ∙ same n (omega arith) ∙ before_all old.marks old.places old.steps old.starts clauses h.trail in
+            subst (λ s. AllKeepUp s s clauses w.pairs) (sym f) keeps
+      ];
+    }
+
+-- an engine with a decision, of which propagation is due
+pub record Deciding (e : EngineState) (t : TrailState) (from : ℕ) : Type 0 where
+  pub engine : IsEngine (record { trail = t; clauses = e.clauses; watches = e.watches })
+  pub low : from ≤ length t.steps
+  pub keeps : AllKeepUp (before t.marks t.places from) (marked t.marks) e.clauses e.watches.pairs
+
+pub engine_decides : (e : EngineState) (t : TrailState) (l : Literal) (from : ℕ) → IsAtRest e → IsDecided e.trail t l → l.variable < length e.trail.marks → IsOpen e.trail.marks l → from ≡ length e.trail.steps → Deciding e t from
+engine_decides e t l from rest is low free start =
+    let h = rest.engine in
+    let old = e.trail in
+    let n = length old.steps in
+    let size : length t.marks ≡ length old.marks = ap length is.marks ∙ length-set old.marks l.variable (Some l.positive) in
     let few = h.few in
+    let held = decided_held old t e.clauses e.watches l (held_of e h) rest.quiet rest.keeps is low free in
+    let longer : length t.steps ≡ n + 1 = ap length is.steps ∙ length_push old.steps (record { lit = l; reason = None }) in
+    let same : before t.marks t.places from ≡ marked old.marks = ap (before t.marks t.places) start ∙ before_decide old t l n h.trail.size is low free (omega arith) ∙ before_all old.marks old.places old.steps old.starts e.clauses h.trail in
+    let grown : IsIncluded (marked old.marks) (marked t.marks) = λ v b m. subst (λ x. IsTrue (marked x v b)) (sym is.marks) (marks_stay old.marks l free v b m) in
+    record {
+      engine = record {
+        few = omega arith;
+        below = subst (λ (k : ℕ). AreBelow k e.clauses) (sym size) h.below;
+        trail = held.trail;
+        watched = held.watched;
+        keeps = held.below;
+      };
+      low = omega arith;
+      keeps = λ k inside.
+          keeps_grow (before t.marks t.places from) (marked old.marks) (marked t.marks) (get_or e.clauses k []) (get_or e.watches.pairs k None) grown
+          (subst (λ f. KeepsUp f (marked old.marks) (get_or e.clauses k []) (get_or e.watches.pairs k None)) (sym same) (rest.keeps k inside));
+    }
+
+-- an engine whose levels were taken back: its watches stay as they are
+pub engine_cut : (e : EngineState) (t : TrailState) (levels : ℕ) → IsEngine e → levels < length e.trail.starts → IsCut e.trail t levels → IsAtRest (record { trail = t; clauses = e.clauses; watches = e.watches })
+engine_cut e t levels h fits cut =
+    let old = e.trail in
+    let size : length t.marks ≡ length old.marks = cut.size in
+    let few = h.few in
+    let count : length t.starts ≡ levels = cut_count old t levels (omega arith) cut in
+    let end = cut.end in
+    let older : (k : ℕ) → k < levels → get_or t.starts k 0 ≡ get_or old.starts k 0 = λ k low. ap (λ (x : List ℕ). get_or x k 0) cut.starts ∙ get_or-take levels old.starts k 0 low in
+    let all : before old.marks old.places (get_or old.starts levels 0) ≡ marked t.marks = ap (before old.marks old.places) (sym end) ∙ sym (cut.same (length t.steps) (omega arith)) ∙ before_all t.marks t.places t.steps t.starts e.clauses (cut.keeps e.clauses h.trail) in
+    let watched = subst (λ (n : ℕ). AreWatched n e.clauses e.watches) (sym size) h.watched in
     record {
       engine = record {
         few = omega arith;
         below = subst (λ (n : ℕ). AreBelow n e.clauses) (sym size) h.below;
         trail = cut.keeps e.clauses h.trail;
-        size = h.size ∙ sym size;
-        numbers = h.numbers;
+        watched = watched;
+        keeps = λ k inside.
+            let here : k < levels = omega arith in
+            let rise = h.trail.rise k levels (omega arith) fits in
+            let f : before t.marks t.places (get_or t.starts k 0) ≡ before old.marks old.places (get_or old.starts k 0) = ap (before t.marks t.places) (older k here) ∙ cut.same (get_or old.starts k 0) (omega arith) in
+            subst (λ s. AllKeepUp s s e.clauses e.watches.pairs) (sym f) (h.keeps k (omega arith));
       };
-      quiet = cut_quiet e.trail t levels e.clauses fits h.trail cut;
+      quiet = cut_quiet old t levels e.clauses fits h.trail cut;
+      keeps = subst (λ s. AllKeepUp s s e.clauses e.watches.pairs) all (h.keeps levels fits);
     }
 
 -- an engine with no clause and no mark
-pub engine_new : (n : ℕ) (t : TrailState) (clauses : List (List Literal)) (lists : OccurrenceLists) → n ≤ 2 ^ 31 → t ≡ record { marks = replicate n None; places = replicate n 0; steps = []; starts = [] } → clauses ≡ [] → length lists.variables ≡ n → AreOccurrences [] lists → IsAtRest (record { trail = t; clauses = clauses; lists = lists })
-engine_new n t clauses lists few is none size are =
+pub engine_new : (n : ℕ) (t : TrailState) (clauses : List (List Literal)) (w : WatchState) → n ≤ 2 ^ 31 → t ≡ record { marks = replicate n None; places = replicate n 0; steps = []; starts = [] } → clauses ≡ [] → w ≡ record { pairs = []; lists = replicate n nowhere } → IsAtRest (record { trail = t; clauses = clauses; watches = w })
+engine_new n t clauses w few is none watches_are =
     let marks : length t.marks ≡ n = ap (λ (x : TrailState). length x.marks) is ∙ length-replicate n no_mark in
-    subst (λ (cs : List (List Literal)). IsAtRest (record { trail = t; clauses = cs; lists = lists })) (sym none) (record {
+    let starts : length t.starts ≡ 0 = ap (λ (x : TrailState). length x.starts) is in
+    let lists : length w.lists ≡ n = ap (λ (x : WatchState). length x.lists) watches_are ∙ length-replicate n nowhere in
+    let free : (l : Literal) → watchers w.lists l ≡ [] = λ l. ap (λ (x : WatchState). watchers x.lists l) watches_are ∙ none_watch n l in
+    subst (λ (cs : List (List Literal)). IsAtRest (record { trail = t; clauses = cs; watches = w })) (sym none) (record {
       engine = record {
         few = omega arith;
         below = All-nil (IsBelow (length t.marks));
         trail = subst (λ (x : TrailState). IsTrailOver x []) (sym is) (engine_none n);
-        size = size ∙ sym marks;
-        numbers = are;
+        watched = record {
+          pairs = ap (λ (x : WatchState). length x.pairs) watches_are;
+          lists = lists ∙ sym marks;
+          numbers = λ l. subst (All (λ k. k < 0)) (sym (free l)) (All-nil (λ k. k < 0));
+          each = λ k low. absurd (omega arith);
+        };
+        keeps = λ k low. absurd (omega arith);
       };
       quiet = All-nil (IsQuiet (marked t.marks));
+      keeps = λ k low. absurd (omega arith);
     })
-
-pub grows_of : (old new : TrailState) (clauses : List (List Literal)) (ended : Ended) → PropagationSays old new clauses ended → Grows old new
-grows_of old new clauses (Conflict r) says = says.0.grows
-grows_of old new clauses Quiet says = says.0.grows
-
--- what adding a clause comes to, up to the visit of the clause
-pub record Adding (e : EngineState) (clause : List Literal) (clauses : List (List Literal)) (lists : OccurrenceLists) (number from : ℕ) : Type 0 where
-  pub rest : IsAtRest e
-  pub is : clauses ≡ e.clauses ++ clause ∷ []
-  pub engine : IsEngine (record { trail = e.trail; clauses = clauses; lists = lists })
-  pub number_is : number ≡ length e.clauses
-  pub from_is : from ≡ length e.trail.steps
-
-pub adding_by : (e : EngineState) (clause : List Literal) (clauses : List (List Literal)) (lists : OccurrenceLists) (number from : ℕ) → IsAtRest e → IsBelow (length e.trail.marks) clause → IsQuietBelow e.trail clause → clauses ≡ e.clauses ++ clause ∷ [] → number ≡ length e.clauses → from ≡ length e.trail.steps → AreListed e.lists lists clause number → IsUnitListed e.lists lists clause number → length lists.variables ≡ length e.lists.variables → Adding e clause clauses lists number from
-adding_by e clause clauses lists number from rest below quiet is at start listed unit size = record {
-  rest = rest;
-  is = is;
-  engine = engine_more e clause clauses lists number rest below quiet is at listed unit size;
-  number_is = at;
-  from_is = start;
-}
-
-pub adding_visited : (e : EngineState) (clause : List Literal) (clauses : List (List Literal)) (lists : OccurrenceLists) (number from : ℕ) (t : TrailState) (ended : Ended) → Adding e clause clauses lists number from → VisitSays e.trail t clauses number ended → ended ≡ Quiet → Goes e.trail t clauses × IsServedTo t clauses from × (from ≤ length t.steps)
-adding_visited e clause clauses lists number from t ended a says end =
-    let goes = (subst (VisitSays e.trail t clauses number) end says).0 in
-    let longer = goes.grows.longer in
-    let start = a.from_is in (
-      goes,
-      added_served e.trail t e.clauses clauses clause number from ended a.is a.number_is a.from_is a.rest.engine.trail a.rest.quiet says end,
-      omega arith,
-    )

@@ -4,3 +4,4 @@ pub mod Serving
 pub mod Engines
 pub mod Watching
 pub mod Visiting
+pub mod Choosing

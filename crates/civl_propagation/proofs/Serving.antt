@@ -1,25 +1,21 @@
 -- Propagation along the trail.
-use Rattle.std.proofs.Common.{◌≡◌, ℕ, ◌+◌, ◌<◌, ◌≤◌, List, [], ◌∷◌, ◌++◌, length, get_or, refl, sym, ◌∙◌, ap, ap₂, subst, inl, inr, arith, Bool, not}
-use Rattle.std.specs.Prelude.{IsTrue, All, Contains, Option, None, Some}
+use Rattle.std.proofs.Common.{◌≡◌, ℕ, ◌+◌, ◌<◌, List, [], ◌∷◌, ◌++◌, length, get_or, refl, sym, ◌∙◌, ap, ap₂, subst, inl, inr, arith, Bool, not}
+use Rattle.std.specs.Prelude.{IsTrue, All, Option, None, Some}
 use Rattle.std.proofs.Math.ListN.{set, length-set}
 use Rattle.std.proofs.lemmas.List.{get_or-set_same, get_or_default, get_or_append_left, length_push}
-use Rattle.std.proofs.lemmas.List.Elements.{All-contains, Contains-get_or, Contains-push}
+use Rattle.std.proofs.lemmas.List.Elements.{All-contains, Contains-push}
 use Rattle.civl_cnf.specs.Literal.{Literal, opposite}
 use Rattle.civl_cnf.specs.ClauseSet.{IsBelow}
 use Rattle.civl_units.specs.Propagation.{Holds, Fails, IsFalsified, IsUnit}
 use Rattle.civl_units.specs.Marks.{is_marked, marked, IsQuiet, IsIncluded}
-use Rattle.civl_units.specs.Occurrences.{OccurrenceLists, numbers_of, AreOccurrences}
 use Rattle.civl_units.specs.Trail.{IsOpen, open_count}
 use Rattle.civl_units.proofs.MarkLemmas.{same_self, lt_or_eq}
 use Rattle.civl_units.proofs.LawLemmas.{not_not}
-use Rattle.civl_units.proofs.Listing.{contains_or_not}
 use Rattle.civl_units.proofs.Propagating.{marks_stay, same_is, unit_grows}
 use Rattle.civl_units.proofs.Trails.{open_set}
-use Rattle.civl_propagation.specs.Trail.{TrailState, before, IsAt, IsStep, ReasonSays, IsTrail, IsTrailOver, IsPushed, IsDecided, AreDecided}
-use Rattle.civl_propagation.specs.Propagation.{IsServed, IsServedTo, Goes, Grows, VisitsSay}
+use Rattle.civl_propagation.specs.Trail.{TrailState, before, IsAt, IsStep, ReasonSays, IsTrail, IsTrailOver, IsPushed, IsDecided}
+use Rattle.civl_propagation.specs.Propagation.{IsServed, Goes, Grows}
 use Rattle.civl_propagation.specs.declared.trail.Step.{Step}
-use Rattle.civl_propagation.specs.declared.propagation.Ended.{Ended}
-use Rattle.civl_propagation.specs.declared.propagation.Ended.TheVariants.{Conflict, Quiet}
 use Rattle.civl_propagation.proofs.Trails.{some_step, before_place, before_by, before_marked, before_push, before_all, trail_push, trail_start, trail_same}
 
 -- an element read with another default
@@ -85,16 +81,6 @@ fails_older marks places steps starts clauses n l m t low is step other f =
       | inl less ↦ before_by marks places n m.variable (not m.positive) less held
       | inr same ↦ absurd (other (opposite_is marks places n l m step (step_one marks places steps starts clauses n l m.variable (not m.positive) t low is held same) held))
     ]
-
--- a clause without the opposite of a step's literal is served by it
-served_absent : (marks : List (Option Bool)) (places : List ℕ) (steps : List Step) (starts : List ℕ) (clauses : List (List Literal)) (n : ℕ) (l : Literal) (large : ℕ → Bool → Bool) (clause : List Literal) → IsTrail marks places steps starts clauses → n < length steps → ((d : Step) → (get_or steps n d).lit ≡ l) → IsStep marks places n l → (Contains clause (opposite l) → ⊥) → IsServed (before marks places n) large clause → IsServed (before marks places (n + 1)) large clause
-served_absent marks places steps starts clauses n l large clause t below is step absent s =
-    let older : (k : ℕ) (d : Literal) → k < length clause → Fails (before marks places (n + 1)) (get_or clause k d) → Fails (before marks places n) (get_or clause k d)
-    = λ k d low f. fails_older marks places steps starts clauses n l (get_or clause k d) t below is step (λ e. absent (subst (Contains clause) e (Contains-get_or clause k d low))) f in
-    record {
-      forced = λ m unit. s.forced m (unit.0, λ k d low. elim (unit.1 k d low) [ inl e ↦ inl e | inr f ↦ inr (older k d low f) ]);
-      quiet = λ all. s.quiet (λ k d low. older k d low (all k d low));
-    }
 
 fewer_set : (old new : List (Option Bool)) (l : Literal) → new ≡ set old l.variable (Some l.positive) → l.variable < length old → IsOpen old l → open_count new + 1 ≡ open_count old
 fewer_set old new l is low free =
@@ -180,67 +166,9 @@ visit_forces old new clauses i t low l unit free known pushed = (
 pub visit_quiet : (old : TrailState) (clauses : List (List Literal)) (i : ℕ) → IsTrailOver old clauses → i < length clauses → IsQuiet (marked old.marks) (get_or clauses i []) → Goes old old clauses × IsAt clauses i (IsServed (marked old.marks) (marked old.marks))
 visit_quiet old clauses i t low quiet = (goes_self old clauses t, (low, served_quiet (marked old.marks) (get_or clauses i []) quiet))
 
--- one more clause of a list was visited
-pub visits_next : (first old new : TrailState) (clauses : List (List Literal)) (numbers : List ℕ) (n e : ℕ) → n < length numbers → Grows first old → ((k : ℕ) (d : ℕ) → k < n → IsAt clauses (get_or numbers k d) (IsServed (marked first.marks) (marked old.marks))) → Grows old new → IsAt clauses (get_or numbers n e) (IsServed (marked old.marks) (marked new.marks)) → (k : ℕ) (d : ℕ) → k < n + 1 → IsAt clauses (get_or numbers k d) (IsServed (marked first.marks) (marked new.marks))
-visits_next first old new clauses numbers n e below f served g last k d low = elim (lt_or_eq k n low) [
-  | inl less ↦
-      let one = served k d less in
-      (one.0, served_grows (marked first.marks) (marked old.marks) (marked new.marks) (get_or clauses (get_or numbers k d) []) g.stays one.1)
-  | inr is ↦
-      subst (λ j. IsAt clauses j (IsServed (marked first.marks) (marked new.marks))) (at_same numbers n k e d below is)
-      (last.0, served_shrinks (marked first.marks) (marked old.marks) (marked new.marks) (get_or clauses (get_or numbers n e) []) f.stays last.1)
-]
-
 -- a clause of the set, read with another default
 pub clause_default : (P : List Literal → Type 0) (clauses : List (List Literal)) (i : ℕ) (d : List Literal) → i < length clauses → P (get_or clauses i []) → P (get_or clauses i d)
 clause_default P clauses i d low p = subst P (get_or_default clauses i [] d low) p
-
--- one more step of the trail was served
-pub served_next : (old new : TrailState) (clauses : List (List Literal)) (lists : OccurrenceLists) (n : ℕ) (l : Literal) → IsTrailOver old clauses → ((d : Step) → (get_or old.steps n d).lit ≡ l) → n < length old.steps → AreOccurrences clauses lists → IsServedTo old clauses n → Grows old new → All (λ i. IsAt clauses i (IsServed (marked old.marks) (marked new.marks))) (numbers_of lists (opposite l)) → IsServedTo new clauses (n + 1)
-served_next old new clauses lists n l t is low are served g visited i d below =
-    let marks = old.marks in
-    let places = old.places in
-    let clause = get_or clauses i [] in
-    let after = marked new.marks in
-    let step : IsStep marks places n l = subst (IsStep marks places n) (is some_step) (t.steps_are n some_step low) in
-    let within : IsIncluded (before marks places (n + 1)) (marked marks) = λ v b m. before_marked marks places (n + 1) v b m in
-    let now : IsServed (before marks places (n + 1)) after clause = elim (contains_or_not clause (opposite l)) [
-      | inl there ↦
-          let at = All-contains (λ j. IsAt clauses j (IsServed (marked marks) after)) (numbers_of lists (opposite l)) i visited ((are.numbers (opposite l) i).1 (below, there)) in
-          served_shrinks (before marks places (n + 1)) (marked marks) after clause within at.1
-      | inr absent ↦
-          served_grows (before marks places (n + 1)) (marked marks) after clause g.stays
-          (served_absent marks places old.steps old.starts clauses n l (marked marks) clause t low is step absent (served i [] below))
-    ] in
-    clause_default (IsServed (before new.marks new.places (n + 1)) after) clauses i d below (subst (λ f. IsServed f after clause) (sym (g.same (n + 1) (omega arith))) now)
-
--- all steps were served
-pub served_all : (t : TrailState) (clauses : List (List Literal)) (n : ℕ) → IsTrailOver t clauses → n ≡ length t.steps → IsServedTo t clauses n → All (IsQuiet (marked t.marks)) clauses
-served_all t clauses n h is served i d low =
-    let all = before_all t.marks t.places t.steps t.starts clauses h in
-    let now = subst (λ f. IsServed f (marked t.marks) (get_or clauses i d)) (ap (before t.marks t.places) is ∙ all) (served i d low) in
-    (now.forced, now.quiet)
-
--- the numbers of a literal are those of clauses
-pub numbers_below : (clauses : List (List Literal)) (lists : OccurrenceLists) (l : Literal) → AreOccurrences clauses lists → All (λ i. i < length clauses) (numbers_of lists l)
-numbers_below clauses lists l are k d low = ((are.numbers l (get_or (numbers_of lists l) k d)).0 (Contains-get_or (numbers_of lists l) k d low)).0
-
--- a visit that ended quietly, of the same numbers
-pub visits_of : (old new : TrailState) (clauses : List (List Literal)) (numbers others : List ℕ) (ended : Ended) → numbers ≡ others → ended ≡ Quiet → VisitsSay old new clauses numbers ended → VisitsSay old new clauses others Quiet
-visits_of old new clauses numbers others ended is quiet says =
-    subst (λ (ns : List ℕ). VisitsSay old new clauses ns Quiet) is (subst (VisitsSay old new clauses numbers) quiet says)
-
--- what was quiet is served once a literal is decided
-pub served_decide : (old new : TrailState) (clauses : List (List Literal)) (l : Literal) → IsTrailOver old clauses → All (IsQuiet (marked old.marks)) clauses → IsDecided old new l → l.variable < length old.marks → IsOpen old.marks l → IsServedTo new clauses (length old.steps)
-served_decide old new clauses l h quiet is below free i d low =
-    let n = length old.steps in
-    let same = ap (λ m. before m new.places n) is.marks ∙ ap (λ p. before (set old.marks l.variable (Some l.positive)) p n) is.places
-    ∙ before_push old.marks old.places n n l.variable l.positive (omega arith) below h.size free
-    ∙ before_all old.marks old.places old.steps old.starts clauses h in
-    let clause = get_or clauses i d in
-    let grown : IsIncluded (marked old.marks) (marked new.marks) = λ v b m. subst (λ x. IsTrue (marked x v b)) (sym is.marks) (marks_stay old.marks l free v b m) in
-    subst (λ f. IsServed f (marked new.marks) clause) (sym same)
-    (served_grows (marked old.marks) (marked old.marks) (marked new.marks) clause grown (served_quiet (marked old.marks) clause (quiet i d low)))
 
 -- a level begins with a decision
 pub trail_decides : (old new : TrailState) (clauses : List (List Literal)) (l : Literal) → IsTrailOver old clauses → All (IsQuiet (marked old.marks)) clauses → IsDecided old new l → l.variable < length old.marks → IsOpen old.marks l → IsTrailOver new clauses

@@ -1,28 +1,30 @@
 -- Visits of clauses by their watches.
-use Rattle.std.proofs.Common.{◌≡◌, ◌⊎◌, ℕ, ◌+◌, ◌<◌, ◌≤◌, List, [], ◌∷◌, ◌++◌, length, get_or, refl, sym, ◌∙◌, ap, ap₂, subst, inl, inr, arith, Bool, true, false, not}
-use Rattle.std.specs.Prelude.{IsTrue, All, Contains, Option, None, Some, ◌≢◌}
+use Rattle.std.proofs.Common.{◌≡◌, ◌⊎◌, ℕ, ◌+◌, ◌<◌, ◌≤◌, List, [], ◌∷◌, length, get_or, refl, sym, ◌∙◌, ap, ap₂, subst, inl, inr, arith, Bool, true, false}
+use Rattle.std.specs.Prelude.{All, Contains, Option, None, Some, ◌≢◌}
 use Rattle.std.specs.List.{swap_remove}
 use Rattle.std.proofs.Math.ListN.{set, length-set}
 use Rattle.std.proofs.lemmas.Bool.Decides.{eqb_tells}
 use Rattle.std.proofs.lemmas.List.{get_or-set_same, get_or-set_other, get_or_default}
-use Rattle.std.proofs.lemmas.List.Elements.{All-contains, All-push, Contains-get_or, Contains-push, Contains-append_left}
+use Rattle.std.proofs.lemmas.List.Elements.{All-contains, All-push, Contains-push, Contains-append_left}
 use Rattle.civl_cnf.specs.Literal.{Literal, opposite}
-use Rattle.civl_units.specs.Propagation.{Holds, Fails, IsFalsified, IsUnit}
-use Rattle.civl_units.specs.Marks.{is_marked, marked, IsQuiet, IsIncluded}
-use Rattle.civl_units.specs.Occurrences.{BothSigns, IsSingle}
-use Rattle.civl_units.specs.Trail.{IsOpen}
-use Rattle.civl_units.proofs.MarkLemmas.{lt_or_eq, same_self}
+use Rattle.civl_cnf.specs.ClauseSet.{AreBelow}
+use Rattle.civl_units.specs.Propagation.{Holds, Fails, IsFalsified}
+use Rattle.civl_units.specs.Marks.{is_marked, marked, IsIncluded}
+use Rattle.civl_units.specs.Occurrences.{BothSigns}
+use Rattle.civl_units.proofs.MarkLemmas.{same_self}
 use Rattle.civl_units.proofs.LawLemmas.{not_not}
-use Rattle.civl_propagation.specs.Trail.{TrailState, before, IsAt, IsStep, IsTrailOver, IsPushed}
-use Rattle.civl_propagation.specs.Propagation.{IsServed, Grows, Goes}
-use Rattle.civl_propagation.specs.Watches.{WatchState, watchers, IsListed, IsUnlisted, IsWatchedBy, IsWatched, AreWatched, Answers, KeepsUp, AllKeepUp, KeepUpBelow, IsHeld, IsDueFrom, IsVisiting}
+use Rattle.civl_propagation.specs.Trail.{TrailState, before, IsAt, IsStep}
+use Rattle.civl_propagation.specs.Propagation.{Grows, Goes}
+use Rattle.civl_propagation.specs.Watches.{WatchState, watchers, IsListed, IsUnlisted, IsWatchedBy, IsWatched, AreWatched, Answers, KeepsUp, AllKeepUp, IsHeld, IsDueFrom, IsVisiting, IsRelisted, IsRewatched, IsPair, OtherSays, ReplacementSays, ForceSays, VisitSays}
+use Rattle.civl_propagation.specs.declared.watches.Visit.{Visit}
+use Rattle.civl_propagation.specs.declared.watches.Visit.TheVariants.{Falsified, Stays, Moved}
 use Rattle.civl_propagation.specs.declared.watches.Pair.{Pair}
 use Rattle.civl_propagation.specs.declared.trail.Step.{Step}
 use Rattle.civl_propagation.proofs.Trails.{some_step, before_marked}
-use Rattle.civl_propagation.proofs.Serving.{fails_older, goes_push, holds_push}
-use Rattle.civl_propagation.proofs.Watching.{removed_keeps, removed_size, removed_all, keeps_grow, IsPair, pair_answers, answers_true, answers_moved, answers_older, not_both}
+use Rattle.civl_propagation.proofs.Serving.{fails_older, grows_self, goes_push, holds_push}
+use Rattle.civl_propagation.proofs.Watching.{removed_keeps, removed_size, removed_all, keeps_grow, pair_answers, answers_true, answers_moved, answers_older}
 
-opposite_twice : (l : Literal) → opposite (opposite l) ≡ l
+pub opposite_twice : (l : Literal) → opposite (opposite l) ≡ l
 opposite_twice l = ap (λ (b : Bool). record { variable = l.variable; positive = b }) (not_not l.positive)
 
 -- what holds stays so while the trail grows
@@ -110,12 +112,6 @@ visiting_back t clauses w falsified other step at n pair v low is both apart f =
 ]
 
 -- the lists once a number went from one literal's to another's
-pub record IsRelisted (old new : List BothSigns) (from to : Literal) (at number : ℕ) : Type 0 where
-  pub size : length new ≡ length old
-  pub gone : watchers new from ≡ swap_remove (watchers old from) at (get_or (watchers old from) at 0)
-  pub come : watchers new to ≡ watchers old to ++ number ∷ []
-  pub others : (m : Literal) → m ≢ from → m ≢ to → watchers new m ≡ watchers old m
-
 pub relisted_by : (old mid new : List BothSigns) (from to : Literal) (at number : ℕ) → to ≢ from → IsListed old mid to number → IsUnlisted mid new from at → IsRelisted old new from to at number
 relisted_by old mid new from to at number apart l u =
     let same : watchers mid from ≡ watchers old from = l.others from (λ e. apart (sym e)) in
@@ -132,7 +128,7 @@ sign_or_not true false = inr (λ e. cc)
 sign_or_not false true = inr (λ e. cc)
 sign_or_not false false = inl refl
 
-literal_or_not : (m l : Literal) → (m ≡ l) ⊎ (m ≢ l)
+pub literal_or_not : (m l : Literal) → (m ≡ l) ⊎ (m ≢ l)
 literal_or_not m l = elim (eqb_tells m.variable l.variable) [
   | inl v ↦ elim (sign_or_not m.positive l.positive) [
     | inl p ↦ inl (ap₂ (λ (x : ℕ) (b : Bool). record { variable = x; positive = b }) v.1 p)
@@ -301,3 +297,90 @@ visiting_ends t clauses w falsified step at v end n low = elim (v.due n low) [
   | inl keeps ↦ keeps
   | inr due ↦ let after = due.after in let within = due.within in absurd (omega arith)
 ]
+
+-- the number at a place of a list is that of a clause
+pub visiting_number : (t : TrailState) (clauses : List (List Literal)) (w : WatchState) (falsified : Literal) (step at number : ℕ) → IsVisiting t clauses w falsified step at → at < length (watchers w.lists falsified) → number ≡ get_or (watchers w.lists falsified) at 0 → number < length clauses
+visiting_number t clauses w falsified step at number v low is = subst (λ (n : ℕ). n < length clauses) (sym is) (v.held.watched.numbers falsified at 0 low)
+
+-- a clause that doesn't watch the literal keeps up with the step
+unwatched_keeps : (t : TrailState) (clauses : List (List Literal)) (w : WatchState) (falsified : Literal) (step at n : ℕ) (pair : Option Pair) → IsVisiting t clauses w falsified step at → n < length clauses → get_or w.pairs n None ≡ pair → OtherSays pair falsified None → KeepsUp (before t.marks t.places (step + 1)) (marked t.marks) (get_or clauses n []) (get_or w.pairs n None)
+unwatched_keeps t clauses w falsified step at n None v low is says = elim (v.due n low) [
+  | inl keeps ↦ keeps
+  | inr due ↦ subst (KeepsUp (before t.marks t.places (step + 1)) (marked t.marks) (get_or clauses n [])) (sym is) (subst (KeepsUp (before t.marks t.places step) (marked t.marks) (get_or clauses n [])) is due.keeps)
+]
+unwatched_keeps t clauses w falsified step at n (Some pair) v low is says = elim (v.due n low) [
+  | inl keeps ↦ keeps
+  | inr due ↦ subst (KeepsUp (before t.marks t.places (step + 1)) (marked t.marks) (get_or clauses n [])) (sym is)
+      (answers_older (before t.marks t.places (step + 1)) (before t.marks t.places step) (marked t.marks) pair
+      (visiting_older t clauses w falsified pair.first step at v says.0) (visiting_older t clauses w falsified pair.second step at v says.1)
+      (subst (KeepsUp (before t.marks t.places step) (marked t.marks) (get_or clauses n [])) is due.keeps))
+]
+
+-- and so does one whose other watched literal is true
+true_keeps : (marks : List (Option Bool)) (small : ℕ → Bool → Bool) (clause : List Literal) (pair : Option Pair) (a b : Literal) → OtherSays pair a (Some b) → IsIncluded small (marked marks) → Holds (marked marks) b → KeepsUp small (marked marks) clause pair
+true_keeps marks small clause None a b says within holds = absurd says
+true_keeps marks small clause (Some pair) a b says within holds = answers_true marks small pair a b says within holds
+
+-- the other watched literal is in the clause, and isn't the one that became false
+other_facts : (clause : List Literal) (n : ℕ) (lists : List BothSigns) (pair : Option Pair) (a b : Literal) → OtherSays pair a (Some b) → IsWatched clause n lists pair → Contains clause b × (b ≢ a)
+other_facts clause n lists None a b says w = absurd says
+other_facts clause n lists (Some pair) a b says w = let f = pair_facts clause n lists pair a b says w in (f.0, f.1)
+
+-- a visit that leaves the watches: of a clause that doesn't watch the literal
+pub visit_unwatched : (t : TrailState) (clauses : List (List Literal)) (w : WatchState) (falsified : Literal) (step at number : ℕ) (pair : Option Pair) → IsVisiting t clauses w falsified step at → at < length (watchers w.lists falsified) → number ≡ get_or (watchers w.lists falsified) at 0 → pair ≡ get_or w.pairs number None → OtherSays pair falsified None → VisitSays t w t w clauses falsified step at Stays
+visit_unwatched t clauses w falsified step at number pair v low is pair_is says = (
+  grows_self t,
+  visiting_next t clauses w falsified step at v (subst (λ (n : ℕ). KeepsUp (before t.marks t.places (step + 1)) (marked t.marks) (get_or clauses n []) (get_or w.pairs n None)) is
+      (unwatched_keeps t clauses w falsified step at number pair v (visiting_number t clauses w falsified step at number v low is) (sym pair_is) says)),
+  refl,
+)
+
+-- or whose other watched literal is true
+pub visit_true : (t : TrailState) (clauses : List (List Literal)) (w : WatchState) (falsified other : Literal) (step at number : ℕ) (pair : Option Pair) → IsVisiting t clauses w falsified step at → at < length (watchers w.lists falsified) → number ≡ get_or (watchers w.lists falsified) at 0 → pair ≡ get_or w.pairs number None → OtherSays pair falsified (Some other) → Holds (marked t.marks) other → VisitSays t w t w clauses falsified step at Stays
+visit_true t clauses w falsified other step at number pair v low is pair_is says holds = (
+  grows_self t,
+  visiting_next t clauses w falsified step at v (subst (λ (n : ℕ). KeepsUp (before t.marks t.places (step + 1)) (marked t.marks) (get_or clauses n []) (get_or w.pairs n None)) is
+      (subst (KeepsUp (before t.marks t.places (step + 1)) (marked t.marks) (get_or clauses number [])) pair_is
+      (true_keeps t.marks (before t.marks t.places (step + 1)) (get_or clauses number []) pair falsified other says (step_within t (step + 1)) holds))),
+  refl,
+)
+
+-- a literal that isn't false isn't the one that became false
+pub never_falsified : (t : TrailState) (clauses : List (List Literal)) (w : WatchState) (falsified next : Literal) (step at : ℕ) → IsVisiting t clauses w falsified step at → (Fails (marked t.marks) next → ⊥) → next ≢ falsified
+never_falsified t clauses w falsified next step at v free e = free (subst (λ (m : Literal). Fails (marked t.marks) m) (sym e) (visiting_false t clauses w falsified step at v))
+
+-- a visit that moves a watch
+pub visit_moved : (t : TrailState) (clauses : List (List Literal)) (w new : WatchState) (falsified other next : Literal) (step at number : ℕ) (pair : Option Pair) → IsVisiting t clauses w falsified step at → at < length (watchers w.lists falsified) → number ≡ get_or (watchers w.lists falsified) at 0 → pair ≡ get_or w.pairs number None → OtherSays pair falsified (Some other) → ReplacementSays t.marks (get_or clauses number []) other (Some next) → IsRewatched w new falsified at (record { first = next; second = other }) → VisitSays t w t new clauses falsified step at Moved
+visit_moved t clauses w new falsified other next step at number None v low is pair_is says found re = absurd says
+visit_moved t clauses w new falsified other next step at number (Some pair) v low is pair_is says found re =
+    let moved : Pair = record { first = next; second = other } in
+    let inside = visiting_number t clauses w falsified step at number v low is in
+    let r = visiting_moved t clauses w new falsified other next step at number pair v low is inside (sym pair_is) says found.0 found.1 found.2
+    (re.pairs ∙ ap (λ (n : ℕ). set w.pairs n (Some moved)) (sym is))
+    (subst (IsRelisted w.lists new.lists falsified next at) (sym is) re.lists) in
+    (grows_self t, r.0, r.1)
+
+falsified_by : (t new : TrailState) (clauses : List (List Literal)) (w : WatchState) (number r : ℕ) → IsHeld t clauses w → number < length clauses → r ≡ number → new ≡ t → IsFalsified (marked t.marks) (get_or clauses number []) → Grows t new × IsHeld new clauses w × IsAt clauses r (IsFalsified (marked new.marks))
+falsified_by t new clauses w number r h inside same is all =
+    let now : Grows t t × IsHeld t clauses w × IsAt clauses r (IsFalsified (marked t.marks)) = (grows_self t, h, subst (λ (n : ℕ). IsAt clauses n (IsFalsified (marked t.marks))) (sym same) (inside, all)) in
+    subst (λ (x : TrailState). Grows t x × IsHeld x clauses w × IsAt clauses r (IsFalsified (marked x.marks))) (sym is) now
+
+-- a visit of a clause that leaves only the other watched literal
+pub visit_forced : (t new : TrailState) (clauses : List (List Literal)) (w : WatchState) (falsified other : Literal) (step at number : ℕ) (pair : Option Pair) (did : Visit) → IsVisiting t clauses w falsified step at → AreBelow (length t.marks) clauses → at < length (watchers w.lists falsified) → number ≡ get_or (watchers w.lists falsified) at 0 → pair ≡ get_or w.pairs number None → OtherSays pair falsified (Some other) → ReplacementSays t.marks (get_or clauses number []) other None → ForceSays t new other number did → VisitSays t w new w clauses falsified step at did
+visit_forced t new clauses w falsified other step at number pair (Falsified r) v below low is pair_is says others forced =
+    falsified_by t new clauses w number r v.held (visiting_number t clauses w falsified step at number v low is) forced.0 forced.1
+    (λ k d inside. elim (others k d inside) [ inl e ↦ subst (λ (m : Literal). Fails (marked t.marks) m) (sym e) forced.2 | inr f ↦ f ])
+visit_forced t new clauses w falsified other step at number pair Stays v below low is pair_is says others forced =
+    let clause = get_or clauses number [] in
+    let inside = visiting_number t clauses w falsified step at number v low is in
+    let facts = other_facts clause number w.lists pair falsified other says (subst (IsWatched clause number w.lists) (sym pair_is) (v.held.watched.each number inside)) in
+    let known : other.variable < length t.marks = All-contains (λ (m : Literal). m.variable < length t.marks) clause other (below number [] inside) facts.0 in
+    let goes = goes_push t new clauses other number v.held.trail forced.0 (inside, (facts.0, others)) forced.1 known in
+    let now = visiting_grows t new clauses w falsified step at v goes in (
+      goes.grows,
+      visiting_next new clauses w falsified step at now (subst (λ (n : ℕ). KeepsUp (before new.marks new.places (step + 1)) (marked new.marks) (get_or clauses n []) (get_or w.pairs n None)) is
+          (subst (KeepsUp (before new.marks new.places (step + 1)) (marked new.marks) clause) pair_is
+          (true_keeps new.marks (before new.marks new.places (step + 1)) clause pair falsified other says (step_within new (step + 1)) (holds_push t new other (Some number) forced.0 known)))),
+      refl,
+    )
+visit_forced t new clauses w falsified other step at number pair Moved v below low is pair_is says others forced = absurd forced

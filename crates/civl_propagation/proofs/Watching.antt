@@ -1,19 +1,18 @@
 -- Two watched literals.
 use Rattle.std.proofs.Common.{◌≡◌, ◌⊎◌, ℕ, ◌+◌, ◌-◌, ◌<◌, ◌≤◌, List, [], ◌∷◌, ◌++◌, length, get_or, take, refl, sym, ◌∙◌, ap, ap₂, subst, inl, inr, arith, Bool, true, false, not}
-use Rattle.std.specs.Prelude.{IsTrue, All, Contains, Option, None, Some, ◌≢◌}
+use Rattle.std.specs.Prelude.{All, Contains, Option, None, Some, ◌≢◌}
 use Rattle.std.specs.List.{swap_remove}
 use Rattle.std.proofs.Math.ListN.{set, length-set}
 use Rattle.std.proofs.lemmas.Bool.Decides.{eqb_tells}
-use Rattle.std.proofs.lemmas.List.{get_or-set_same, get_or-set_other, get_or_default, get_or-take, length-take-le, get_or_past}
-use Rattle.std.proofs.lemmas.List.Elements.{All-contains, All-push, Contains-get_or, Contains-push, Contains-append_left}
-use Rattle.civl_cnf.specs.Literal.{Literal, opposite}
-use Rattle.civl_units.specs.Propagation.{Holds, Fails, IsFalsified, IsUnit}
-use Rattle.civl_units.specs.Marks.{is_marked, marked, IsQuiet, IsIncluded}
-use Rattle.civl_units.specs.Occurrences.{BothSigns, nowhere, of_sign, with_number, IsSingle}
+use Rattle.std.proofs.lemmas.List.{get_or-set_same, get_or-set_other, get_or_default, get_or-take, length-take-le}
+use Rattle.std.proofs.lemmas.List.Elements.{All-contains}
+use Rattle.civl_cnf.specs.Literal.{Literal}
+use Rattle.civl_units.specs.Propagation.{Holds, Fails}
+use Rattle.civl_units.specs.Marks.{is_marked, marked, IsIncluded}
+use Rattle.civl_units.specs.Occurrences.{BothSigns, nowhere, of_sign, with_number}
 use Rattle.civl_units.proofs.MarkLemmas.{lt_or_eq}
-use Rattle.civl_propagation.specs.Trail.{TrailState, before, IsAt, IsTrailOver}
-use Rattle.civl_propagation.specs.Propagation.{IsServed, Grows, Goes}
-use Rattle.civl_propagation.specs.Watches.{WatchState, watchers, without_number, with_listed, with_unlisted, IsListed, IsUnlisted, IsWatchedBy, IsWatched, AreWatched, Answers, KeepsUp, AllKeepUp, KeepUpBelow}
+use Rattle.civl_propagation.specs.Propagation.{IsServed}
+use Rattle.civl_propagation.specs.Watches.{watchers, without_number, with_listed, with_unlisted, IsListed, IsUnlisted, IsWatched, Answers, KeepsUp, IsPair}
 use Rattle.civl_propagation.specs.declared.watches.Pair.{Pair}
 
 -- the element that goes out, and where the others are
@@ -151,10 +150,6 @@ keeps_grow small large more clause (Some pair) within keeps = record {
   first = λ f. within pair.second.variable pair.second.positive (keeps.first f);
   second = λ f. within pair.first.variable pair.first.positive (keeps.second f);
 }
-
--- a pair of two literals, in one order or the other
-abbrev pub IsPair : Pair → Literal → Literal → Type 0
-IsPair pair a b = ((pair.first ≡ a) × (pair.second ≡ b)) ⊎ ((pair.first ≡ b) × (pair.second ≡ a))
 
 pub pair_answers : (small large : ℕ → Bool → Bool) (pair : Pair) (a b : Literal) → IsPair pair a b → Answers small large pair → Fails small b → Holds large a
 pair_answers small large pair a b (inl is) w f = subst (λ (m : Literal). Holds large m) is.0 (w.second (subst (λ (m : Literal). Fails small m) (sym is.1) f))

@@ -1,8 +1,8 @@
--- Propagation along the trail, by the clauses in which the opposite of a literal stands.
-use Rattle.std.specs.Prelude.{◌≡◌, ◌⊎◌, ◌<◌, ◌≤◌, ◌+◌, ℕ, List, [], Bool, All, Contains, length, slice_index_or}
+-- What propagation makes of the trail.
+use Rattle.std.specs.Prelude.{◌≡◌, ◌<◌, ◌≤◌, ◌+◌, ℕ, List, Bool, length, slice_index_or}
 use Rattle.civl_cnf.specs.Literal.{Literal}
 use Rattle.civl_units.specs.Propagation.{Holds, IsFalsified, IsUnit}
-use Rattle.civl_units.specs.Marks.{marked, IsQuiet, IsIncluded}
+use Rattle.civl_units.specs.Marks.{marked, IsIncluded}
 use Rattle.civl_units.specs.Trail.{open_count}
 use Rattle.civl_propagation.specs.Trail.{TrailState, before, IsAt, IsTrailOver}
 use Rattle.civl_propagation.specs.declared.trail.Step.{Step}
@@ -13,10 +13,6 @@ use Rattle.civl_propagation.specs.declared.propagation.Ended.TheVariants.{Confli
 pub record IsServed (small large : ℕ → Bool → Bool) (clause : List Literal) : Type 0 where
   pub forced : (l : Literal) → IsUnit small clause l → Holds large l
   pub quiet : IsFalsified small clause → ⊥
-
--- what was made true before a place has had its effect on each clause
-abbrev pub IsServedTo : TrailState → List (List Literal) → ℕ → Type 0
-IsServedTo t clauses at = All (IsServed (before t.marks t.places at) (marked t.marks)) clauses
 
 -- the trail grew at its end, if at all
 pub record Grows (old new : TrailState) : Type 0 where
@@ -37,17 +33,7 @@ pub record Goes (old new : TrailState) (clauses : List (List Literal)) : Type 0 
 abbrev pub MeetsConflict : TrailState → TrailState → List (List Literal) → ℕ → Type 0
 MeetsConflict old new clauses r = Goes old new clauses × IsAt clauses r (IsFalsified (marked new.marks))
 
--- a visit of one clause: it is falsified, or what was true before has had its effect on it
-abbrev pub VisitSays : TrailState → TrailState → List (List Literal) → ℕ → Ended → Type 0
-VisitSays old new clauses i (Conflict r) = MeetsConflict old new clauses r
-VisitSays old new clauses i Quiet = Goes old new clauses × IsAt clauses i (IsServed (marked old.marks) (marked new.marks))
-
--- a visit of the clauses with these numbers
-abbrev pub VisitsSay : TrailState → TrailState → List (List Literal) → List ℕ → Ended → Type 0
-VisitsSay old new clauses numbers (Conflict r) = MeetsConflict old new clauses r
-VisitsSay old new clauses numbers Quiet = Goes old new clauses × All (λ i. IsAt clauses i (IsServed (marked old.marks) (marked new.marks))) numbers
-
--- propagation ended: a clause is falsified, or each forces nothing more and isn't falsified
-abbrev pub PropagationSays : TrailState → TrailState → List (List Literal) → Ended → Type 0
-PropagationSays old new clauses (Conflict r) = MeetsConflict old new clauses r
-PropagationSays old new clauses Quiet = Goes old new clauses × All (IsQuiet (marked new.marks)) clauses
+-- a clause that was added is looked at: it is falsified, or what was true before has had its effect on it
+abbrev pub ServeSays : TrailState → TrailState → List (List Literal) → ℕ → Ended → Type 0
+ServeSays old new clauses i (Conflict r) = MeetsConflict old new clauses r
+ServeSays old new clauses i Quiet = Goes old new clauses × IsAt clauses i (IsServed (marked old.marks) (marked new.marks))

@@ -1,5 +1,5 @@
 -- The trail of unit propagation with decisions: the literals that were made true, in order. Each was decided, or a clause forced it (its reason). A level begins with each decision, and is named by the place at which it starts. (Marques-Silva and Sakallah, "GRASP: a search algorithm for propositional satisfiability", 1999.)
-use Rattle.std.specs.Prelude.{◌≡◌, ◌<◌, ◌≤◌, ◌+◌, ◌-◌, ◌++◌, ◌&&◌, ℕ, List, [], ◌∷◌, Bool, IsTrue, All, Contains, length, slice_index_or, slice_set, take, Option, None, Some, nat_lt}
+use Rattle.std.specs.Prelude.{◌≡◌, ◌<◌, ◌≤◌, ◌-◌, ◌++◌, ◌&&◌, ℕ, List, [], ◌∷◌, Bool, IsTrue, All, Contains, length, slice_index_or, slice_set, take, Option, None, Some, nat_lt}
 use Rattle.civl_cnf.specs.Literal.{Literal}
 use Rattle.civl_units.specs.Propagation.{IsUnit}
 use Rattle.civl_units.specs.Marks.{marked, IsQuiet}

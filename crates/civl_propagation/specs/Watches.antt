@@ -1,13 +1,16 @@
 -- Two watched literals of each clause (Moskewicz and others, "Chaff: engineering an efficient SAT solver", 2001).
-use Rattle.std.specs.Prelude.{◌≡◌, ◌≢◌, ◌⊎◌, ◌<◌, ◌≤◌, ◌+◌, ◌++◌, ◌∷◌, [], ℕ, List, Bool, true, false, All, Contains, length, slice_index_or, slice_set, Option, None, Some}
+use Rattle.std.specs.Prelude.{◌≡◌, ◌≢◌, ◌⊎◌, ◌<◌, ◌≤◌, ◌+◌, ◌++◌, ◌∷◌, [], ℕ, List, Bool, true, false, not, All, Contains, if◌then◌else◌, length, slice_index_or, slice_set, Option, None, Some, ⊤}
 use Rattle.std.specs.List.{swap_remove}
 use Rattle.civl_cnf.specs.Literal.{Literal, opposite}
 use Rattle.civl_units.specs.Propagation.{Holds, Fails, IsFalsified}
 use Rattle.civl_units.specs.Marks.{marked}
+use Rattle.civl_units.specs.Trail.{IsOpen}
 use Rattle.civl_units.specs.Occurrences.{BothSigns, nowhere, of_sign, with_number, IsSingle}
-use Rattle.civl_propagation.specs.Trail.{TrailState, before, IsAt, IsTrailOver}
+use Rattle.civl_propagation.specs.Trail.{TrailState, before, IsAt, IsTrailOver, IsPushed}
 use Rattle.civl_propagation.specs.Propagation.{Grows}
 use Rattle.civl_propagation.specs.declared.trail.Step.{Step}
+use Rattle.civl_propagation.specs.declared.propagation.Ended.{Ended}
+use Rattle.civl_propagation.specs.declared.propagation.Ended.TheVariants.{Conflict, Quiet}
 use Rattle.civl_propagation.specs.declared.watches.Visit.{Visit}
 use Rattle.civl_propagation.specs.declared.watches.Visit.TheVariants.{Falsified, Stays, Moved}
 use Rattle.civl_propagation.specs.declared.watches.Pair.{Pair}
@@ -44,6 +47,31 @@ pub record IsUnlisted (old new : List BothSigns) (l : Literal) (at : ℕ) : Type
   pub size : length new ≡ length old
   pub here : watchers new l ≡ swap_remove (watchers old l) at (slice_index_or (watchers old l) at 0)
   pub others : (m : Literal) → m ≢ l → watchers new m ≡ watchers old m
+
+-- the number at a place went out of one literal's list, and came to the end of another's
+pub record IsRelisted (old new : List BothSigns) (from to : Literal) (at number : ℕ) : Type 0 where
+  pub size : length new ≡ length old
+  pub gone : watchers new from ≡ swap_remove (watchers old from) at (slice_index_or (watchers old from) at 0)
+  pub come : watchers new to ≡ watchers old to ++ number ∷ []
+  pub others : (m : Literal) → m ≢ from → m ≢ to → watchers new m ≡ watchers old m
+
+-- the clause at a place of a literal's list watches this pair instead, and stands in the list of its first literal
+pub record IsRewatched (old new : WatchState) (l : Literal) (at : ℕ) (pair : Pair) : Type 0 where
+  pub pairs : new.pairs ≡ slice_set old.pairs (slice_index_or (watchers old.lists l) at 0) (Some pair)
+  pub lists : IsRelisted old.lists new.lists l pair.first at (slice_index_or (watchers old.lists l) at 0)
+
+-- the variables of both literals are below a number
+abbrev pub IsPairBelow : ℕ → Option Pair → Type 0
+IsPairBelow n None = ⊤
+IsPairBelow n (Some pair) = (pair.first.variable < n) × (pair.second.variable < n)
+
+-- with one clause more that watches these literals, if it has two: its number stands last in their lists
+abbrev pub with_pair : WatchState → Option Pair → WatchState
+with_pair w None = record w { pairs = w.pairs ++ None ∷ [] }
+with_pair w (Some pair) = record {
+  pairs = w.pairs ++ Some pair ∷ [];
+  lists = with_listed (with_listed w.lists pair.first (length w.pairs)) pair.second (length w.pairs);
+}
 
 -- two different literals of the clause are watched, and its number stands in their lists
 pub record IsWatchedBy (clause : List Literal) (number : ℕ) (lists : List BothSigns) (pair : Pair) : Type 0 where
@@ -110,7 +138,70 @@ VisitSays old v new w clauses falsified step at (Falsified r) = Grows old new ×
 VisitSays old v new w clauses falsified step at Stays = Grows old new × IsVisiting new clauses w falsified step (at + 1) × (length (watchers w.lists falsified) ≡ length (watchers v.lists falsified))
 VisitSays old v new w clauses falsified step at Moved = Grows old new × IsVisiting new clauses w falsified step at × (length (watchers w.lists falsified) + 1 ≡ length (watchers v.lists falsified))
 
+-- a pair of two literals, in one order or the other
+abbrev pub IsPair : Pair → Literal → Literal → Type 0
+IsPair pair a b = ((pair.first ≡ a) × (pair.second ≡ b)) ⊎ ((pair.first ≡ b) × (pair.second ≡ a))
+
+-- the other literal of the pair, or that this one isn't in it
+abbrev pub OtherSays : Option Pair → Literal → Option Literal → Type 0
+OtherSays None l None = ⊤
+OtherSays None l (Some other) = ⊥
+OtherSays (Some pair) l None = (pair.first ≢ l) × (pair.second ≢ l)
+OtherSays (Some pair) l (Some other) = IsPair pair l other
+
 -- a literal of the clause other than this one that isn't false, or that all others are false
 abbrev pub ReplacementSays : List (Option Bool) → List Literal → Literal → Option Literal → Type 0
 ReplacementSays marks clause other (Some l) = Contains clause l × (l ≢ other) × (Fails (marked marks) l → ⊥)
 ReplacementSays marks clause other None = All (λ m. (m ≡ other) ⊎ Fails (marked marks) m) clause
+
+-- the only literal that a clause leaves is false, or it had no value and was made true
+abbrev pub ForceSays : TrailState → TrailState → Literal → ℕ → Visit → Type 0
+ForceSays old new l number (Falsified r) = (r ≡ number) × (new ≡ old) × Fails (marked old.marks) l
+ForceSays old new l number Stays = IsPushed old new l (Some number) × IsOpen old.marks l
+ForceSays old new l number Moved = ⊥
+
+-- How late a literal became false, by its place among the steps. One that isn't false is later than all these.
+abbrev pub rank : TrailState → Literal → ℕ
+rank t l = if marked t.marks l.variable (not l.positive) then slice_index_or t.places l.variable 0 else length t.steps
+
+-- the literal's variable is below a number, if there is one
+abbrev pub IsKnown : ℕ → Option Literal → Type 0
+IsKnown n None = ⊤
+IsKnown n (Some l) = l.variable < n
+
+-- of the best literal so far and the next one that which became false later
+abbrev pub LaterSays : TrailState → Option Literal → Literal → Literal → Type 0
+LaterSays t None next l = l ≡ next
+LaterSays t (Some best) next l = ((l ≡ next) ⊎ (l ≡ best)) × (rank t best ≤ rank t l) × (rank t next ≤ rank t l)
+
+-- a literal of the clause, other than the one that is passed over, than which none became false later; or none is left
+abbrev pub LatestSays : TrailState → List Literal → Option Literal → Option Literal → Type 0
+LatestSays t clause besides None = All (λ m. besides ≡ Some m) clause
+LatestSays t clause besides (Some l) = Contains clause l × (besides ≢ Some l) × All (λ m. (besides ≡ Some m) ⊎ (rank t m ≤ rank t l)) clause
+
+-- two different literals of the clause; none of the others became false later than they did
+pub record IsBest (t : TrailState) (clause : List Literal) (pair : Pair) : Type 0 where
+  pub first : Contains clause pair.first
+  pub second : Contains clause pair.second
+  pub apart : pair.first ≢ pair.second
+  pub order : rank t pair.second ≤ rank t pair.first
+  pub latest : All (λ m. (m ≡ pair.first) ⊎ (rank t m ≤ rank t pair.second)) clause
+
+-- the two best literals to watch, or that no two of them differ
+abbrev pub ChoiceSays : TrailState → List Literal → Option Pair → Type 0
+ChoiceSays t clause None = IsSingle clause
+ChoiceSays t clause (Some pair) = IsBest t clause pair
+
+-- a clause is falsified
+abbrev pub MeetsFalsified : TrailState → TrailState → List (List Literal) → WatchState → ℕ → Type 0
+MeetsFalsified old new clauses w r = Grows old new × IsHeld new clauses w × IsAt clauses r (IsFalsified (marked new.marks))
+
+-- the clauses that watch the opposite of a step's literal were visited: one is falsified, or each keeps up with the step
+abbrev pub StepSays : TrailState → TrailState → List (List Literal) → WatchState → ℕ → Ended → Type 0
+StepSays old new clauses w step (Conflict r) = MeetsFalsified old new clauses w r
+StepSays old new clauses w step Quiet = Grows old new × IsHeld new clauses w × AllKeepUp (before new.marks new.places (step + 1)) (marked new.marks) clauses w.pairs
+
+-- propagation ended: a clause is falsified, or each keeps up with all that is true
+abbrev pub PropagationSays : TrailState → TrailState → List (List Literal) → WatchState → Ended → Type 0
+PropagationSays old new clauses w (Conflict r) = MeetsFalsified old new clauses w r
+PropagationSays old new clauses w Quiet = Grows old new × IsHeld new clauses w × AllKeepUp (marked new.marks) (marked new.marks) clauses w.pairs

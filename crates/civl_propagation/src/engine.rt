@@ -8,10 +8,11 @@ ghost use Rattle.civl_propagation.specs.Engine.{IsEngine, IsAtRest, IsQuietBelow
 ghost use Rattle.civl_propagation.specs.Propagation.{Grows};
 
 use crate::Memory;
-use crate::propagation::{Ended, propagate, visit};
+use crate::choice::choose;
+use crate::propagation::{Ended, propagate, serve};
 use crate::trail::Trail;
+use crate::watches::Watches;
 use civl_cnf::{Clause, Lit};
-use civl_units::Occurrences;
 use std::alloc::Global;
 use std::marker::Model;
 
@@ -21,7 +22,7 @@ pub struct Engine {
     alloc: Global,
     trail: Trail,
     clauses: Vec<Clause>,
-    occurrences: Occurrences,
+    watches: Watches,
 }
 
 impl Model for Engine {
@@ -29,7 +30,7 @@ impl Model for Engine {
 
     ghost Value = { EngineState };
 
-    ghost view = { λ e. record { trail = e.trail; clauses = e.clauses.items; lists = e.occurrences } };
+    ghost view = { λ e. record { trail = e.trail; clauses = e.clauses.items; watches = e.watches } };
 }
 
 impl Engine {
@@ -42,12 +43,12 @@ impl Engine {
         ensures decided { IfOk result (λ engine. AreDecided engine.trail []) }
     {
         let trail = Trail::new(alloc, variables)?;
-        let occurrences = Occurrences::new(alloc, variables)?;
+        let watches = Watches::new(alloc, variables)?;
         Ok(Engine {
             alloc,
             trail,
             clauses: Vec::new(alloc),
-            occurrences,
+            watches,
         })
     }
 
@@ -65,7 +66,7 @@ impl Engine {
         self.clauses.as_slice()
     }
 
-    /// Adds a clause and propagates. Below the start of each level it must force nothing, and not be falsified.
+    /// Adds a clause and propagates. Below the start of each level it must force nothing, and not be falsified. Memory is wanting too where there are 2^32 clauses.
     pub fn add(&mut self, clause: &[Lit]) -> Result<Ended, Memory>
         requires rest { IsAtRest self.old }
         requires below { IsBelow (length self.old.trail.marks) clause.now }
@@ -77,15 +78,16 @@ impl Engine {
         let number = self.clauses.len();
         let from = self.trail.len();
         let copy = Clause::from_slice(self.alloc, clause)?;
-        self.occurrences.add(clause, number)?;
+        let pair = choose(&self.trail, clause);
+        self.watches.watch(pair)?;
         self.clauses.push(copy)?;
-        let ended = visit(&mut self.trail, self.clauses.as_slice(), number)?;
+        let ended = serve(&mut self.trail, self.clauses.as_slice(), number)?;
         match ended {
             Ended::Conflict(falsified) => Ok(Ended::Conflict(falsified)),
             Ended::Quiet => {
                 let last = propagate(
                     &mut self.trail,
-                    &self.occurrences,
+                    &mut self.watches,
                     self.clauses.as_slice(),
                     from,
                 )?;
@@ -109,7 +111,7 @@ impl Engine {
         self.trail.decide(lit)?;
         let ended = propagate(
             &mut self.trail,
-            &self.occurrences,
+            &mut self.watches,
             self.clauses.as_slice(),
             from,
         )?;

@@ -22,9 +22,3 @@ impl From<civl_cnf::Memory> for Memory {
         Memory
     }
 }
-
-impl From<civl_units::Memory> for Memory {
-    fn from(_wanting: civl_units::Memory) -> Memory {
-        Memory
-    }
-}

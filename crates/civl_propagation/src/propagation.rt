@@ -1,14 +1,17 @@
 // Unit propagation along the trail.
-ghost use Rattle.std.specs.Prelude.{◌≡◌, ◌<◌, ◌≤◌, [], All, length, slice_index_or, IfOk};
+ghost use Rattle.std.specs.Prelude.{◌<◌, ◌≤◌, length, IfOk};
 ghost use Rattle.civl_cnf.specs.ClauseSet.{AreBelow};
-ghost use Rattle.civl_units.specs.Occurrences.{AreOccurrences};
-ghost use Rattle.civl_propagation.specs.Trail.{IsTrailOver};
-ghost use Rattle.civl_propagation.specs.Propagation.{VisitSays, VisitsSay, PropagationSays, IsServedTo};
+ghost use Rattle.civl_units.specs.Marks.{marked};
+ghost use Rattle.civl_propagation.specs.Trail.{IsTrailOver, before};
+ghost use Rattle.civl_propagation.specs.Propagation.{ServeSays};
+ghost use Rattle.civl_propagation.specs.Watches.{AllKeepUp, IsHeld, PropagationSays};
 
 use crate::Memory;
 use crate::trail::Trail;
-use civl_cnf::{Clause, Lit};
-use civl_units::{Occurrences, Rule, rule_of};
+use crate::visits::{lits_of, visit_watchers};
+use crate::watches::Watches;
+use civl_cnf::Clause;
+use civl_units::{Rule, rule_of};
 
 /// How propagation ends: the clause with this number is falsified, or nothing more is forced.
 #[derive(Clone, Copy, Debug, PartialEq, Eq)]
@@ -17,20 +20,12 @@ pub enum Ended {
     Quiet,
 }
 
-/// The literals of the clause with a number.
-fn lits_of(clauses: &[Clause], number: usize) -> &[Lit]
-    requires { number < length clauses.now }
-    ensures { result.now ≡ slice_index_or clauses.now number [] }
-{
-    clauses[number].lits()
-}
-
 /// Makes true what one clause forces.
-pub fn visit(trail: &mut Trail, clauses: &[Clause], number: usize) -> Result<Ended, Memory>
+pub fn serve(trail: &mut Trail, clauses: &[Clause], number: usize) -> Result<Ended, Memory>
     requires number { number < length clauses.now }
     requires below { AreBelow (length trail.old.marks) clauses.now }
     requires trail { IsTrailOver trail.old clauses.now }
-    ensures { IfOk result (VisitSays trail.old trail.new clauses.now number) }
+    ensures { IfOk result (ServeSays trail.old trail.new clauses.now number) }
 {
     match rule_of(trail.marks(), lits_of(clauses, number)) {
         Rule::Falsified => Ok(Ended::Conflict(number)),
@@ -42,43 +37,22 @@ pub fn visit(trail: &mut Trail, clauses: &[Clause], number: usize) -> Result<End
     }
 }
 
-/// Visits the clauses with these numbers, until one is falsified.
-fn visit_all(trail: &mut Trail, clauses: &[Clause], numbers: &[usize]) -> Result<Ended, Memory>
-    requires numbers { All (λ i. i < length clauses.now) numbers.now }
-    requires below { AreBelow (length trail.old.marks) clauses.now }
-    requires trail { IsTrailOver trail.old clauses.now }
-    ensures { IfOk result (VisitsSay trail.old trail.new clauses.now numbers.now) }
-{
-    for number in numbers {
-        let ended = visit(trail, clauses, *number)?;
-        match ended {
-            Ended::Quiet => {}
-            Ended::Conflict(falsified) => return Ok(Ended::Conflict(falsified)),
-        }
-    }
-    Ok(Ended::Quiet)
-}
-
-/// Propagates what was made true from a place of the trail on: for each literal the clauses in which its opposite stands are visited.
+/// Propagates what was made true from a place of the trail on: for each literal the clauses that watch its opposite are visited.
 pub fn propagate(
     trail: &mut Trail,
-    occurrences: &Occurrences,
+    watches: &mut Watches,
     clauses: &[Clause],
     from: usize,
 ) -> Result<Ended, Memory>
     requires below { AreBelow (length trail.old.marks) clauses.now }
-    requires trail { IsTrailOver trail.old clauses.now }
-    requires size { length occurrences.now.variables ≡ length trail.old.marks }
-    requires numbers { AreOccurrences clauses.now occurrences.now }
+    requires held { IsHeld trail.old clauses.now watches.old }
     requires from { from ≤ length trail.old.steps }
-    requires served { IsServedTo trail.old clauses.now from }
-    ensures { IfOk result (PropagationSays trail.old trail.new clauses.now) }
+    requires keeps { AllKeepUp (before trail.old.marks trail.old.places from) (marked trail.old.marks) clauses.now watches.old.pairs }
+    ensures { IfOk result (λ ended. PropagationSays trail.old trail.new clauses.now watches.new ended) }
 {
     let mut at = from;
     while at < trail.len() {
-        let opposite = trail.step(at).lit.negate();
-        let numbers = occurrences.of(opposite.variable(), opposite.positive());
-        let ended = visit_all(trail, clauses, numbers)?;
+        let ended = visit_watchers(trail, watches, clauses, at)?;
         match ended {
             Ended::Quiet => at += 1,
             Ended::Conflict(falsified) => return Ok(Ended::Conflict(falsified)),

@@ -1,7 +1,7 @@
 // The literals of clauses that are watched.
-ghost use Rattle.std.specs.Prelude.{◌≡◌, ◌<◌, ◌++◌, ◌∷◌, [], None, Some, length, replicate, slice_set, slice_index_or, IfOk, OnOk};
+ghost use Rattle.std.specs.Prelude.{◌≡◌, ◌≢◌, ◌<◌, ◌++◌, ◌∷◌, [], None, Some, length, replicate, slice_set, slice_index_or, IfOk, OnOk};
 ghost use Rattle.civl_units.specs.Occurrences.{nowhere, of_sign, with_number};
-ghost use Rattle.civl_propagation.specs.Watches.{watchers, without_number, with_listed, with_unlisted};
+ghost use Rattle.civl_propagation.specs.Watches.{watchers, without_number, with_listed, with_unlisted, with_pair, IsPairBelow, IsRewatched};
 
 use crate::Memory;
 use civl_cnf::Lit;
@@ -26,8 +26,8 @@ pub enum Visit {
 /// Numbers of clauses for a variable and for its negation. Contracts see it as the record of both lists.
 #[derive(Drop)]
 struct Signs {
-    positive: Vec<usize>,
-    negative: Vec<usize>,
+    positive: Vec<u32>,
+    negative: Vec<u32>,
 }
 
 impl Model for Signs {
@@ -50,7 +50,7 @@ impl Signs {
     }
 
     /// The numbers of a sign.
-    fn of(&self, positive: bool) -> &[usize]
+    fn of(&self, positive: bool) -> &[u32]
         ensures { result.now ≡ of_sign positive self.now }
     {
         if positive {
@@ -61,7 +61,7 @@ impl Signs {
     }
 
     /// Adds a number at the end of the list of a sign.
-    fn add(&mut self, positive: bool, number: usize) -> Result<(), Memory>
+    fn add(&mut self, positive: bool, number: u32) -> Result<(), Memory>
         ensures { OnOk result (self.new ≡ with_number positive number self.old) }
     {
         if positive {
@@ -116,7 +116,7 @@ impl Watches {
     }
 
     /// The clauses that are to be visited when the literal becomes false.
-    pub fn of(&self, lit: Lit) -> &[usize]
+    fn of(&self, lit: Lit) -> &[u32]
         requires { lit.variable < length self.now.lists }
         ensures { result.now ≡ watchers self.now.lists lit }
     {
@@ -132,7 +132,7 @@ impl Watches {
     }
 
     /// The one at a place.
-    pub fn at(&self, lit: Lit, at: usize) -> usize
+    pub fn at(&self, lit: Lit, at: usize) -> u32
         requires variable { lit.variable < length self.now.lists }
         requires place { at < length (watchers self.now.lists lit) }
         ensures { result ≡ slice_index_or (watchers self.now.lists lit) at 0 }
@@ -141,31 +141,23 @@ impl Watches {
     }
 
     /// The watched literals of the clause with a number.
-    pub fn pair(&self, number: usize) -> Option<Pair>
+    pub fn pair(&self, number: u32) -> Option<Pair>
         requires { number < length self.now.pairs }
         ensures { result ≡ slice_index_or self.now.pairs number None }
     {
-        self.pairs[number]
-    }
-
-    /// The next clause has these watched literals.
-    pub fn push(&mut self, pair: Option<Pair>) -> Result<(), Memory>
-        ensures { OnOk result (self.new ≡ record self.old { pairs = self.old.pairs ++ pair ∷ [] }) }
-    {
-        self.pairs.push(pair)?;
-        Ok(())
+        self.pairs[number as usize]
     }
 
     /// The clause with a number has these watched literals.
-    pub fn set(&mut self, number: usize, pair: Pair)
+    fn set(&mut self, number: u32, pair: Pair)
         requires { number < length self.old.pairs }
         ensures { self.new ≡ record self.old { pairs = slice_set self.old.pairs number (Some pair) } }
     {
-        self.pairs[number] = Some(pair);
+        self.pairs[number as usize] = Some(pair);
     }
 
     /// Adds a clause at the end of a literal's list.
-    pub fn list(&mut self, lit: Lit, number: usize) -> Result<(), Memory>
+    fn list(&mut self, lit: Lit, number: u32) -> Result<(), Memory>
         requires { lit.variable < length self.old.lists }
         ensures { OnOk result (self.new ≡ record self.old { lists = with_listed self.old.lists lit number }) }
     {
@@ -173,11 +165,57 @@ impl Watches {
     }
 
     /// Takes the clause at a place out of a literal's list.
-    pub fn unlist(&mut self, lit: Lit, at: usize)
+    fn unlist(&mut self, lit: Lit, at: usize)
         requires variable { lit.variable < length self.old.lists }
         requires place { at < length (watchers self.old.lists lit) }
         ensures { self.new ≡ record self.old { lists = with_unlisted self.old.lists lit at } }
     {
         self.lists[lit.variable() as usize].remove(lit.positive(), at);
+    }
+
+    /// The next clause watches these literals.
+    fn push_pair(&mut self, first: Lit, second: Lit) -> Result<(), Memory>
+        requires first { first.variable < length self.old.lists }
+        requires second { second.variable < length self.old.lists }
+        ensures { OnOk result (self.new ≡ with_pair self.old (Some (record { first = first; second = second }))) }
+    {
+        let number = self.pairs.len();
+        if number > u32::MAX as usize {
+            return Err(Memory);
+        }
+        self.list(first, number as u32)?;
+        self.list(second, number as u32)?;
+        self.pairs.push(Some(Pair { first, second }))?;
+        Ok(())
+    }
+
+    /// The next clause watches these literals, if it has two. Numbers of clauses have 32 bits.
+    pub fn watch(&mut self, pair: Option<Pair>) -> Result<(), Memory>
+        requires { IsPairBelow (length self.old.lists) pair }
+        ensures { OnOk result (self.new ≡ with_pair self.old pair) }
+    {
+        match pair {
+            None => {
+                self.pairs.push(None)?;
+                Ok(())
+            }
+            Some(two) => self.push_pair(two.first, two.second),
+        }
+    }
+
+    /// The clause at a place of a literal's list watches this pair instead. Its first literal is new to the clause's watches.
+    pub fn rewatch(&mut self, lit: Lit, at: usize, pair: Pair) -> Result<(), Memory>
+        requires variable { lit.variable < length self.old.lists }
+        requires place { at < length (watchers self.old.lists lit) }
+        requires first { pair.first.variable < length self.old.lists }
+        requires number { slice_index_or (watchers self.old.lists lit) at 0 < length self.old.pairs }
+        requires other { pair.first ≢ lit }
+        ensures { OnOk result (IsRewatched self.old self.new lit at pair) }
+    {
+        let number = self.at(lit, at);
+        self.list(pair.first, number)?;
+        self.unlist(lit, at);
+        self.set(number, pair);
+        Ok(())
     }
 }

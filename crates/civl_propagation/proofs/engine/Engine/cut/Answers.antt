@@ -1,5 +1,5 @@
 use Rattle.std.proofs.Common.{◌<◌, length, sym, subst}
-use Rattle.civl_propagation.specs.Trail.{AreDecided, IsCut}
+use Rattle.civl_propagation.specs.Trail.{AreDecided}
 use Rattle.civl_propagation.specs.Engine.{EngineState, IsEngine}
 use Rattle.civl_propagation.proofs.Cutting.{cut_decided}
 use Rattle.civl_propagation.proofs.Engines.{engine_cut}
@@ -12,7 +12,7 @@ cut-requires-clause-standing c =
 
 pub returns-clause-rest : goal.returns-clause-rest
 returns-clause-rest c =
-    let old : EngineState = record { trail = c.self.inside.trail; clauses = c.self.inside.clauses.items; lists = c.self.inside.occurrences } in
+    let old : EngineState = record { trail = c.self.inside.trail; clauses = c.self.inside.clauses.items; watches = c.self.inside.watches } in
     engine_cut old c.cut.new.self c.args.levels (subst IsEngine (sym c.self.view_is) c.requires.engine)
     (subst (λ (x : EngineState). c.args.levels < length x.trail.starts) (sym c.self.view_is) c.requires.levels) c.cut.ensures
 

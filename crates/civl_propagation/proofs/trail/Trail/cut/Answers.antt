@@ -1,4 +1,4 @@
-use Rattle.std.proofs.Common.{arith, ◌≡◌, ◌-◌, length, sym, subst, ℕ}
+use Rattle.std.proofs.Common.{arith, ◌-◌, length, sym, subst, ℕ}
 use Rattle.civl_propagation.specs.Trail.{IsCut}
 use Rattle.civl_propagation.proofs.Cutting.{cut_more, cut_standing, cut_count}
 use Rattle.civl_propagation.proofs.trail.Trail.cut.Goals as goal

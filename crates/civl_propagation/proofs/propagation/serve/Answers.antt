@@ -5,9 +5,9 @@ use Rattle.civl_cnf.specs.Literal.{Literal}
 use Rattle.civl_cnf.specs.ClauseSet.{IsBelow}
 use Rattle.civl_units.specs.Propagation.{IsFalsified, IsUnit}
 use Rattle.civl_units.specs.Marks.{marked, IsQuiet, RuleSays}
-use Rattle.civl_units.specs.declared.rule.Rule.TheVariants.{Falsified, Forces, Quiet}
+use Rattle.civl_units.specs.declared.rule.Rule.TheVariants.{Forces}
 use Rattle.civl_propagation.proofs.Serving.{unit_within, goes_self, visit_forces, visit_quiet}
-use Rattle.civl_propagation.proofs.propagation.visit.Goals as goal
+use Rattle.civl_propagation.proofs.propagation.serve.Goals as goal
 
 pub rule_of-requires : goal.rule_of-requires
 rule_of-requires c =
