@@ -12,7 +12,7 @@ use Rattle.civl_units.specs.Occurrences.{nowhere, of_sign}
 use Rattle.civl_units.specs.Trail.{IsOpen}
 use Rattle.civl_units.proofs.MarkLemmas.{lt_or_eq, same_self, below_or_not}
 use Rattle.civl_units.proofs.Propagating.{marks_stay, unit_grows}
-use Rattle.civl_propagation.specs.Trail.{TrailState, before, IsAt, ReasonSays, IsTrailOver, IsDecided, IsCut, AreDecided}
+use Rattle.civl_propagation.specs.Trail.{TrailState, before, IsAt, ReasonSays, IsTrailOver, IsDecided, IsCut, AreDecided, Deepens}
 use Rattle.civl_propagation.specs.Propagation.{IsServed, Grows, ServeSays}
 use Rattle.civl_propagation.specs.Watches.{WatchState, watchers, with_pair, AreWatched, KeepsUp, AllKeepUp, IsHeld, ChoiceSays, PropagationSays}
 use Rattle.civl_propagation.specs.Engine.{EngineState, IsEngine, IsAtRest, IsQuietBelow, EndsBy}
@@ -428,6 +428,15 @@ engine_cut e t levels h fits cut =
       };
       quiet = cut_quiet old t levels e.clauses fits h.trail cut;
       keeps = subst (λ s. AllKeepUp s s e.clauses e.watches.pairs) all (h.keeps levels fits);
+    }
+
+-- a level begins, and the trail goes on
+pub deepens_by : (old mid new : TrailState) (l : Literal) → length old.places ≡ length old.marks → IsDecided old mid l → l.variable < length old.marks → IsOpen old.marks l → Grows mid new → Deepens old new
+deepens_by old mid new l size is low free g =
+    let longer : length mid.steps ≡ length old.steps + 1 = ap length is.steps ∙ length_push old.steps (record { lit = l; reason = None }) in
+    record {
+      starts = g.starts ∙ is.starts;
+      same = λ p fits. g.same p (omega arith) ∙ before_decide old mid l p size is low free fits;
     }
 
 -- an engine with no clause and no mark

@@ -72,6 +72,11 @@ pub record IsDecided (old new : TrailState) (l : Literal) : Type 0 where
   pub steps : new.steps ≡ old.steps ++ record { lit = l; reason = None } ∷ []
   pub starts : new.starts ≡ old.starts ++ length old.steps ∷ []
 
+-- a level began at the end, and what was made true before stays
+pub record Deepens (old new : TrailState) : Type 0 where
+  pub starts : new.starts ≡ old.starts ++ length old.steps ∷ []
+  pub same : (p : ℕ) → p ≤ length old.steps → before new.marks new.places p ≡ before old.marks old.places p
+
 -- the last literal was taken back
 pub record IsPopped (old new : TrailState) : Type 0 where
   pub marks : (d : Step) → new.marks ≡ slice_set old.marks (slice_index_or old.steps (length old.steps - 1) d).lit.variable None

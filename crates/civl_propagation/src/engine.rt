@@ -3,7 +3,7 @@ ghost use Rattle.std.specs.Prelude.{◌≡◌, ◌<◌, ◌++◌, ◌∷◌, [],
 ghost use Rattle.civl_cnf.specs.Literal.{Literal};
 ghost use Rattle.civl_cnf.specs.ClauseSet.{IsBelow};
 ghost use Rattle.civl_units.specs.Trail.{IsOpen, open_count};
-ghost use Rattle.civl_propagation.specs.Trail.{AreDecided, IsCut};
+ghost use Rattle.civl_propagation.specs.Trail.{AreDecided, Deepens, IsCut};
 ghost use Rattle.civl_propagation.specs.Engine.{IsEngine, IsAtRest, IsQuietBelow, EndsBy};
 ghost use Rattle.civl_propagation.specs.Propagation.{Grows};
 
@@ -104,6 +104,7 @@ impl Engine {
         ensures clauses { OnOk result (self.new.clauses ≡ self.old.clauses) }
         ensures size { OnOk result (length self.new.trail.marks ≡ length self.old.trail.marks) }
         ensures decided { OnOk result ((decisions : List Literal) → AreDecided self.old.trail decisions → AreDecided self.new.trail (decisions ++ lit ∷ [])) }
+        ensures deeper { OnOk result (Deepens self.old.trail self.new.trail) }
         ensures fewer { OnOk result (open_count self.new.trail.marks < open_count self.old.trail.marks) }
         ensures ended { IfOk result (EndsBy self.new) }
     {

@@ -15,7 +15,7 @@ use Rattle.civl_cdcl.proofs.Analysing.{quiet_unfalsified}
 use Rattle.civl_portfolio.specs.Attempt.{MakesTrue}
 use Rattle.civl_provers.specs.Node.{IsPropagated, JudgeSays, NodeSays}
 use Rattle.civl_provers.specs.declared.looking.Node.{Node}
-use Rattle.civl_provers.specs.declared.looking.Node.TheVariants.{True, Open}
+use Rattle.civl_provers.specs.declared.looking.Node.TheVariants.{True, Open, Stuck}
 
 -- whether each clause has a true literal
 abbrev pub all_marked : List (Option Bool) → List (List Literal) → Bool
@@ -72,16 +72,18 @@ unmarked None b e h = cc
 unmarked (Some a) b e h = cc
 
 -- what the marks say is so of the branch, since they are the least closed set
-pub node_by : (marks : List (Option Bool)) (set : ClauseSet) (falses : List Literal) (node : Node) → IsPropagated marks set falses → JudgeSays marks set node → NodeSays set falses node
-node_by marks set falses (True bits) p says = says
-node_by marks set falses (Open v) p says =
-    let closed : IsClosed (marked marks) set.clauses = λ k d low. (p.quiet k d low).0 in (
-      says.0,
-      λ b implied. unmarked (get_or marks v None) b says.1 (implied (marked marks) p.fails closed),
-      record {
-        unrefuted = λ conflict. quiet_unfalsified (marked marks) set.clauses p.quiet (conflict (marked marks) p.fails closed);
-        untrue = λ all. says.2 (λ k d low.
-            let some = all k d low in
-            (some.0, some.1, some.2, some.3, some.4 (marked marks) p.fails closed));
-      },
-    )
+pub node_by : (marks : List (Option Bool)) (set : ClauseSet) (falses : List Literal) (may : Bool) (node : Node) → IsPropagated marks set falses → JudgeSays marks set may node → NodeSays set falses node
+node_by marks set falses may (True bits) p says = says
+node_by marks set falses may (Open v) p says =
+    let closed : IsClosed (marked marks) set.clauses = λ k d low. (p.quiet k d low).0 in
+    let size = p.size in
+    let low = says.1.0 in
+    (omega arith, λ b implied. unmarked (get_or marks v None) b says.1.1 (implied (marked marks) p.fails closed))
+node_by marks set falses may Stuck p says =
+    let closed : IsClosed (marked marks) set.clauses = λ k d low. (p.quiet k d low).0 in
+    record {
+      unrefuted = λ conflict. quiet_unfalsified (marked marks) set.clauses p.quiet (conflict (marked marks) p.fails closed);
+      untrue = λ all. says.1 (λ k d low.
+          let some = all k d low in
+          (some.0, some.1, some.2, some.3, some.4 (marked marks) p.fails closed));
+    }

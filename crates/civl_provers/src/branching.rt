@@ -1,15 +1,26 @@
 // The engine of propagation on its way from branch to branch.
-ghost use Rattle.std.specs.Prelude.{◌≡◌, ◌<◌, ◌++◌, ◌∷◌, [], List, length, IfOk};
+ghost use Rattle.std.specs.Prelude.{◌≡◌, ◌<◌, ◌+◌, ◌++◌, ◌∷◌, [], List, length, IfOk};
 ghost use Rattle.civl_cnf.specs.Literal.{Literal};
 ghost use Rattle.civl_cnf.specs.ClauseSet.{ClauseSet};
 ghost use Rattle.civl_units.specs.Trail.{IsOpen};
 ghost use Rattle.civl_propagation.specs.Trail.{AreDecided};
 ghost use Rattle.civl_propagation.specs.Engine.{IsAtRest};
+ghost use Rattle.civl_provers.specs.Node.{HaveValuesFrom, EndSays};
 ghost use Rattle.civl_provers.specs.Standing.{IsAtBranch, LookSays, IsTurning};
 
 use crate::memory::Memory;
 use civl_cnf::{Cnf, Lit};
 use civl_propagation::{Ended, Engine};
+
+/// The variable behind that of the last choice, or the end of the variables where no choice was made.
+pub fn end_of(falses: &[Lit], variables: u32) -> usize
+    ensures { EndSays variables falses.now result }
+{
+    if falses.len() == 0 {
+        return variables as usize;
+    }
+    falses[falses.len() - 1].variable() as usize + 1
+}
 
 /// Gives an engine the clauses of a set: whether propagation refutes them.
 pub fn load(engine: &mut Engine, cnf: &Cnf) -> Result<bool, Memory>
@@ -29,11 +40,12 @@ pub fn load(engine: &mut Engine, cnf: &Cnf) -> Result<bool, Memory>
     Ok(false)
 }
 
-/// Makes a literal false, on a level more: whether propagation refutes the branch.
+/// Makes a literal false whose variable is the last without a value, on a level more: whether propagation refutes the branch.
 pub fn assume_false(engine: &mut Engine, lit: Lit) -> Result<bool, Memory>
     requires rest { IsAtRest engine.old }
     requires below { lit.variable < length engine.old.trail.marks }
     requires open { IsOpen engine.old.trail.marks lit }
+    requires behind { HaveValuesFrom engine.old.trail.marks (lit.variable + 1) }
     ensures { IfOk result (λ conflict. (set : ClauseSet) (falses : List Literal) → IsAtBranch engine.old set falses → LookSays engine.new set (falses ++ lit ∷ []) conflict) }
 {
     let ended = engine.decide(lit.negate())?;

@@ -2,7 +2,7 @@
 ghost use Rattle.std.specs.Prelude.{IfOk};
 ghost use Rattle.civl_provers.specs.Splitter.{SplitSays};
 
-use crate::branching::{assume_false, load, turn};
+use crate::branching::{assume_false, end_of, load, turn};
 use crate::looking::{Node, judge};
 use crate::memory::Memory;
 use crate::refuting::refute;
@@ -26,12 +26,12 @@ pub fn split(alloc: Global, cnf: &Cnf, depth: u32) -> Result<Attempt, Memory>
             }
             conflict = turn(&mut engine, falses.as_slice())?;
         } else {
-            match judge(alloc, engine.trail().marks(), cnf)? {
+            let end = end_of(falses.as_slice(), cnf.variables());
+            let may_choose = falses.len() < depth as usize;
+            match judge(alloc, engine.trail().marks(), cnf, end, may_choose)? {
                 Node::True(bits) => return Ok(Attempt::Sat(bits)),
+                Node::Stuck => return Ok(Attempt::GaveUp),
                 Node::Open(variable) => {
-                    if falses.len() >= depth as usize {
-                        return Ok(Attempt::GaveUp);
-                    }
                     let lit = Lit::new(variable, true);
                     falses.push(lit)?;
                     conflict = assume_false(&mut engine, lit)?;

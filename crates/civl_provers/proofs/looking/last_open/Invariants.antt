@@ -1,6 +1,12 @@
-use Rattle.civl_provers.specs.Node.{LastOpen}
-use Rattle.std.proofs.Common.{take}
+use Rattle.std.proofs.Common.{◌≤◌}
+use Rattle.civl_provers.specs.Node.{HaveValuesFrom}
 use Rattle.civl_provers.proofs.looking.last_open.Given as goal
 
-abbrev pub invariant-loop-variable : goal.invariant-loop-variable
-invariant-loop-variable l = LastOpen (take l.variable l.marks) l.last
+abbrev pub invariant-loop-at : goal.invariant-loop-at
+invariant-loop-at l = record {
+  low : l.at ≤ l.end;
+  behind : HaveValuesFrom l.marks l.at;
+}
+
+abbrev pub decreases-loop-at : goal.decreases-loop-at
+decreases-loop-at l = l.at

@@ -2,11 +2,11 @@ use Rattle.std.proofs.Common.{◌++◌, ◌∷◌, [], ◌<◌, List, length, sy
 use Rattle.civl_cnf.specs.Literal.{Literal}
 use Rattle.civl_units.specs.Marks.{marked}
 use Rattle.civl_units.specs.Trail.{IsOpen, open_count}
-use Rattle.civl_propagation.specs.Trail.{AreDecided, before}
+use Rattle.civl_propagation.specs.Trail.{AreDecided, Deepens, before}
 use Rattle.civl_propagation.specs.Watches.{AllKeepUp, IsHeld, PropagationSays}
 use Rattle.civl_propagation.specs.Engine.{EngineState, IsAtRest}
 use Rattle.civl_propagation.proofs.Serving.{fewer_decide}
-use Rattle.civl_propagation.proofs.Engines.{decided_grows, decided_more, grows_of, held_of, engine_decides, ends_by}
+use Rattle.civl_propagation.proofs.Engines.{decided_grows, decided_more, deepens_by, grows_of, held_of, engine_decides, ends_by}
 use Rattle.civl_propagation.proofs.engine.Engine.decide.Goals as goal
 
 pub propagate-requires-clause-held : goal.propagate-requires-clause-held
@@ -35,6 +35,16 @@ returns-clause-decided c decisions d =
     let grows = grows_of t c.propagate.new.trail c.as_slice.result.now c.propagate.new.watches c.in_ok-ended.ended c.in_ok-ended.ensures in
     decided_grows t c.propagate.new.trail (decisions ++ c.args.lit ∷ []) grows (decided_more c.self.inside.trail t decisions c.args.lit c.in_ok-decide.ensures
     (subst (λ (x : EngineState). AreDecided x.trail decisions) (sym c.self.view_is) d))
+
+pub returns-clause-deeper : goal.returns-clause-deeper
+returns-clause-deeper c =
+    let rest = subst IsAtRest (sym c.self.view_is) c.requires.rest in
+    let low = subst (λ (x : EngineState). c.args.lit.variable < length x.trail.marks) (sym c.self.view_is) c.requires.below in
+    let free = subst (λ (x : EngineState). IsOpen x.trail.marks c.args.lit) (sym c.self.view_is) c.requires.open in
+    let t = c.decide.new.self in
+    let grows = grows_of t c.propagate.new.trail c.as_slice.result.now c.propagate.new.watches c.in_ok-ended.ended c.in_ok-ended.ensures in
+    subst (λ (x : EngineState). Deepens x.trail c.propagate.new.trail) c.self.view_is
+    (deepens_by c.self.inside.trail t c.propagate.new.trail c.args.lit rest.engine.trail.size c.in_ok-decide.ensures low free grows)
 
 pub returns-clause-fewer : goal.returns-clause-fewer
 returns-clause-fewer c =
