@@ -12,7 +12,7 @@ import time
 
 import program
 
-CRATES = ["civl_cnf", "civl_rup", "civl_cdcl"]
+CRATES = program.closure(["civl_cdcl"])
 BUDGET = 1_000_000
 
 PROGRAM = r"""//! Reads clause sets, one a line: the budget, the number of variables, and the clauses as in DIMACS. Prints the outcome of each search, with the number of clauses of its log.

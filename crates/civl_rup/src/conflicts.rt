@@ -38,7 +38,7 @@ pub fn load(engine: &mut Engine, cnf: &Cnf) -> Result<bool, Memory>
     Ok(false)
 }
 
-/// Makes literals false, one after the other and each on a level of its own, unless it is false already: whether propagation meets a conflict, or makes one of them true.
+/// Makes literals false, one after the other, each on a level of its own where it isn't false already. Whether that meets a conflict, or a literal that is true.
 pub fn make_false(engine: &mut Engine, lits: &[Lit]) -> Result<bool, Memory>
     requires rest { IsAtRest engine.old }
     requires decided { AreDecided engine.old.trail [] }
@@ -75,7 +75,7 @@ fn back_to_root(engine: &mut Engine)
     }
 }
 
-/// Whether making these literals false gives a conflict. What was decided for that is taken back.
+/// Whether making these literals false gives a conflict. What was decided for that is taken back, and what the clauses force by themselves stays.
 pub fn gives_conflict(engine: &mut Engine, lits: &[Lit]) -> Result<bool, Memory>
     requires rest { IsAtRest engine.old }
     requires decided { AreDecided engine.old.trail [] }

@@ -21,7 +21,7 @@ fn is_fit(marks: &mut Marks, clause: &[Lit]) -> Result<bool, Memory>
     Ok(fit)
 }
 
-/// Takes a clause of a log: none where it has no reverse unit propagation from the clauses so far, else it is added, and the answer says whether they give a conflict by themselves then. If they did before, the engine is done with, since each clause has reverse unit propagation that is fit.
+/// Takes a clause of a log. `None`: it has no reverse unit propagation from the clauses so far. Else it is added, and the answer says whether they give a conflict by themselves now. Where they did before, each fit clause has it, and the engine isn't asked any more.
 pub fn take_clause(
     engine: &mut Engine,
     marks: &mut Marks,
