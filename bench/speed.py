@@ -41,11 +41,21 @@ def wide(depth):
     return "f" if depth == 0 else "(%s && %s)" % (wide(depth - 1), wide(depth - 1))
 
 
+def many_of_one(front, between, declared, behind):
+    """30,000 names of one declaration, and as many assigns of the last hundred of them as a megabyte holds."""
+    start = HEADER + "init true;\n" + front + between.join(declared % number for number in range(30_000)) + behind
+    uses = ["p%d := p%d;\n" % (number, number) for number in range(29_900, 30_000)]
+    return start + "".join(uses) * ((LIMIT - len(start) - 2) // len("".join(uses))) + "}\n"
+
+
 TEXTS = {
     "flag program, threads": filled(HEADER + FLAG, "thread DoSet();\n", ""),
     "globals of many names": filled(HEADER, "global g%d : bool layers 0 to 1;\n", "init true;\n"),
     "one expression": HEADER + FLAG.replace("init true", "init " + wide(17)),
     "statements": filled(HEADER + FLAG + "proc Main() -> () root {\n", "call DoSet() -> ();\n", "}\n"),
+    "many parameters, used late": many_of_one("proc Main(", ", ", "val p%d : bool", ") -> () root {\n"),
+    "many outputs, used late": many_of_one("proc Main() -> (", ", ", "val p%d : bool", ") root {\n"),
+    "many locals, used late": many_of_one("proc Main() -> () root {\n", "", "var p%d : bool;\n", ""),
     "comments": filled(HEADER, "// a comment\n", FLAG),
     "blanks": " " * LIMIT,
 }
@@ -72,6 +82,14 @@ def many_calls():
     return HEADER + "init true;\n" + procs + "proc Main() -> () root {\n" + calls + "}\nschedule\n"
 
 
+def long_body(before, piece, after):
+    """A body with half a megabyte of such statements, and half a megabyte of moves in it."""
+    front = HEADER + FLAG + "proc Main() -> () root { var x : bool;\n" + before
+    back = after + "}\nthread Main();\nschedule f = false; "
+    move = "move 0 ();\n"
+    return front + piece * (LIMIT // 2 // len(piece)) + back + move * ((LIMIT // 2 - len(front) - len(back)) // len(move))
+
+
 SCHEDULE = "schedule\n" + "".join("g%d = 0:32;\n" % number for number in range(64))
 
 SCRIPTS = {
@@ -79,6 +97,8 @@ SCRIPTS = {
     "many names, looked up late": many_names(),
     "many procedures, called late": many_calls(),
     "moves": filled(HEADER + FLAG + "thread DoSet();\nschedule f = false; ", "move 0 ();\n", ""),
+    "moves in a long body": long_body("", "x := true;\n", ""),
+    "moves past a long branch": long_body("while true { if x {\n", "x := true;\n", "} else { x := false; } }\n"),
     "moves of a loop": filled(HEADER + FLAG + "proc Main() -> () root { while true { call DoSet() -> (); } }\nthread Main();\nschedule f = false; ", "move 0 ();\n", ""),
 }
 
