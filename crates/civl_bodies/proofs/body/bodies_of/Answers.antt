@@ -1,6 +1,6 @@
 use Rattle.std.proofs.Common.{arith}
 use Rattle.civl_bodies.specs.Bodies.{IsBody}
-use Rattle.civl_bodies.proofs.Zipping.{zip_more}
+use Rattle.civl_meaning.proofs.Zipping.{zip_more}
 use Rattle.civl_bodies.proofs.body.bodies_of.Goals as goal
 
 pub loop-number-preserved : goal.loop-number-preserved

@@ -1,7 +1,7 @@
 use Rattle.std.proofs.Common.{◌<◌, length, ◌∙◌, ap, sym, arith, Some}
 use Rattle.std.proofs.lemmas.Option.{slice_get-get_or}
 use Rattle.civl_bodies.specs.Bodies.{IsBody}
-use Rattle.civl_bodies.proofs.Zipping.{zip_long, zip_there}
+use Rattle.civl_meaning.proofs.Zipping.{zip_long, zip_there}
 use Rattle.civl_bodies.proofs.body.body_at.Goals as goal
 
 pub index-requires : goal.index-requires
