@@ -88,9 +88,14 @@ def compiled(folder):
 
 
 def ran(binary, library, words, text, number, count_path):
-    """The code and the report where the call of this number is refused (none where it is 0), and how many calls there were."""
+    """The code and the report where the call of this number is refused (none where it is 0), and how many calls there were. A run that isn't done after a minute has no code."""
     env = dict(os.environ, LD_PRELOAD=library, REFUSED=str(number), REFUSED_COUNT=count_path)
-    done = subprocess.run([binary, *words], input=text.encode(), capture_output=True, env=env)
+    try:
+        done = subprocess.run([binary, *words], input=text.encode(), capture_output=True, env=env, timeout=60)
+    except subprocess.TimeoutExpired:
+        return None, b"", 0
+    if done.returncode < 0:
+        return done.returncode, done.stdout, 0
     with open(count_path) as file:
         return done.returncode, done.stdout, int(file.read())
 
