@@ -1,5 +1,6 @@
 pub mod Bindings
 pub mod Scoping
+pub mod Locals
 pub mod States
 pub mod Moving
 pub mod Calling

@@ -122,7 +122,7 @@ pub record Made (sc : Scope) (known : List Name) (ids : List ℕ) (nay : ℕ) : 
   pub done : sc.done ≡ nay
   pub old_done : sc.old_done ≡ nay
 
-scope_fits : (ns : List Node) (sc : Scope) (names : List Name) (ids : List ℕ) (nay : ℕ) (bs : List Binding) (sorts : Sorts) → Made sc names ids nay → names ≡ names_of bs → AreOf ns ids (sorts_of bs) → sort_at ns nay ≡ Some Truth
+pub scope_fits : (ns : List Node) (sc : Scope) (names : List Name) (ids : List ℕ) (nay : ℕ) (bs : List Binding) (sorts : Sorts) → Made sc names ids nay → names ≡ names_of bs → AreOf ns ids (sorts_of bs) → sort_at ns nay ≡ Some Truth
     → Among sorts.names bs → Among sorts.olds bs → ScopeFits ns sc sorts
 scope_fits ns sc names ids nay bs sorts m n are nays first second = record {
   values = λ place id e. are_within ns ids (sorts_of bs) are place id (ap (λ (is : List ℕ). slice_get is place) (sym m.values) ∙ e);

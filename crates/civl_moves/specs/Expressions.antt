@@ -1,6 +1,8 @@
 -- The terms of the expressions of a body: what they say, at terms for its frame and for the store.
-use Rattle.std.specs.Prelude.{◌≡◌, ◌≤◌, ℕ, List, Some, map, slice_get}
+use Rattle.std.specs.Prelude.{◌≡◌, ◌≤◌, ℕ, Bool, true, false, ◌||◌, List, Some, map, slice_get}
 use Rattle.civl_tree.specs.declared.expr.Expr.{Expr}
+use Rattle.civl_tree.specs.declared.expr.Expr.TheFolds.{fold-Expr}
+use Rattle.civl_tree.specs.declared.expr.Expr.TheOpen as expr
 use Rattle.civl_tree.specs.declared.expr.Sort.TheVariants.{Bool as Truth}
 use Rattle.civl_tree.specs.declared.program.Global.{Global}
 use Rattle.civl_tree.specs.declared.program.Proc.{Proc}
@@ -22,6 +24,24 @@ use Rattle.civl_formulas.specs.Said.{Env, IsTest}
 -- the procedure is one of the program
 abbrev pub IsProcIn : Program → Proc → Type 0
 IsProcIn program proc = (number : ℕ) × (slice_get program.procs number ≡ Some proc)
+
+-- one layer of an expression: whether `old(..)` of a name stands there, or in a part
+abbrev pub old_step : expr.Expr-F Bool → Bool
+old_step (expr.Old name) = true
+old_step (expr.One op a) = a
+old_step (expr.Two op a b) = a || b
+old_step (expr.Pick test a b) = test || (a || b)
+old_step (expr.Get row at) = row || at
+old_step (expr.Set row at cell) = row || (at || cell)
+old_step (expr.Fill index cell) = cell
+old_step (expr.Slice a high low) = a
+old_step (expr.Widen a width) = a
+old_step (expr.Join a b) = a || b
+old_step _ = false
+
+-- `old(..)` of a name stands in an expression
+abbrev pub has_old : Expr → Bool
+has_old = fold-Expr Bool old_step
 
 -- the terms are the zeros of these globals
 pub record AreZeros (old new : List Node) (globals : List Global) (ids : List ℕ) : Type 0 where

@@ -12,7 +12,7 @@ ghost use Rattle.civl_actions.specs.Scopes.{AreOf, IsTyped, names_in};
 ghost use Rattle.civl_paths.specs.NoteValues.{note_names};
 ghost use Rattle.civl_conditions.specs.Weights.{body_weight, note_weight};
 ghost use Rattle.civl_formulas.specs.Said.{IsTest};
-ghost use Rattle.civl_moves.specs.Expressions.{AreZeros, IsBodyTerm, IsNoteTerm, IsProcIn};
+ghost use Rattle.civl_moves.specs.Expressions.{AreZeros, IsBodyTerm, IsNoteTerm, IsProcIn, has_old};
 
 use civl_actions::{Scope, term};
 use civl_bits::Value;
@@ -27,6 +27,26 @@ use std::alloc::Global as Alloc;
 struct Named {
     values: Vec<Id>,
     no: Id,
+}
+
+/// Whether `old(..)` of a name stands in an expression.
+fn has_old(expr: &Expr) -> bool
+    ensures { result ≡ has_old expr.now }
+{
+    match expr {
+        Expr::Old(_) => true,
+        Expr::Name(_) | Expr::Literal(_, _) => false,
+        Expr::True | Expr::False | Expr::Done | Expr::OldDone => false,
+        Expr::One(_, a) => has_old(a),
+        Expr::Two(_, a, b) => has_old(a) || has_old(b),
+        Expr::Pick(test, a, b) => has_old(test) || has_old(a) || has_old(b),
+        Expr::Get(row, at) => has_old(row) || has_old(at),
+        Expr::Set(row, at, cell) => has_old(row) || has_old(at) || has_old(cell),
+        Expr::Fill(_, cell) => has_old(cell),
+        Expr::Slice(a, _, _) => has_old(a),
+        Expr::Widen(a, _) => has_old(a),
+        Expr::Join(a, b) => has_old(a) || has_old(b),
+    }
 }
 
 /// The terms of the zeros of these globals.
@@ -59,6 +79,31 @@ fn joined_terms(
     let mut values = Vec::from_slice(alloc, first)?;
     values.extend_from_slice(second)?;
     Ok(Named { values, no })
+}
+
+/// The scope of a body's expressions in which no `old(..)` of a name stands, so that they name no global.
+#[tactic(auto, using(civl_firing::proofs::Joining::appending))]
+fn local_scope<'a>(proc: &'a Proc, locals: &'a [Id], no: Id) -> Scope<'a>
+    ensures names { names_in result ≡ names_in_proc proc.now }
+    ensures values { result.values.now ≡ locals.now }
+    ensures old { result.old.now ≡ locals.now }
+    ensures done { result.done ≡ no }
+    ensures old_done { result.old_done ≡ no }
+{
+    Scope {
+        names: Names {
+            globals: &[],
+            params: proc.params.as_slice(),
+            choices: &[],
+            outs: proc.outs.as_slice(),
+            locals: proc.locals.as_slice(),
+            behind: &[],
+        },
+        values: locals,
+        old: locals,
+        done: no,
+        old_done: no,
+    }
 }
 
 /// The scope of a body's expressions.
@@ -111,6 +156,32 @@ fn present_scope<'a>(program: &'a Program, proc: &'a Proc, named: &'a Named) -> 
     }
 }
 
+/// The term of an expression of a procedure's body in which `old(..)` may name globals, which are zeros.
+#[tactic(auto, using(civl_terms::proofs::Growing::growth))]
+fn old_term(
+    alloc: Alloc,
+    terms: &mut Terms,
+    program: &Program,
+    proc: &Proc,
+    locals: &[Id],
+    expr: &Expr,
+) -> Result<Id, Memory>
+    requires rules { Keeps typing_rules program.now }
+    requires proc { IsProcIn program.now proc.now }
+    requires typed { IsTyped (body_scope program.now proc.now) expr.now }
+    requires locals { AreOf terms.old locals.now (frame_sorts proc.now) }
+    ensures term { IfOk result (λ id. IsBodyTerm terms.old terms.new program.now proc.now locals.now expr.now id) }
+    ensures weighs { OnOk result (graph_weight terms.new ≤ graph_weight terms.old + body_weight program.now proc.now expr.now) }
+    ensures grows { Grows terms.old terms.new }
+{
+    let zeros = zeros(alloc, terms, program.globals.as_slice())?;
+    let named = joined_terms(alloc, terms, locals, zeros.as_slice())?;
+    let scope = frame_scope(program, proc, &named);
+    let id = term(expr, &scope, terms)?;
+    let _count = terms.len();
+    Ok(id)
+}
+
 /// The term of an expression of a procedure's body, at these terms for its parameters, outputs and locals. The graph's weight
 /// rises by at most the expression's.
 ///
@@ -136,9 +207,12 @@ pub fn body_term(
     ensures weighs { OnOk result (graph_weight terms.new ≤ graph_weight terms.old + body_weight program.now proc.now expr.now) }
     ensures grows { Grows terms.old terms.new }
 {
-    let zeros = zeros(alloc, terms, program.globals.as_slice())?;
-    let named = joined_terms(alloc, terms, locals, zeros.as_slice())?;
-    let scope = frame_scope(program, proc, &named);
+    if has_old(expr) {
+        let id = old_term(alloc, terms, program, proc, locals, expr)?;
+        return Ok(id);
+    }
+    let no = terms.constant(Value::Bool(false))?;
+    let scope = local_scope(proc, locals, no);
     let id = term(expr, &scope, terms)?;
     let _count = terms.len();
     Ok(id)
