@@ -15,7 +15,7 @@ use Rattle.civl_paths.specs.Paths.{Course}
 use Rattle.civl_paths.specs.Flows.{Flow, flow_all, flow_rest, flow_from, flow_kind}
 use Rattle.civl_paths.proofs.Each.{each_numbered, rest_each}
 use Rattle.civl_sweeps.specs.Sweeps.{Swept, sweep_all, sweep_rest, sweep_from, sweep_kind}
-use Rattle.civl_states.specs.declared.beginning.Chosen.{Chosen}
+use Rattle.civl_states.specs.declared.choices.Chosen.{Chosen}
 use Rattle.civl_moves.specs.declared.sweep.Sweep.{Sweep}
 use Rattle.civl_moves.specs.States.{swept_at}
 use Rattle.civl_body.specs.Passing.{course_in, StandIn, StandAll, HasChoices, SaysChoices, ReadyRest, ReadyHead, ReadyFrom, Passes, IsEntry, IsWithin}

@@ -30,7 +30,7 @@ use Rattle.civl_moves.specs.Calls.{AreBodyTerms, ResultsSuit}
 use Rattle.civl_moves.specs.Expressions.{IsProcIn}
 use Rattle.civl_moves.specs.States.{swept_at, CanSweep, Moves, body_of}
 use Rattle.civl_moves.proofs.States.{swept_same}
-use Rattle.civl_states.specs.declared.beginning.Chosen.{Chosen}
+use Rattle.civl_states.specs.declared.choices.Chosen.{Chosen}
 use Rattle.civl_states.specs.Beginnings.{chosen_at}
 use Rattle.civl_states.specs.Stores.{choice_sorts}
 use Rattle.civl_body.specs.Passing.{StandsCall, course_in}

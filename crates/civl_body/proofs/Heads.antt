@@ -26,7 +26,7 @@ use Rattle.civl_paths.proofs.Following.{flow_append}
 use Rattle.civl_paths.proofs.Each.{each_numbered}
 use Rattle.civl_sweeps.specs.Sweeps.{Swept, sweep_all, sweep_layer, sweep_rest}
 use Rattle.civl_conditions.specs.Weights.{layer_weight}
-use Rattle.civl_states.specs.declared.beginning.Chosen.{Chosen}
+use Rattle.civl_states.specs.declared.choices.Chosen.{Chosen}
 use Rattle.civl_moves.specs.declared.sweep.Sweep.{Sweep}
 use Rattle.civl_moves.specs.States.{swept_at}
 use Rattle.civl_body.specs.Passing.{course_in, StandIn, HasChoices, SaysChoices, ReadyRest, ReadyLoop, ReadyHead, Passes, IsLoop, IsPlain, by_loop, loop_passed}

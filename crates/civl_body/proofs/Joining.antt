@@ -22,7 +22,7 @@ use Rattle.civl_paths.proofs.Each.{each_branch, each_else, each_of_layer}
 use Rattle.civl_sweeps.specs.Sweeps.{Swept, first_begins, second_begins, joined, by_both}
 use Rattle.civl_bits.specs.declared.value.Value.{Value}
 use Rattle.civl_sweeps.specs.Sweeps.{where_onward, sweep, sweep_all}
-use Rattle.civl_states.specs.declared.beginning.Chosen.{Chosen}
+use Rattle.civl_states.specs.declared.choices.Chosen.{Chosen}
 use Rattle.civl_body.specs.Passing.{course_in, StandIn, HasChoices, SaysChoices, Ready, Passes}
 use Rattle.civl_body.proofs.Passing.{passed_by, has_less, says_less, has_stay, says_stay, own_choices}
 use Rattle.civl_formulas.specs.Lists.{AreAlike}

@@ -14,7 +14,7 @@ use Rattle.civl_terms.proofs.Growing.{grows_trans}
 use Rattle.civl_actions.proofs.Staying.{values_stay}
 use Rattle.civl_paths.specs.Flows.{flow_all}
 use Rattle.civl_sweeps.specs.Sweeps.{Swept, first_begins, second_begins, sweep_all}
-use Rattle.civl_states.specs.declared.beginning.Chosen.{Chosen}
+use Rattle.civl_states.specs.declared.choices.Chosen.{Chosen}
 use Rattle.civl_body.specs.Passing.{course_in, HasChoices, ReadyRest, ReadyLoop, Passes, loop_passed, by_loop}
 use Rattle.civl_body.proofs.Passing.{has_less, says_less, has_stay, says_stay, own_choices}
 use Rattle.civl_body.proofs.Joining.{before_second, first_can, second_can}

@@ -28,7 +28,7 @@ use Rattle.civl_sweeps.proofs.Stopping.{stmt_flows}
 use Rattle.civl_formulas.specs.Said.{Env}
 use Rattle.civl_moves.specs.declared.sweep.Sweep.{Sweep}
 use Rattle.civl_moves.specs.States.{swept_at, CanSweep, Moves}
-use Rattle.civl_states.specs.declared.beginning.Chosen.{Chosen}
+use Rattle.civl_states.specs.declared.choices.Chosen.{Chosen}
 use Rattle.civl_states.specs.Beginnings.{chosen_at}
 use Rattle.civl_body.specs.Passing.{course_in, HasChoices, SaysChoices, Ready, Passes, Under}
 

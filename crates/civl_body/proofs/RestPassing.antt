@@ -18,7 +18,7 @@ use Rattle.civl_sweeps.specs.Sweeps.{where_onward, sweep, sweep_all}
 use Rattle.civl_sweeps.proofs.Sweeping.{sweep_none, sweep_more}
 use Rattle.civl_moves.specs.declared.sweep.Sweep.{Sweep}
 use Rattle.civl_moves.specs.States.{swept_at}
-use Rattle.civl_states.specs.declared.beginning.Chosen.{Chosen}
+use Rattle.civl_states.specs.declared.choices.Chosen.{Chosen}
 use Rattle.std.proofs.lemmas.List.{get_or-map, length-map}
 use Rattle.civl_body.specs.declared.rests.Numbered.{Numbered}
 use Rattle.civl_body.specs.Rests.{rest_of}

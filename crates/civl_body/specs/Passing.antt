@@ -33,7 +33,7 @@ use Rattle.civl_moves.specs.Expressions.{IsProcIn}
 use Rattle.civl_moves.specs.States.{swept_at, CanSweep, Moves, Suits}
 use Rattle.civl_tree.specs.rules.Scopes.{body_scope}
 use Rattle.civl_tree.specs.declared.expr.Sort.TheVariants.{Bool as Truth}
-use Rattle.civl_states.specs.declared.beginning.Chosen.{Chosen}
+use Rattle.civl_states.specs.declared.choices.Chosen.{Chosen}
 use Rattle.civl_states.specs.Beginnings.{chosen_at}
 use Rattle.civl_states.specs.Stores.{choice_sorts}
 

@@ -16,7 +16,7 @@ use crate::rests::{Numbered, push_among, push_numbered, push_one};
 use crate::statements::pass_rest;
 use civl_layers::{Cut, CutKind};
 use civl_moves::{Sweep, front_with, part, swap};
-use civl_states::Chosen;
+use civl_states::Choices;
 use civl_terms::{Memory, Terms};
 use civl_tree::{Expr, List, Proc, Program, Stmt};
 use std::alloc::Global as Alloc;
@@ -30,7 +30,7 @@ pub fn pass_loop(
     program: &Program,
     layer: u32,
     proc: &Proc,
-    chosen: &List<Chosen>,
+    chosen: &Choices,
     sweep: &mut Sweep,
     condition: &Expr,
 ) -> Result<(), Memory>
@@ -100,7 +100,7 @@ pub fn pass_head(
     program: &Program,
     layer: u32,
     proc: &Proc,
-    chosen: &List<Chosen>,
+    chosen: &Choices,
     sweep: &mut Sweep,
 ) -> Result<(), Memory>
     requires ready { ReadyHead terms.old program.now layer proc.now chosen.now sweep.old (rest_of items.now) }
@@ -172,7 +172,7 @@ pub fn pass_from(
     program: &Program,
     layer: u32,
     proc: &Proc,
-    chosen: &List<Chosen>,
+    chosen: &Choices,
     sweep: &mut Sweep,
     cut: Cut,
 ) -> Result<(), Memory>

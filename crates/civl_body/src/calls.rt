@@ -29,8 +29,8 @@ ghost use Rattle.civl_body.specs.Passing.{StandsCall, action_at, course_in};
 ghost use Rattle.civl_body.specs.Weights.{Leaves};
 
 use civl_firing::names::action as place_of_action;
-use civl_moves::{Sweep, body_terms, copied, halt, pass_action};
-use civl_states::Chosen;
+use civl_moves::{Sweep, body_terms, halt, pass_action};
+use civl_states::Choices;
 use civl_terms::{Id, Memory, Terms};
 use civl_tree::{Expr, List, Name, Proc, Program, Refines};
 use civl_types::names::proc_named;
@@ -82,16 +82,11 @@ fn number_meant(program: &Program, layer: u32, name: &Name) -> Option<u32>
 }
 
 /// The terms for the choices of the call with this number.
-fn choices_at(alloc: Alloc, chosen: &List<Chosen>, number: u32) -> Result<List<Id>, Memory>
+fn choices_at(alloc: Alloc, chosen: &Choices, number: u32) -> Result<List<Id>, Memory>
     ensures { IfOk result (λ ids. ids ≡ chosen_at chosen.now number) }
 {
-    for one in chosen.as_slice() {
-        if one.statement == number {
-            let ids = copied(alloc, &one.choices)?;
-            return Ok(ids);
-        }
-    }
-    Ok(List::new(alloc))
+    let ids = Vec::from_slice(alloc, chosen.at(number))?;
+    Ok(List::from_vec(ids))
 }
 
 /// A call.
@@ -101,7 +96,7 @@ pub fn pass_call(
     program: &Program,
     layer: u32,
     proc: &Proc,
-    chosen: &List<Chosen>,
+    chosen: &Choices,
     sweep: &mut Sweep,
     number: u32,
     callee: &Name,

@@ -18,7 +18,7 @@ use civl_moves::{
     Sweep, front_with, join, part, pass_assert, pass_assign, pass_commit, pass_cut, pass_intro,
     stop, swap,
 };
-use civl_states::Chosen;
+use civl_states::Choices;
 use civl_terms::{Memory, Terms};
 use civl_tree::{List, Proc, Program, Stmt};
 use std::alloc::Global as Alloc;
@@ -32,7 +32,7 @@ fn pass_all(
     program: &Program,
     layer: u32,
     proc: &Proc,
-    chosen: &List<Chosen>,
+    chosen: &Choices,
     sweep: &mut Sweep,
     number: u32,
 ) -> Result<(), Memory>
@@ -62,7 +62,7 @@ pub fn pass_rest(
     program: &Program,
     layer: u32,
     proc: &Proc,
-    chosen: &List<Chosen>,
+    chosen: &Choices,
     sweep: &mut Sweep,
 ) -> Result<(), Memory>
     requires ready { ReadyRest terms.old program.now layer proc.now chosen.now sweep.old (rest_of items.now) }
@@ -97,7 +97,7 @@ fn pass(
     program: &Program,
     layer: u32,
     proc: &Proc,
-    chosen: &List<Chosen>,
+    chosen: &Choices,
     sweep: &mut Sweep,
     number: u32,
 ) -> Result<(), Memory>

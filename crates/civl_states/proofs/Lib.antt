@@ -4,6 +4,7 @@ pub mod Scoping
 pub mod Noting
 pub mod Laying
 pub mod Calling
+pub mod Searching
 pub mod Starting
 pub mod Limits
 pub mod Weighing
@@ -13,6 +14,7 @@ pub mod Picking
 pub mod Formulas
 pub mod Invoking
 pub mod Variables
+pub mod Grouping
 pub mod Taking
 pub mod Typed
 pub mod Stepping

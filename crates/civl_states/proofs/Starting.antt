@@ -43,7 +43,7 @@ use Rattle.civl_states.specs.declared.beginning_places.Places.{Places}
 use Rattle.civl_states.specs.declared.stores.Existing.TheVariants.{Near}
 use Rattle.civl_states.specs.Existing.{existing_sorts}
 use Rattle.civl_states.specs.Groups.{StandFrom}
-use Rattle.civl_states.specs.Laying.{AreLaid, StandGroups, sorts_where, inner_sorts, call_sorts, path_sorts, near_store, begun_locals, begun_outs, begun_done, begun_old_done, frame_bits, AreChosen}
+use Rattle.civl_states.specs.Laying.{AreLaid, StandGroups, sorts_where, inner_sorts, call_sorts, path_sorts, near_store, begun_locals, begun_outs, begun_done, begun_old_done, frame_bits, with_some, AreChosen}
 use Rattle.civl_states.proofs.Given.{stand_front, stand_past, part_given, get_given, spread_taken}
 use Rattle.civl_tree.specs.rules.Rules.{Keeps}
 use Rattle.civl_tree.specs.rules.Typing.{typing_rules}
@@ -72,19 +72,19 @@ sorts_has : (b : Bool) (vs : List Variable) → sorts_of (where_has b vs) ≡ so
 sorts_has true vs = refl
 sorts_has false vs = refl
 
-globals_sorts : (front : List ℕ) (gs : List Global) → sorts_of (of_globals front gs) ≡ map (λ g. g.sort) gs
+pub globals_sorts : (front : List ℕ) (gs : List Global) → sorts_of (of_globals front gs) ≡ map (λ g. g.sort) gs
 globals_sorts front [] = refl
 globals_sorts front (g ∷ gs) = ap (λ ss. g.sort ∷ ss) (globals_sorts front gs)
 
-params_sorts : (front : List ℕ) (ps : List Param) → sorts_of (of_params front ps) ≡ param_sorts ps
+pub params_sorts : (front : List ℕ) (ps : List Param) → sorts_of (of_params front ps) ≡ param_sorts ps
 params_sorts front [] = refl
 params_sorts front (p ∷ ps) = ap (λ ss. p.sort ∷ ss) (params_sorts front ps)
 
-locals_sorts : (front : List ℕ) (ls : List Local) → sorts_of (of_locals front ls) ≡ map (λ l. l.sort) ls
+pub locals_sorts : (front : List ℕ) (ls : List Local) → sorts_of (of_locals front ls) ≡ map (λ l. l.sort) ls
 locals_sorts front [] = refl
 locals_sorts front (l ∷ ls) = ap (λ ss. l.sort ∷ ss) (locals_sorts front ls)
 
-choices_sorts : (front : List ℕ) (cs : List Choice) → sorts_of (of_choices front cs) ≡ map (λ c. c.sort) cs
+pub choices_sorts : (front : List ℕ) (cs : List Choice) → sorts_of (of_choices front cs) ≡ map (λ c. c.sort) cs
 choices_sorts front [] = refl
 choices_sorts front (c ∷ cs) = ap (λ ss. c.sort ∷ ss) (choices_sorts front cs)
 
@@ -92,7 +92,7 @@ passed_sorts : (qs : List (ℕ × List Choice)) → sorts_of (of_passed qs) ≡ 
 passed_sorts [] = refl
 passed_sorts (q ∷ qs) = map-append (λ v. v.sort) (of_choices (call_front q.0) q.1) (of_passed qs) ∙ ap₂ (λ (ss ts : List Sort). ss ++ ts) (choices_sorts (call_front q.0) q.1) (passed_sorts qs)
 
-join : (xs ys : List Variable) (ss ts : List Sort) → sorts_of xs ≡ ss → sorts_of ys ≡ ts → sorts_of (xs ++ ys) ≡ ss ++ ts
+pub join : (xs ys : List Variable) (ss ts : List Sort) → sorts_of xs ≡ ss → sorts_of ys ≡ ts → sorts_of (xs ++ ys) ≡ ss ++ ts
 join xs ys ss ts p q = map-append (λ v. v.sort) xs ys ∙ ap₂ (λ (us vs : List Sort). us ++ vs) p q
 
 has : (b : Bool) (vs : List Variable) (ss : List Sort) → sorts_of vs ≡ ss → sorts_of (where_has b vs) ≡ sorts_where b ss
@@ -327,7 +327,7 @@ module _ (ns : List Node) (program : Program) (step : ℕ) (proc : Proc) (cut : 
     (globals : AreStore ns program t.globals (λ env. near_store program step env 0)) (old : AreStore ns program t.old_globals (λ env. near_store program step env (if is_rank_loop cut.kind then places.old else 0)))
     (locals : AreSaid ns t.locals (frame_sorts proc) (λ env. begun_locals proc cut.kind env places)) (outs : AreSaid ns t.old_outs (param_sorts proc.outs) (λ env. begun_outs proc cut.kind env places))
     (done : IsTest ns t.done (λ env. begun_done cut.kind env places)) (old_done : IsTest ns t.old_done (λ env. begun_old_done cut.kind env places))
-    (chosen : AreChosen ns t.chosen (passed_choices program step proc cut) places.calls) where
+    (chosen : AreChosen ns t.chosen (with_some (passed_choices program step proc cut)) places.calls) where
   pub are_begun : (n : ℕ) → (layout program step proc cut).behind ≤ n → AreBegun ns program step proc cut t (λ env. begun program step proc cut (given env 0 n))
   are_begun n l = record {
     globals = said_as ns t.globals (global_sorts program) _ _ (λ env. now_is program step proc cut places laid n l env) globals;
@@ -340,7 +340,7 @@ module _ (ns : List Node) (program : Program) (step : ℕ) (proc : Proc) (cut : 
         let plain = program_at program (step - 1) in
         let passed = (flow_from proc cut).passed in
         let stand = passed_stand proc cut in
-        let here = subst (λ (k : ℕ). AreChosen ns t.chosen (passed_choices program step proc cut) k) laid.calls chosen in
+        let here = subst (λ (k : ℕ). AreChosen ns t.chosen (with_some (passed_choices program step proc cut)) k) laid.calls chosen in
         let found = chosen_found program (step - 1) proc.body ns n (layout program step proc cut).calls t.chosen passed q here stand (stands_at proc.body passed q stand there) there l in
         subst (λ (cs : List Choice). AreSaid ns (chosen_at t.chosen q.0) (map (λ c. c.sort) cs) (λ env. (begun program step proc cut (given env 0 n)).chosen q.0)) (chosen_of_action plain (out-Stmt q.1) a is) found;
   }

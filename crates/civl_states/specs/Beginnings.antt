@@ -18,7 +18,7 @@ use Rattle.civl_paths.specs.Choices.{layer_action}
 use Rattle.civl_conditions.specs.Values.{Begun}
 use Rattle.civl_formulas.specs.Said.{Env, IsTest}
 use Rattle.civl_formulas.specs.Lists.{AreSaid}
-use Rattle.civl_states.specs.declared.beginning.Chosen.{Chosen}
+use Rattle.civl_states.specs.declared.choices.Chosen.{Chosen}
 use Rattle.civl_states.specs.declared.beginning.Beginning.{Beginning}
 use Rattle.civl_states.specs.Stores.{AreGlobals, AreStore, choice_sorts}
 

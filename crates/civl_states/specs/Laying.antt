@@ -1,5 +1,5 @@
 -- For private functions alone: the variables of a path's beginning group by group, and the terms for each.
-use Rattle.std.specs.Prelude.{◌≡◌, ℕ, ◌+◌, Bool, false, not, if◌then◌else◌, List, [], ◌∷◌, ◌++◌, length, map, slice_get, ⊤}
+use Rattle.std.specs.Prelude.{◌≡◌, ℕ, ◌+◌, Bool, true, false, not, if◌then◌else◌, List, [], ◌∷◌, ◌++◌, length, map, filter, slice_get, ⊤}
 use Rattle.std.specs.Option.{option_map_or}
 use Rattle.civl_bits.specs.declared.value.Value.{Value}
 use Rattle.civl_values.specs.Values.{is_true}
@@ -20,14 +20,14 @@ use Rattle.civl_layers.specs.declared.cut.CutKind.{CutKind}
 use Rattle.civl_paths.specs.Ends.{is_entry, is_rank_loop}
 use Rattle.civl_paths.specs.Seen.{exists_near}
 use Rattle.civl_conditions.specs.Variables.{layer_choices, passed_choices}
-use Rattle.civl_conditions.specs.Values.{Layout, count_of, store_of}
+use Rattle.civl_conditions.specs.Values.{Layout, count_of, store_of, choices_count}
 use Rattle.civl_meaning.specs.Config.{frame_sorts}
 use Rattle.civl_formulas.specs.Said.{Env, IsTest}
 use Rattle.civl_formulas.specs.Lists.{AreSaid}
 use Rattle.civl_formulas.specs.Given.{given, bits_of_sorts}
 use Rattle.civl_states.specs.Groups.{StandFrom}
 use Rattle.civl_states.specs.declared.beginning_frames.Frame.{Frame}
-use Rattle.civl_states.specs.declared.beginning.Chosen.{Chosen}
+use Rattle.civl_states.specs.declared.choices.Chosen.{Chosen}
 use Rattle.civl_states.specs.declared.beginning_places.Places.{Places}
 use Rattle.civl_states.specs.declared.stores.Existing.TheVariants.{Near}
 use Rattle.civl_states.specs.Existing.{existing_sorts}
@@ -97,6 +97,14 @@ call_at program layer stmts number = (number, option_map_or (λ s. layer_choices
 abbrev pub calls_at : Program → ℕ → List Stmt → List ℕ → List (ℕ × List Choice)
 calls_at program layer stmts numbers = map (call_at program layer stmts) numbers
 
+-- those that choose something
+abbrev pub chooses : List Choice → Bool
+chooses [] = false
+chooses (c ∷ cs) = true
+
+abbrev pub with_some : List (ℕ × List Choice) → List (ℕ × List Choice)
+with_some calls = filter (λ q. chooses q.1) calls
+
 -- one list of terms for each call, whose choices' variables begin at this number
 abbrev pub AreChosen : List Node → List Chosen → List (ℕ × List Choice) → ℕ → Type 0
 AreChosen ns [] [] at = ⊤
@@ -104,6 +112,11 @@ AreChosen ns [] (q ∷ qs) at = ⊥
 AreChosen ns (c ∷ cs) [] at = ⊥
 AreChosen ns (c ∷ cs) (q ∷ qs) at =
     (c.statement ≡ q.0) × AreSaid ns c.choices (map (λ x. x.sort) q.1) (λ env. given env at (length q.1)) × AreChosen ns cs qs (at + length q.1)
+
+-- whatever calls these entries are for, the next one, whose choices' variables begin at this number, is behind them
+abbrev pub ChooseMore : List Node → List Node → List Chosen → List Chosen → ℕ × List Choice → ℕ → Type 0
+ChooseMore old new before after call next =
+    (qs : List (ℕ × List Choice)) (at : ℕ) → AreChosen old before (with_some qs) at → next ≡ at + choices_count qs → AreChosen new after (with_some (qs ++ call ∷ [])) at
 
 -- ---- the groups, and the terms at these places
 

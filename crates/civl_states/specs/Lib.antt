@@ -8,3 +8,4 @@ pub mod Same
 pub mod Beginnings
 pub mod Laying
 pub mod Formulas
+pub mod Sorted

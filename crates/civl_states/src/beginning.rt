@@ -17,18 +17,12 @@ ghost use Rattle.civl_states.specs.Beginnings.{AreBegun, CanBegin};
 use crate::beginning_choices::begin_choices;
 use crate::beginning_frames::{begin_frame, begin_old_store};
 use crate::beginning_places::places_of;
+use crate::choices::Choices;
 use crate::stores::{Existing, store};
 use civl_layers::Cut;
 use civl_terms::{Id, Memory, Terms};
 use civl_tree::{List, Proc, Program, Sort};
 use std::alloc::Global as Alloc;
-
-/// The terms for the choices of the statement with this number: those of the action that it calls, and none where it calls none.
-#[derive(Drop)]
-pub struct Chosen {
-    pub statement: u32,
-    pub choices: List<Id>,
-}
 
 /// The terms at the beginning of a path: the globals, the parameters, outputs and locals, and `done`; what these were at the
 /// beginning of the block, which is called old; and the choices of the calls that some path passes.
@@ -40,7 +34,7 @@ pub struct Beginning {
     pub old_globals: List<Id>,
     pub old_outs: List<Id>,
     pub old_done: Id,
-    pub chosen: List<Chosen>,
+    pub chosen: Choices,
 }
 
 /// The terms at the beginning of the paths from a cut, as variables: in the order of their numbers the globals of the step; the

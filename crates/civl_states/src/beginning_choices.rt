@@ -1,6 +1,7 @@
 // The variables for the choices of the calls that some path passes.
 ghost use Rattle.std.specs.Prelude.{◌≡◌, ◌+◌, ◌≤◌, ◌<◌, ◌^◌, [], length, map, slice_get, All, IsTrue, IfOk, OnOk};
 ghost use Rattle.std.specs.Option.{option_map_or};
+ghost use Rattle.std.specs.List.Sorted.{IsStrictlyIncreasing};
 ghost use Rattle.civl_tree.specs.declared.stmt.Stmt.{out-Stmt};
 ghost use Rattle.civl_tree.specs.Numbering.{sizes_of, statements_of};
 ghost use Rattle.civl_paths.specs.Flows.{flow_from};
@@ -12,9 +13,9 @@ ghost use Rattle.civl_terms.specs.Weights.{graph_weight};
 ghost use Rattle.civl_conditions.specs.Variables.{choices_of, layer_choices, passed_choices};
 ghost use Rattle.civl_formulas.specs.Given.{bits_of_sorts, AreVariablesOf};
 ghost use Rattle.civl_states.specs.Groups.{StandFrom};
-ghost use Rattle.civl_states.specs.Laying.{calls_at, call_sorts, AreChosen};
+ghost use Rattle.civl_states.specs.Laying.{calls_at, call_sorts, with_some, AreChosen, ChooseMore};
 
-use crate::beginning::Chosen;
+use crate::choices::{Choices, Chosen};
 use civl_conditions::action_called;
 use civl_formulas::variables;
 use civl_layers::Cut;
@@ -54,13 +55,47 @@ fn stmt_choices<'a>(program: &'a Program, layer: u32, stmt: &Stmt) -> &'a [Choic
 }
 
 /// The choices of the statement that has this number among these.
-fn number_choices<'a>(program: &'a Program, layer: u32, flat: &[&Stmt], number: u32) -> &'a [Choice]
+pub(crate) fn number_choices<'a>(
+    program: &'a Program,
+    layer: u32,
+    flat: &[&Stmt],
+    number: u32,
+) -> &'a [Choice]
     ensures { result.now ≡ option_map_or (λ s. layer_choices (program_at program.now layer) (out-Stmt s)) (slice_get (map (λ s. s.now) flat.now) number) [] }
 {
     match flat.get(number as usize) {
         Some(stmt) => stmt_choices(program, layer, stmt),
         None => &[],
     }
+}
+
+/// Puts the variables for the choices of the statement with this number, from the number `first` on, behind those of others; nothing
+/// where it has none.
+fn push_call(
+    alloc: Alloc,
+    terms: &mut Terms,
+    sorts: &[Sort],
+    calls: &mut Vec<Chosen>,
+    statement: u32,
+    choices: &[Choice],
+    first: u32,
+) -> Result<(), Memory>
+    requires stand { StandFrom sorts.now first (map (λ c. c.sort) choices.now) }
+    requires small { length sorts.now < 2 ^ 32 }
+    requires limits { All (λ s. IsTrue (is_sort s)) sorts.now }
+    requires variables { AreVariablesOf terms.old sorts.now }
+    ensures chosen { OnOk result (ChooseMore terms.old terms.new calls.old.items calls.new.items (statement, choices.now) first) }
+    ensures variables { AreVariablesOf terms.new sorts.now }
+    ensures lengthens { Lengthens terms.old terms.new }
+    ensures weighs { OnOk result (graph_weight terms.new ≤ graph_weight terms.old + bits_of_sorts (map (λ c. c.sort) choices.now)) }
+{
+    if choices.len() == 0 {
+        let _count = terms.len();
+        return Ok(());
+    }
+    let choices = variables(alloc, terms, sorts, first, choices.len() as u32)?;
+    calls.push(Chosen { statement, choices })?;
+    Ok(())
 }
 
 /// The variables for the choices of the statements with these numbers, from this number on.
@@ -73,35 +108,31 @@ fn choices_from(
     flat: &[&Stmt],
     numbers: &[u32],
     first: u32,
-) -> Result<List<Chosen>, Memory>
+) -> Result<Vec<Chosen>, Memory>
     requires stand { StandFrom sorts.now first (call_sorts (calls_at program.now layer (map (λ s. s.now) flat.now) numbers.now)) }
     requires small { length sorts.now < 2 ^ 32 }
     requires limits { All (λ s. IsTrue (is_sort s)) sorts.now }
     requires variables { AreVariablesOf terms.old sorts.now }
-    ensures chosen { IfOk result (λ list. AreChosen terms.new list (calls_at program.now layer (map (λ s. s.now) flat.now) numbers.now) first) }
+    ensures chosen { IfOk result (λ calls. AreChosen terms.new calls.items (with_some (calls_at program.now layer (map (λ s. s.now) flat.now) numbers.now)) first) }
     ensures variables { AreVariablesOf terms.new sorts.now }
     ensures lengthens { Lengthens terms.old terms.new }
     ensures weighs { OnOk result (graph_weight terms.new ≤ graph_weight terms.old + bits_of_sorts (call_sorts (calls_at program.now layer (map (λ s. s.now) flat.now) numbers.now))) }
 {
-    let mut list = Vec::new(alloc);
+    let mut calls = Vec::new(alloc);
     let mut next = first;
     for number in numbers {
         let choices = number_choices(program, layer, flat, *number);
-        let count = choices.len() as u32;
-        let ids = variables(alloc, terms, sorts, next, count)?;
-        list.push(Chosen {
-            statement: *number,
-            choices: ids,
-        })?;
-        next += count;
+        push_call(alloc, terms, sorts, &mut calls, *number, choices, next)?;
+        next += choices.len() as u32;
     }
-    Ok(List::from_vec(list))
+    Ok(calls)
 }
 
 /// The numbers of the statements that some path from a cut passes.
-fn passed_from(alloc: Alloc, proc: &Proc, cut: Cut) -> Result<List<u32>, Memory>
+pub(crate) fn passed_from(alloc: Alloc, proc: &Proc, cut: Cut) -> Result<List<u32>, Memory>
     requires { sizes_of proc.now.body < 2 ^ 32 }
-    ensures { IfOk result (λ numbers. numbers ≡ map (λ q. q.0) (flow_from proc.now cut).passed) }
+    ensures passed { IfOk result (λ numbers. numbers ≡ map (λ q. q.0) (flow_from proc.now cut).passed) }
+    ensures order { IfOk result IsStrictlyIncreasing }
 {
     match met_from(alloc, proc, cut) {
         Ok(met) => Ok(met.passed),
@@ -110,7 +141,7 @@ fn passed_from(alloc: Alloc, proc: &Proc, cut: Cut) -> Result<List<u32>, Memory>
 }
 
 /// All statements of a procedure.
-fn flat_statements<'a>(alloc: Alloc, proc: &'a Proc) -> Result<Vec<&'a Stmt>, Memory>
+pub(crate) fn flat_statements<'a>(alloc: Alloc, proc: &'a Proc) -> Result<Vec<&'a Stmt>, Memory>
     ensures { IfOk result (λ flat. map (λ s. s.now) flat.items ≡ statements_of proc.now.body) }
 {
     match statements(alloc, &proc.body) {
@@ -129,20 +160,20 @@ pub(crate) fn begin_choices(
     proc: &Proc,
     cut: Cut,
     first: u32,
-) -> Result<List<Chosen>, Memory>
+) -> Result<Choices, Memory>
     requires body { sizes_of proc.now.body < 2 ^ 32 }
     requires stand { StandFrom sorts.now first (call_sorts (passed_choices program.now step proc.now cut)) }
     requires small { length sorts.now < 2 ^ 32 }
     requires limits { All (λ s. IsTrue (is_sort s)) sorts.now }
     requires variables { AreVariablesOf terms.old sorts.now }
-    ensures chosen { IfOk result (λ list. AreChosen terms.new list (passed_choices program.now step proc.now cut) first) }
+    ensures chosen { IfOk result (λ calls. AreChosen terms.new calls (with_some (passed_choices program.now step proc.now cut)) first) }
     ensures variables { AreVariablesOf terms.new sorts.now }
     ensures lengthens { Lengthens terms.old terms.new }
     ensures weighs { OnOk result (graph_weight terms.new ≤ graph_weight terms.old + bits_of_sorts (call_sorts (passed_choices program.now step proc.now cut))) }
 {
     let numbers = passed_from(alloc, proc, cut)?;
     let flat = flat_statements(alloc, proc)?;
-    let list = choices_from(
+    let calls = choices_from(
         alloc,
         terms,
         sorts,
@@ -152,5 +183,5 @@ pub(crate) fn begin_choices(
         numbers.as_slice(),
         first,
     )?;
-    Ok(list)
+    Ok(Choices::from_vec(calls))
 }

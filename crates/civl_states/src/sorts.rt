@@ -1,12 +1,211 @@
 // The sorts of a condition's variables.
-ghost use Rattle.std.specs.Prelude.{◌≡◌, IfOk};
+ghost use Rattle.std.specs.Prelude.{◌≡◌, ◌<◌, ◌^◌, ◌++◌, ◌∷◌, [], Some, length, map, slice_get, IfOk, IfSome, OnOk};
+ghost use Rattle.std.specs.Option.{option_map_or};
+ghost use Rattle.civl_tree.specs.Numbered.{IsNumbered};
+ghost use Rattle.civl_tree.specs.Numbering.{sizes_of};
+ghost use Rattle.civl_layers.specs.Cuts.{proc_cuts};
+ghost use Rattle.civl_conditions.specs.Steps.{of_action, of_cut};
 ghost use Rattle.civl_states.specs.Formulas.{sorts_of};
+ghost use Rattle.civl_states.specs.Runs.{instance_sorts, param_sorts};
+ghost use Rattle.civl_states.specs.Sorted.{cut_sorts, grouped_sorts, lower_sorts, other_sorts, thread_sorts};
 
-use civl_conditions::{Condition, variables};
-use civl_layers::Layered;
+use crate::path_sorts::push_path;
+use crate::sort_groups::{push_globals, push_instance, push_locals, push_params};
+use crate::stores::Existing;
+use civl_conditions::{Condition, Target};
+use civl_layers::{Cut, Layered, cuts, program};
 use civl_terms::Memory;
-use civl_tree::{List, Sort};
+use civl_tree::{List, Proc, Program, Sort};
 use std::alloc::Global;
+
+// ---- actions
+
+/// Those of the parameters and choices of the action with this number, where there is one.
+fn push_action(sorts: &mut Vec<Sort>, program: &Program, number: u32) -> Result<(), Memory>
+    ensures { OnOk result (sorts.new.items ≡ sorts.old.items ++ of_action program.now number [] instance_sorts) }
+{
+    match program.actions.as_slice().get(number as usize) {
+        Some(action) => {
+            push_instance(sorts, action)?;
+            Ok(())
+        }
+        None => Ok(()),
+    }
+}
+
+/// Those of the parameters alone.
+fn push_inputs(sorts: &mut Vec<Sort>, program: &Program, number: u32) -> Result<(), Memory>
+    ensures { OnOk result (sorts.new.items ≡ sorts.old.items ++ of_action program.now number [] param_sorts) }
+{
+    match program.actions.as_slice().get(number as usize) {
+        Some(action) => {
+            push_params(sorts, action.params.as_slice())?;
+            Ok(())
+        }
+        None => Ok(()),
+    }
+}
+
+/// The globals of the lower layer of a step.
+fn push_lower(sorts: &mut Vec<Sort>, program: &Program, step: u32) -> Result<(), Memory>
+    ensures { OnOk result (sorts.new.items ≡ sorts.old.items ++ lower_sorts program.now step) }
+{
+    push_globals(sorts, program, Existing::Layer(step.saturating_sub(1)))?;
+    Ok(())
+}
+
+// ---- procedures
+
+/// The frame of another thread, which is in this procedure.
+fn push_frame(sorts: &mut Vec<Sort>, proc: &Proc) -> Result<(), Memory>
+    ensures { OnOk result (sorts.new.items ≡ sorts.old.items ++ thread_sorts proc.now) }
+{
+    push_params(sorts, proc.params.as_slice())?;
+    push_params(sorts, proc.outs.as_slice())?;
+    push_locals(sorts, proc.locals.as_slice())?;
+    sorts.push(Sort::Bool)?;
+    Ok(())
+}
+
+/// The other thread's frame, where the target is a yield.
+fn push_other(sorts: &mut Vec<Sort>, program: &Program, target: Target) -> Result<(), Memory>
+    ensures { OnOk result (sorts.new.items ≡ sorts.old.items ++ other_sorts program.now target) }
+{
+    match target {
+        Target::Invariant(_) => Ok(()),
+        Target::Yield(number, _) => match program.procs.as_slice().get(number as usize) {
+            Some(proc) => {
+                push_frame(sorts, proc)?;
+                Ok(())
+            }
+            None => Ok(()),
+        },
+    }
+}
+
+/// The paths from the cut with this number among those of a procedure, where there is one.
+fn push_from(
+    alloc: Global,
+    sorts: &mut Vec<Sort>,
+    program: &Program,
+    step: u32,
+    proc: &Proc,
+    cuts: &[Cut],
+    number: u32,
+) -> Result<(), Memory>
+    requires { sizes_of proc.now.body < 2 ^ 32 }
+    ensures { OnOk result (sorts.new.items ≡ sorts.old.items ++ option_map_or (cut_sorts program.now step proc.now) (slice_get cuts.now number) []) }
+{
+    match cuts.get(number as usize) {
+        Some(cut) => {
+            push_path(alloc, sorts, program, step, proc, *cut)?;
+            Ok(())
+        }
+        None => Ok(()),
+    }
+}
+
+/// The cuts of the procedure with this number.
+fn cuts_of(alloc: Global, src: &Layered, number: u32) -> Result<List<Cut>, Memory>
+    requires { number < length src.now.procs }
+    ensures { IfOk result (λ cuts. IfSome (slice_get src.now.procs number) (λ proc. cuts ≡ proc_cuts proc)) }
+{
+    match cuts(alloc, src, number) {
+        Ok(cuts) => Ok(cuts),
+        Err(_) => Err(Memory),
+    }
+}
+
+/// The paths from a cut of the procedure with this number.
+fn push_in(
+    alloc: Global,
+    sorts: &mut Vec<Sort>,
+    src: &Layered,
+    step: u32,
+    number: u32,
+    proc: &Proc,
+    cut: u32,
+) -> Result<(), Memory>
+    requires numbered { IsNumbered src.now }
+    requires found { slice_get src.now.procs number ≡ Some proc.now }
+    ensures { OnOk result (sorts.new.items ≡ sorts.old.items ++ option_map_or (cut_sorts src.now step proc.now) (slice_get (proc_cuts proc.now) cut) []) }
+{
+    let cuts = cuts_of(alloc, src, number)?;
+    push_from(alloc, sorts, program(src), step, proc, cuts.as_slice(), cut)?;
+    Ok(())
+}
+
+/// The paths from the cut with this number of the procedure with this number, where there are both.
+fn push_cut(
+    alloc: Global,
+    sorts: &mut Vec<Sort>,
+    src: &Layered,
+    step: u32,
+    number: u32,
+    cut: u32,
+) -> Result<(), Memory>
+    ensures { OnOk result (sorts.new.items ≡ sorts.old.items ++ of_cut src.now number cut [] (cut_sorts src.now step)) }
+{
+    match program(src).procs.as_slice().get(number as usize) {
+        Some(proc) => {
+            push_in(alloc, sorts, src, step, number, proc, cut)?;
+            Ok(())
+        }
+        None => Ok(()),
+    }
+}
+
+// ---- conditions
+
+/// The sorts of a condition's variables, group by group.
+#[tactic(auto, using(std::proofs::lemmas::List::append_assoc))]
+fn push_groups(
+    alloc: Global,
+    sorts: &mut Vec<Sort>,
+    src: &Layered,
+    condition: &Condition,
+) -> Result<(), Memory>
+    ensures { OnOk result (sorts.new.items ≡ sorts.old.items ++ grouped_sorts src.now condition.now) }
+{
+    let program = program(src);
+    match *condition {
+        Condition::Start(_, _) => {
+            push_globals(sorts, program, Existing::All)?;
+            Ok(())
+        }
+        Condition::Keep(step, action) => {
+            push_lower(sorts, program, step)?;
+            push_action(sorts, program, action)?;
+            Ok(())
+        }
+        Condition::Pair(_, step, first, second) => {
+            push_lower(sorts, program, step)?;
+            push_action(sorts, program, first)?;
+            push_action(sorts, program, second)?;
+            Ok(())
+        }
+        Condition::Fire(step, action) => {
+            push_lower(sorts, program, step)?;
+            push_inputs(sorts, program, action)?;
+            Ok(())
+        }
+        Condition::Path(_, step, proc, cut) => {
+            push_cut(alloc, sorts, src, step, proc, cut)?;
+            Ok(())
+        }
+        Condition::Block(step, proc, cut, target) => {
+            push_cut(alloc, sorts, src, step, proc, cut)?;
+            push_other(sorts, program, target)?;
+            Ok(())
+        }
+        Condition::Act(step, action, target) => {
+            push_globals(sorts, program, Existing::Near(step))?;
+            push_action(sorts, program, action)?;
+            push_other(sorts, program, target)?;
+            Ok(())
+        }
+    }
+}
 
 /// The sorts of a condition's variables, in their order.
 ///
@@ -20,13 +219,7 @@ pub fn variable_sorts(
 ) -> Result<List<Sort>, Memory>
     ensures { IfOk result (λ sorts. sorts ≡ sorts_of src.now condition.now) }
 {
-    let variables = match variables(alloc, src, condition) {
-        Ok(variables) => variables,
-        Err(_) => return Err(Memory),
-    };
     let mut sorts = Vec::new(alloc);
-    for variable in variables.as_slice() {
-        sorts.push(variable.sort)?;
-    }
+    push_groups(alloc, &mut sorts, src, condition)?;
     Ok(List::from_vec(sorts))
 }

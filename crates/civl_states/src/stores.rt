@@ -36,7 +36,7 @@ fn exists_at(layer: u32, global: &Global) -> bool
 }
 
 /// Whether a global is one of these.
-fn passes(which: Existing, global: &Global) -> bool
+pub(crate) fn passes(which: Existing, global: &Global) -> bool
     ensures { result ≡ passes which global.now }
 {
     match which {

@@ -3,25 +3,34 @@ use Rattle.std.proofs.Common.{◌≡◌, ◌∙◌, sym, ap, subst, arith}
 use Rattle.civl_tree.specs.declared.action.Choice.{Choice}
 use Rattle.civl_tree.specs.Numbering.{statements_of}
 use Rattle.civl_formulas.specs.Given.{bits_of_sorts}
+use Rattle.std.specs.List.Sorted.{IsStrictlyIncreasing}
+use Rattle.civl_conditions.specs.Variables.{passed_choices}
+use Rattle.civl_states.specs.declared.choices.Chosen.{Chosen}
 use Rattle.civl_states.specs.Groups.{StandFrom}
-use Rattle.civl_states.specs.Laying.{call_sorts, AreChosen}
-use Rattle.civl_states.proofs.Calling.{calls_are}
+use Rattle.civl_states.specs.Laying.{call_sorts, with_some, AreChosen}
+use Rattle.civl_states.proofs.Calling.{calls_are, calls_rise}
 use Rattle.civl_states.proofs.beginning_choices.begin_choices.Goals as goal
 
 pub choices_from-requires-clause-stand : goal.choices_from-requires-clause-stand
 choices_from-requires-clause-stand c =
     let ss : map (λ s. s.now) c.as_slice.result.now ≡ statements_of c.args.proc.now.body = ap (map (λ s. s.now)) c.as_slice.ensures.value ∙ c.in_ok-flat.ensures in
-    let e = calls_are c.args.program.now c.args.step c.saturating_sub.result c.args.proc.now c.args.cut _ _ c.saturating_sub.ensures ss (c.as_slice-2.ensures ∙ c.in_ok-numbers.ensures) in
+    let e = calls_are c.args.program.now c.args.step c.saturating_sub.result c.args.proc.now c.args.cut _ _ c.saturating_sub.ensures ss (c.as_slice-2.ensures ∙ c.in_ok-numbers.ensures.passed) in
     subst (λ (qs : List (ℕ × List Choice)). StandFrom c.args.sorts.now c.args.first (call_sorts qs)) (sym e) c.requires.stand
 
 pub returns-clause-chosen : goal.returns-clause-chosen
 returns-clause-chosen c =
     let ss : map (λ s. s.now) c.as_slice.result.now ≡ statements_of c.args.proc.now.body = ap (map (λ s. s.now)) c.as_slice.ensures.value ∙ c.in_ok-flat.ensures in
-    let e = calls_are c.args.program.now c.args.step c.saturating_sub.result c.args.proc.now c.args.cut _ _ c.saturating_sub.ensures ss (c.as_slice-2.ensures ∙ c.in_ok-numbers.ensures) in
-    subst (λ (qs : List (ℕ × List Choice)). AreChosen c.choices_from.new.terms c.in_ok-list.list qs c.args.first) e c.in_ok-list.ensures.chosen
+    let e = calls_are c.args.program.now c.args.step c.saturating_sub.result c.args.proc.now c.args.cut _ _ c.saturating_sub.ensures ss (c.as_slice-2.ensures ∙ c.in_ok-numbers.ensures.passed) in
+    subst (λ (cs : List Chosen). AreChosen c.choices_from.new.terms cs (with_some (passed_choices c.args.program.now c.args.step c.args.proc.now c.args.cut)) c.args.first) (sym c.from_vec.ensures)
+    (subst (λ (qs : List (ℕ × List Choice)). AreChosen c.choices_from.new.terms c.in_ok-calls.calls.items (with_some qs) c.args.first) e c.in_ok-calls.ensures.chosen)
 
 pub returns-clause-weighs : goal.returns-clause-weighs
 returns-clause-weighs c =
     let ss : map (λ s. s.now) c.as_slice.result.now ≡ statements_of c.args.proc.now.body = ap (map (λ s. s.now)) c.as_slice.ensures.value ∙ c.in_ok-flat.ensures in
-    let e = calls_are c.args.program.now c.args.step c.saturating_sub.result c.args.proc.now c.args.cut _ _ c.saturating_sub.ensures ss (c.as_slice-2.ensures ∙ c.in_ok-numbers.ensures) in
-    omega (arith, c.in_ok-list.ensures.weighs, ap (λ (qs : List (ℕ × List Choice)). bits_of_sorts (call_sorts qs)) e)
+    let e = calls_are c.args.program.now c.args.step c.saturating_sub.result c.args.proc.now c.args.cut _ _ c.saturating_sub.ensures ss (c.as_slice-2.ensures ∙ c.in_ok-numbers.ensures.passed) in
+    omega (arith, c.in_ok-calls.ensures.weighs, ap (λ (qs : List (ℕ × List Choice)). bits_of_sorts (call_sorts qs)) e)
+
+pub from_vec-requires : goal.from_vec-requires
+from_vec-requires c =
+    calls_rise c.choices_from.new.terms c.in_ok-calls.calls.items c.args.program.now c.saturating_sub.result (map (λ s. s.now) c.as_slice.result.now) c.as_slice-2.result.now c.args.first c.in_ok-calls.ensures.chosen
+    (subst IsStrictlyIncreasing (sym c.as_slice-2.ensures) c.in_ok-numbers.ensures.order)

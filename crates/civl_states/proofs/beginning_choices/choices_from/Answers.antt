@@ -1,36 +1,31 @@
-use Rattle.std.specs.Prelude.{map, get_or}
-use Rattle.std.proofs.Common.{◌≡◌, refl, ap, arith, length}
+use Rattle.std.specs.Prelude.{map, get_or, take}
+use Rattle.std.proofs.Common.{◌≡◌, refl, sym, ap, subst, arith, length, List}
+use Rattle.civl_tree.specs.declared.action.Choice.{Choice}
 use Rattle.civl_terms.proofs.Growing.{lengthens_trans}
-use Rattle.civl_states.specs.Laying.{call_at}
-use Rattle.civl_states.proofs.Calling.{chosen_after, call_within, call_past, call_said, call_bits, call_chosen, call_counted}
+use Rattle.civl_states.specs.Groups.{StandFrom}
+use Rattle.civl_states.specs.Laying.{call_at, calls_at}
+use Rattle.civl_states.proofs.Calling.{call_stands, call_within, call_past, call_bits, call_chosen, call_counted}
 use Rattle.civl_states.proofs.beginning_choices.choices_from.Goals as goal
 
-pub overflow_cast-count : goal.overflow_cast-count
-overflow_cast-count c =
+pub push_call-requires-clause-stand : goal.push_call-requires-clause-stand
+push_call-requires-clause-stand c =
+    let ns = c.args.numbers.now in
+    let i = c.loop-number.number-index in
+    let s = call_stands c.args.program.now c.args.layer (map (λ s. s.now) c.args.flat.now) ns i (get_or ns i 0) (omega arith) refl c.args.sorts.now c.loop-number.next c.loop-number.invariant.1 in
+    subst (λ (chs : List Choice). StandFrom c.args.sorts.now c.loop-number.next (map (λ x. x.sort) chs)) (sym c.number_choices-choices.ensures) s
+
+pub push_call-requires-clause-variables : goal.push_call-requires-clause-variables
+push_call-requires-clause-variables c = c.loop-number.invariant.3
+
+pub returns-in_err-push_call-clause-lengthens : goal.returns-in_err-push_call-clause-lengthens
+returns-in_err-push_call-clause-lengthens c = lengthens_trans _ _ _ c.loop-number.invariant.4 c.in_err-push_call.ensures.lengthens
+
+pub overflow_cast-next : goal.overflow_cast-next
+overflow_cast-next c =
     let ns = c.args.numbers.now in
     let i = c.loop-number.number-index in
     let l = call_within c.args.program.now c.args.layer (map (λ s. s.now) c.args.flat.now) ns i (get_or ns i 0) (omega arith) refl c.args.sorts.now c.loop-number.next c.loop-number.invariant.1 in
     omega (arith, l, c.requires.small, ap length c.number_choices-choices.ensures)
-
-pub variables-requires-clause-within : goal.variables-requires-clause-within
-variables-requires-clause-within c =
-    let ns = c.args.numbers.now in
-    let i = c.loop-number.number-index in
-    let l = call_within c.args.program.now c.args.layer (map (λ s. s.now) c.args.flat.now) ns i (get_or ns i 0) (omega arith) refl c.args.sorts.now c.loop-number.next c.loop-number.invariant.1 in
-    omega (arith, l, ap length c.number_choices-choices.ensures)
-
-pub variables-requires-clause-small : goal.variables-requires-clause-small
-variables-requires-clause-small c =
-    let ns = c.args.numbers.now in
-    let i = c.loop-number.number-index in
-    let l = call_within c.args.program.now c.args.layer (map (λ s. s.now) c.args.flat.now) ns i (get_or ns i 0) (omega arith) refl c.args.sorts.now c.loop-number.next c.loop-number.invariant.1 in
-    omega (arith, l, c.requires.small, ap length c.number_choices-choices.ensures)
-
-pub returns-in_err-ids-clause-lengthens : goal.returns-in_err-ids-clause-lengthens
-returns-in_err-ids-clause-lengthens c = lengthens_trans _ _ _ c.loop-number.invariant.4 c.in_err-ids.ensures.lengthens
-
-pub returns-in_err-push-clause-lengthens : goal.returns-in_err-push-clause-lengthens
-returns-in_err-push-clause-lengthens c = lengthens_trans _ _ _ c.loop-number.invariant.4 c.in_ok-ids.ensures.lengthens
 
 pub overflow_add-next : goal.overflow_add-next
 overflow_add-next c =
@@ -48,17 +43,14 @@ loop-number-preserved c =
     let i = c.loop-number.number-index in
     let n = get_or ns i 0 in
     let next = c.loop-number.next in
-    let count = length c.number_choices-choices.result.now in
-    let e : count ≡ length (call_at p k ss n).1 = ap length c.number_choices-choices.ensures in
+    let choices = c.number_choices-choices.result.now in
+    let e : choices ≡ (call_at p k ss n).1 = c.number_choices-choices.ensures in
     let inv = c.loop-number.invariant in
-    let new = c.variables.new.terms in
-    let ids = c.in_ok-ids.ids in
-    let said = call_said p k ss ns i n (omega arith) refl c.args.sorts.now next inv.1 new ids count e c.in_ok-ids.ensures.said in
-    let before = chosen_after c.loop-number.terms new c.loop-number.list.items _ c.args.first c.in_ok-ids.ensures.lengthens inv.0 in (
-      call_chosen p k ss ns i n (omega arith) refl new c.loop-number.list.items c.push.new.self.items c.args.first next _ before inv.2 refl said c.in_ok-push.ensures.items,
-      call_past p k ss ns i n (omega arith) refl c.args.sorts.now next inv.1 count e,
-      call_counted p k ss ns i n (omega arith) refl c.args.first next count inv.2 e,
-      c.in_ok-ids.ensures.variables,
-      lengthens_trans _ _ _ inv.4 c.in_ok-ids.ensures.lengthens,
-      omega (arith, inv.5, c.in_ok-ids.ensures.weighs, call_bits p k ss ns i n (omega arith) refl c.args.sorts.now next inv.1 count e),
+    let made = c.in_ok-push_call.ensures in (
+      call_chosen p k ss ns i n (omega arith) refl c.push_call.new.terms c.push_call.new.calls.items c.args.first choices e (made.chosen (calls_at p k ss (take i ns)) c.args.first inv.0 inv.2),
+      call_past p k ss ns i n (omega arith) refl c.args.sorts.now next inv.1 (length choices) (ap length e),
+      call_counted p k ss ns i n (omega arith) refl c.args.first next (length choices) inv.2 (ap length e),
+      made.variables,
+      lengthens_trans _ _ _ inv.4 made.lengthens,
+      omega (arith, inv.5, made.weighs, call_bits p k ss ns i n (omega arith) refl c.args.sorts.now next inv.1 choices e),
     )
