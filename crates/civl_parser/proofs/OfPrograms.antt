@@ -23,9 +23,9 @@ use Rattle.civl_phrases.proofs.Lists.{repeated_is}
 use Rattle.civl_phrases.proofs.Heads.{heads_mapped, heads_repeated, heads_end}
 use Rattle.civl_phrases.proofs.Tables.{and_parts, and_join}
 use Rattle.civl_phrases.proofs.Leaves.{number_is}
-use Rattle.civl_parser.specs.declared.program.Header.{Header}
-use Rattle.civl_parser.specs.declared.program.Claims.{Claims}
-use Rattle.civl_parser.specs.declared.program.Bodies.{Bodies}
+use Rattle.civl_parser.specs.declared.programs.Header.{Header}
+use Rattle.civl_parser.specs.declared.programs.Claims.{Claims}
+use Rattle.civl_parser.specs.declared.programs.Bodies.{Bodies}
 use Rattle.civl_expressions.specs.readers.Exprs.{FitsExpr}
 use Rattle.civl_declarations.specs.readers.Actions.{action_word, action_at}
 use Rattle.civl_statements.specs.readers.Procs.{proc_word, proc_at}
@@ -131,7 +131,7 @@ module _ {E : Type 0} (z : List Token → Type 0) (s : E → List Token) (f : E 
   unfolding bodies_at
   bodies_is =
       subst (λ r. IsReader d d z bodies_spell BodiesFit r)
-      (nested make_bodies (λ _. repeated (begins proc_word) (proc_at new d)) (λ _. repeated (begins thread_word) (thread_at new d)) y (repeated (begins action_word) (action_at new d)))
+      (nested make_bodies (λ _. repeated (begins proc_word) (proc_at new d)) (λ _. repeated (begins thread_word) (thread_at new d)) (λ _. y) (repeated (begins action_word) (action_at new d)))
       (mapped_is of_body_parts bodies_spell BodiesFit (λ v h. bodies_spells v) (λ v h. ((h.0, (h.1.0, h.1.1.0)), h.1.1.1)) bodies_back body_parts_is)
 
   bodies_no_invariant : Heads z bodies_spell BodiesFit (begins invariant_word) false
@@ -165,7 +165,7 @@ module _ {E : Type 0} (z : List Token → Type 0) (s : E → List Token) (f : E 
   unfolding claims_at
   claims_is =
       subst (λ r. IsReader d d z claims_spell ClaimsFit r)
-      (nested make_claims (λ _. repeated (begins invariant_word) (invariant_at new d)) (λ _. bodies_at new d) y (init_at new d))
+      (nested make_claims (λ _. repeated (begins invariant_word) (invariant_at new d)) (λ _. bodies_at new d) (λ _. y) (init_at new d))
       (mapped_is of_claim_parts claims_spell ClaimsFit (λ v h. regroup_spell (spell_init v.0) (joined (map spell_invariant v.1.0)) (spell_bodies v.1.1.0) (s v.1.1.1)) (λ v h. ((h.0, (h.1.0, h.1.1.0)), h.1.1.1))
       (λ v h. ((v.0.init, (v.0.invariants, (v.0.bodies, v.1))), refl, (h.0.0, (h.0.1.0, (h.0.1.1, h.1))))) claim_parts_is)
 
@@ -204,7 +204,8 @@ program_from p h =
       ),
     )
 
-module _ {E : Type 0} (z : List Token → Type 0) (s : E → List Token) (f : E → Type 0) (y : Reader E) (d : ℕ) (q : IsReader d d z s f y) (none : BeginsNone z s f) where
+-- what stands behind a program may hang on its version, as its parts do
+module _ {E : Type 0} (z : List Token → Type 0) (s : E → List Token) (f : Bool → E → Type 0) (y : Bool → Reader E) (d : ℕ) (q : (new : Bool) → IsReader d d z s (f new) (y new)) (none : (new : Bool) → BeginsNone z s (f new)) where
   abbrev ProgramParts : Type 0
   ProgramParts = Header × (List Global × (Claims × E))
 
@@ -212,7 +213,7 @@ module _ {E : Type 0} (z : List Token → Type 0) (s : E → List Token) (f : E 
   parts_spell v = spell_header v.0 ++ (joined (map spell_global v.1.0) ++ (spell_claims v.1.1.0 ++ s v.1.1.1))
 
   abbrev PartsFit : ProgramParts → Type 0
-  PartsFit v = Unit {0} × (AllByRecursion FitsGlobal v.1.0 × (FitsClaims (v.0.version == 2) v.1.1.0 × f v.1.1.1))
+  PartsFit v = Unit {0} × (AllByRecursion FitsGlobal v.1.0 × (FitsClaims (v.0.version == 2) v.1.1.0 × f (v.0.version == 2) v.1.1.1))
 
   abbrev of_parts : ProgramParts → Program × E
   of_parts v = (make_program (v.0, (v.1.0, v.1.1.0)), v.1.1.1)
@@ -221,18 +222,18 @@ module _ {E : Type 0} (z : List Token → Type 0) (s : E → List Token) (f : E 
   with_program_spell v = spell_program v.0 ++ s v.1
 
   abbrev WithProgramFits : Program × E → Type 0
-  WithProgramFits v = HasSpelling v.0 × f v.1
+  WithProgramFits v = HasSpelling v.0 × f (v.0.version == 2) v.1
 
-  parts_is : IsReader d d z parts_spell PartsFit (both header_at (λ header. both (repeated (begins global_word) (global_at d)) (λ _. both (claims_at (header.version == 2) d) (λ _. y))))
-  parts_is = both_is {s2 = λ h v. joined (map spell_global v.0) ++ (spell_claims v.1.0 ++ s v.1.1)} {f2 = λ h v. AllByRecursion FitsGlobal v.0 × (FitsClaims (h.version == 2) v.1.0 × f v.1.1)} (header_is d)
-      (λ h. repeated_is (begins global_word) refl (global_first global_word true refl) (record { next = λ v rest fits ends. refl }) (global_is d) (claims_is z s f y d q none (h.version == 2)))
+  parts_is : IsReader d d z parts_spell PartsFit (both header_at (λ header. both (repeated (begins global_word) (global_at d)) (λ _. both (claims_at (header.version == 2) d) (λ _. y (header.version == 2)))))
+  parts_is = both_is {s2 = λ h v. joined (map spell_global v.0) ++ (spell_claims v.1.0 ++ s v.1.1)} {f2 = λ h v. AllByRecursion FitsGlobal v.0 × (FitsClaims (h.version == 2) v.1.0 × f (h.version == 2) v.1.1)} (header_is d)
+      (λ h. repeated_is (begins global_word) refl (global_first global_word true refl) (record { next = λ v rest fits ends. refl }) (global_is d) (claims_is z s (f (h.version == 2)) (y (h.version == 2)) d (q (h.version == 2)) (none (h.version == 2)) (h.version == 2)))
 
-  -- a program, and then y
-  pub program_then_is : IsReader d d z with_program_spell WithProgramFits (both (program_at d) (λ _. y))
+  -- a program, and then y of its version
+  pub program_then_is : IsReader d d z with_program_spell WithProgramFits (both (program_at d) (λ program. y (program.version == 2)))
   unfolding program_at
   program_then_is =
       subst (λ r. IsReader d d z with_program_spell WithProgramFits r)
-      (nested make_program (λ _. repeated (begins global_word) (global_at d)) (λ header. claims_at (header.version == 2) d) y header_at)
+      (nested make_program (λ _. repeated (begins global_word) (global_at d)) (λ header. claims_at (header.version == 2) d) (λ program. y (program.version == 2)) header_at)
       (mapped_is of_parts with_program_spell WithProgramFits (λ v h. regroup_spell (spell_header v.0) (joined (map spell_global v.1.0)) (spell_claims v.1.1.0) (s v.1.1.1))
       (λ v h. (program_to v.0 v.1.0 v.1.1.0 h.1.0 h.1.1.0, h.1.1.1))
       (λ v h. let k = program_from v.0 h.0 in (((program_parts v.0).0, ((program_parts v.0).1.0, ((program_parts v.0).1.1, v.1))), refl, (tt, (k.0, (k.1, h.1))))) parts_is)
@@ -248,4 +249,4 @@ nothing_behind = record {
 pub program_text_is : (d : ℕ) → IsReader d d AtEnd spell_program HasSpelling (program_text_at d)
 unfolding program_text_at
 program_text_is d = mapped_is {f = λ v. HasSpelling v.0 × Unit {0}} (λ (v : Program × Unit {0}). v.0) spell_program HasSpelling (λ v h. sym (append-nil (spell_program v.0))) (λ v h. h.0) (λ p h. ((p, tt), refl, (h, tt)))
-    (program_then_is AtEnd (λ (u : Unit {0}). []) (λ _. Unit {0}) ended d (ended_is d) nothing_behind)
+    (program_then_is AtEnd (λ (u : Unit {0}). []) (λ _ _. Unit {0}) (λ _. ended) d (λ _. ended_is d) (λ _. nothing_behind))

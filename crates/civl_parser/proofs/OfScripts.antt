@@ -67,4 +67,4 @@ script_from s h =
 pub script_text_is : (d : ℕ) → IsReader d d AtEnd spell_script ScriptHasSpelling (script_text_at d)
 unfolding script_text_at
 script_text_is d = mapped_is make_script spell_script ScriptHasSpelling (λ v h. refl) (λ v h. script_to v.0 v.1 h.0 h.1) (λ s h. script_from s h)
-    (program_then_is AtEnd schedule_spell ScheduleFits (schedule_at d) d (schedule_is d) schedule_behind)
+    (program_then_is AtEnd schedule_spell (λ _. ScheduleFits) (λ _. schedule_at d) d (λ _. schedule_is d) (λ _. schedule_behind))

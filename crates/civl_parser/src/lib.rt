@@ -4,10 +4,11 @@
 
 mod fault;
 pub mod laws;
-mod program;
+mod programs;
 mod script;
 mod texts;
 
 pub use fault::ParseFault;
+pub use programs::program;
 pub use script::parse_script;
 pub use texts::parse;

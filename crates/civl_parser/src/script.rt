@@ -6,7 +6,7 @@ ghost use Rattle.civl_parser.specs.readers.Scripts.{schedule_at, script_text_at}
 ghost use Rattle.civl_parser.specs.Parsing.{ScriptParses, ScriptIsOnly};
 
 use crate::fault::ParseFault;
-use crate::program::program;
+use crate::programs::program;
 use civl_declarations::{EntryPhrase, StepPhrase};
 use civl_lex::Token;
 use civl_phrases::{Halt, Stop, end, many, word};

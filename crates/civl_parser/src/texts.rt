@@ -3,7 +3,7 @@ ghost use Rattle.civl_lex.specs.Spelled.{spelled};
 ghost use Rattle.civl_parser.specs.Parsing.{Parses, IsOnly};
 
 use crate::fault::ParseFault;
-use crate::program::program_text;
+use crate::programs::program_text;
 use civl_lex::Token;
 use civl_phrases::{Halt, Stop};
 use civl_tree::Program;

@@ -13,9 +13,9 @@ use Rattle.civl_tree.specs.declared.program.Program.{Program}
 use Rattle.civl_phrases.specs.Reader.{Reader, begins, after, both, mapped, then_token, ended}
 use Rattle.civl_phrases.specs.List.{repeated}
 use Rattle.civl_phrases.specs.Leaf.{a_number}
-use Rattle.civl_parser.specs.declared.program.Header.{Header}
-use Rattle.civl_parser.specs.declared.program.Claims.{Claims}
-use Rattle.civl_parser.specs.declared.program.Bodies.{Bodies}
+use Rattle.civl_parser.specs.declared.programs.Header.{Header}
+use Rattle.civl_parser.specs.declared.programs.Claims.{Claims}
+use Rattle.civl_parser.specs.declared.programs.Bodies.{Bodies}
 use Rattle.civl_declarations.specs.readers.Actions.{action_word, action_at}
 use Rattle.civl_statements.specs.readers.Procs.{proc_word, proc_at}
 use Rattle.civl_declarations.specs.readers.Declarations.{global_word, global_at, init_at, invariant_word, invariant_at, thread_word, thread_at}

@@ -4,7 +4,7 @@ use Rattle.civl_lex.specs.Spelled.{spelled}
 use Rattle.civl_phrases.specs.Reader.{both}
 use Rattle.civl_parser.specs.readers.Programs.{sizes_at}
 use Rattle.civl_parser.proofs.Sizes.{sizes_fail}
-use Rattle.civl_parser.proofs.program.sizes.Goals as goal
+use Rattle.civl_parser.proofs.programs.sizes.Goals as goal
 
 pub returns : goal.returns
 unfolding sizes_at both

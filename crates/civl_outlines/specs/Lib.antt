@@ -1,0 +1,3 @@
+pub mod SpellingOutline
+pub mod Reading
+pub mod readers
