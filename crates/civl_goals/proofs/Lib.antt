@@ -1,0 +1,9 @@
+pub mod Fitting
+pub mod Bodies
+pub mod Placed
+pub mod Descending
+pub mod Noting
+pub mod Misplacing
+pub mod Grouping
+pub mod Tops
+pub mod Unheld

@@ -1,0 +1,26 @@
+-- Where no statement has a number, nothing is held before it; and what is said of the procedure with a number.
+use Rattle.std.proofs.Common.{◌≡◌, ℕ, ◌≤◌, Bool, List, [], ◌∷◌, length, get_or, Some, refl, sym, ap, ◌∙◌, subst, ◌<◌}
+use Rattle.std.specs.Prelude.{Option, slice_get}
+use Rattle.std.specs.Option.{option_map_or}
+use Rattle.std.proofs.lemmas.Option.{slice_get_read, slice_get_past}
+use Rattle.std.proofs.lemmas.List.{get_or_past}
+use Rattle.civl_tree.specs.declared.name.Name.{Name}
+use Rattle.civl_tree.specs.declared.program.Proc.{Proc}
+use Rattle.civl_tree.specs.declared.program.Program.{Program}
+use Rattle.civl_linear.specs.Cuts.{held_numbers}
+use Rattle.civl_conditions.specs.Steps.{of_proc}
+
+no_flags : (number : ℕ) (names : List Name) → held_numbers number names [] ≡ []
+no_flags number [] = refl
+no_flags number (name ∷ names) = refl
+
+pub none_held : (number : ℕ) (names : List Name) (befores : List (List Bool)) (at : ℕ) → length befores ≤ at → held_numbers number names (get_or befores at []) ≡ []
+none_held number names befores at past = ap (held_numbers number names) (get_or_past befores at [] past) ∙ no_flags number names
+
+module _ {A : Type 0} (f : Proc → A) (none : A) (program : Program) (procs : List Proc) (number : ℕ) where
+  pub of_some : (proc : Proc) → procs ≡ program.procs → number < length procs → proc ≡ get_or procs number proc → f proc ≡ of_proc program number none f
+  of_some proc e l is =
+      ap (λ (o : Option Proc). option_map_or f o none) (sym (subst (λ (ps : List Proc). slice_get ps number ≡ Some proc) e (slice_get_read procs (length procs) number proc refl l is)))
+
+  pub of_none : procs ≡ program.procs → length procs ≤ number → none ≡ of_proc program number none f
+  of_none e past = sym (subst (λ (ps : List Proc). option_map_or f (slice_get ps number) none ≡ none) e (ap (λ (o : Option Proc). option_map_or f o none) (slice_get_past procs number past)))

@@ -1,0 +1,12 @@
+pub mod Outlines
+pub mod Variables
+pub mod Failed
+pub mod Listed
+pub mod Names
+pub mod Rules
+pub mod Weights
+pub mod Sayings
+pub mod Told
+pub mod Spots
+pub mod Wants
+pub mod examples
