@@ -1,5 +1,5 @@
 //! What the goals are on worked examples.
-ghost use Rattle.civl_goals.specs.examples.Flag.{SetGoals, ReadGoals, ReadVariables, GateFails, HeldGateHolds, ReadLeadsAstray, NotedReadLeadsOn, NotesFit, ThreadDescends};
+ghost use Rattle.civl_goals.specs.examples.Flag.{SetGoals, ReadGoals, ReadVariables, SetWeights, GateFails, HeldGateHolds, ReadLeadsAstray, NotedReadLeadsOn, NotesFit, ThreadDescends};
 
 /// The goals of a program whose root calls once.
 pub fn set_goals()
@@ -14,6 +14,11 @@ pub fn read_goals()
 /// Their variables.
 pub fn read_variables()
     ensures { ReadVariables }
+{}
+
+/// What the goals of the first weigh.
+pub fn set_weights()
+    ensures { SetWeights }
 {}
 
 /// A call whose gate isn't known to hold.

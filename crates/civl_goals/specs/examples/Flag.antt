@@ -29,6 +29,7 @@ use Rattle.civl_goals.specs.Listed.{goals}
 use Rattle.civl_goals.specs.Names.{goal_text}
 use Rattle.civl_goals.specs.Variables.{variables}
 use Rattle.civl_goals.specs.Failed.{failed}
+use Rattle.civl_goals.specs.Weights.{weight}
 use Rattle.civl_goals.specs.Told.{told}
 
 -- ---- programs
@@ -155,6 +156,12 @@ ReadVariables =
     ∷ (codes "f" ∷ codes "w" ∷ [])
     ∷ (codes "f" ∷ codes "w" ∷ [])
     ∷ []
+
+-- ---- their weights
+
+-- bit by bit: the flag, twice what is said and called, `init` where stores are initial, and 1
+abbrev pub SetWeights : Type 0
+SetWeights = map (weight silent.program silent) (goals silent.program silent) ≡ 3 ∷ 5 ∷ 10 ∷ 10 ∷ 12 ∷ []
 
 -- ---- what violates them
 
