@@ -1,117 +1,140 @@
 -- The two literals of a clause that are watched.
-use Rattle.std.proofs.Common.{◌≡◌, ◌⊎◌, ℕ, ◌+◌, ◌<◌, ◌≤◌, List, [], ◌∷◌, ◌++◌, length, get_or, refl, sym, ◌∙◌, ap, subst, inl, inr, arith, Bool, true, false, not}
+use Rattle.std.proofs.Common.{◌≡◌, ◌⊎◌, ℕ, ◌+◌, ◌<◌, ◌≤◌, List, [], ◌∷◌, ◌++◌, length, get_or, take, refl, sym, ◌∙◌, ap, subst, inl, inr, arith, Bool, true, false, not}
 use Rattle.std.specs.Prelude.{All, Contains, Option, None, Some, ◌≢◌, if◌then◌else◌}
-use Rattle.std.proofs.lemmas.List.{get_or_default, get_or_append_left, get_or_push, length_push}
+use Rattle.std.proofs.lemmas.List.{get_or_append_left, get_or_push, length_push, take_all, take_more}
 use Rattle.std.proofs.lemmas.List.Elements.{All-contains, All-nil, All-push, Contains-get_or, Contains-push, Contains-append_left}
 use Rattle.civl_cnf.specs.Literal.{Literal}
 use Rattle.civl_cnf.specs.ClauseSet.{IsBelow}
 use Rattle.civl_units.specs.Propagation.{Fails}
-use Rattle.civl_units.specs.Marks.{marked}
+use Rattle.civl_units.specs.Marks.{marked, IsQuiet}
 use Rattle.civl_units.specs.Occurrences.{BothSigns, IsSingle}
 use Rattle.civl_units.proofs.MarkLemmas.{lt_or_eq}
-use Rattle.civl_propagation.specs.Trail.{TrailState, before}
+use Rattle.civl_propagation.specs.Trail.{TrailState, before, IsTrailOver}
 use Rattle.civl_propagation.specs.Propagation.{IsServed}
-use Rattle.civl_propagation.specs.Watches.{WatchState, watchers, with_listed, with_pair, IsListed, IsPairBelow, IsWatched, AreWatched, AllKeepUp, rank, LaterSays, IsKnown, LatestSays, IsBest, ChoiceSays, Answers, KeepsUp}
+use Rattle.civl_propagation.specs.Watches.{WatchState, watchers, with_listed, with_pair, IsListed, IsPairBelow, IsWatched, AreWatched, AllKeepUp, rank, IsRanked, IsOrdered, IsBest, BestSays, IsFreeIn, IsFreePair, ChoiceSays, Answers, KeepsUp}
+use Rattle.civl_propagation.specs.declared.choice.Ranked.{Ranked}
+use Rattle.civl_propagation.specs.declared.choice.Best.{Best}
+use Rattle.civl_propagation.specs.declared.choice.Best.TheVariants.{Nothing, One, Two}
 use Rattle.civl_propagation.specs.declared.watches.Pair.{Pair}
-use Rattle.civl_propagation.proofs.Trails.{before_place, before_marked, before_by}
+use Rattle.civl_propagation.proofs.Trails.{some_step, before_place, before_marked, before_by}
 use Rattle.civl_propagation.proofs.Watching.{listed_by}
 use Rattle.civl_propagation.proofs.Visiting.{literal_or_not}
 
--- the best of the clause's first literals
-abbrev pub LatestTo : TrailState → List Literal → Option Literal → ℕ → Option Literal → Type 0
-LatestTo t clause besides n None = (k : ℕ) (d : Literal) → k < n → besides ≡ Some (get_or clause k d)
-LatestTo t clause besides n (Some l) = Contains clause l × (besides ≢ Some l) × ((k : ℕ) (d : Literal) → k < n → (besides ≡ Some (get_or clause k d)) ⊎ (rank t (get_or clause k d) ≤ rank t l))
+-- the first literal is the best so far
+pub first_best : (t : TrailState) (seen : List Literal) (next : Ranked) → IsRanked t next → BestSays t seen Nothing → BestSays t (seen ++ next.lit ∷ []) (One next)
+first_best t seen next ranked none = (
+  ranked,
+  Contains-push seen next.lit,
+  All-push (λ (m : Literal). m ≡ next.lit) seen next.lit (subst (All (λ (m : Literal). m ≡ next.lit)) (sym none) (All-nil (λ (m : Literal). m ≡ next.lit))) refl,
+)
 
-at_index : (clause : List Literal) (n k : ℕ) (x d : Literal) → n < length clause → x ≡ get_or clause n x → k ≡ n → get_or clause k d ≡ x
-at_index clause n k x d low is same = ap (λ (i : ℕ). get_or clause i d) same ∙ get_or_default clause n d x low ∙ sym is
+-- the same literal once more
+pub same_best : (t : TrailState) (seen : List Literal) (first next : Ranked) → first.lit ≡ next.lit → BestSays t seen (One first) → BestSays t (seen ++ next.lit ∷ []) (One first)
+same_best t seen first next same says = (
+  says.0,
+  Contains-append_left seen (next.lit ∷ []) first.lit says.1,
+  All-push (λ (m : Literal). m ≡ first.lit) seen next.lit says.2 (sym same),
+)
 
--- the next literal is passed over
-pub latest_skip : (t : TrailState) (clause : List Literal) (besides best : Option Literal) (n : ℕ) (x : Literal) → n < length clause → x ≡ get_or clause n x → besides ≡ Some x → LatestTo t clause besides n best → LatestTo t clause besides (n + 1) best
-latest_skip t clause besides None n x low is over h = λ k d inside. elim (lt_or_eq k n inside) [
-  | inl less ↦ h k d less
-  | inr same ↦ over ∙ ap (λ (l : Literal). Some l) (sym (at_index clause n k x d low is same))
+-- the literals so far but the best are no better than it, nor than the next
+abbrev pub AreBelow : TrailState → Ranked → Ranked → List Literal → Type 0
+AreBelow t first next seen = All (λ (m : Literal). (m ≡ first.lit) ⊎ ((rank t m ≤ first.rank) × (rank t m ≤ next.rank))) seen
+
+best_first : (t : TrailState) (seen : List Literal) (first next : Ranked) → IsRanked t first → IsRanked t next → first.lit ≢ next.lit → Contains seen first.lit → AreBelow t first next seen → next.rank ≤ first.rank → BestSays t (seen ++ next.lit ∷ []) (Two first next)
+best_first t seen first next ranked ranked_next apart there others order =
+    let f : first.rank ≡ rank t first.lit = ranked in
+    let n : next.rank ≡ rank t next.lit = ranked_next in (
+      ranked,
+      ranked_next,
+      record {
+        first = Contains-append_left seen (next.lit ∷ []) first.lit there;
+        second = Contains-push seen next.lit;
+        apart = apart;
+        order = omega arith;
+        latest = All-push (λ (m : Literal). (m ≡ first.lit) ⊎ (rank t m ≤ rank t next.lit)) seen next.lit
+            (λ k d low. elim (others k d low) [ inl e ↦ inl e | inr both ↦ let less = both.1 in inr (omega arith) ])
+            (inr (omega arith));
+      },
+    )
+
+best_next : (t : TrailState) (seen : List Literal) (first next : Ranked) → IsRanked t first → IsRanked t next → first.lit ≢ next.lit → Contains seen first.lit → AreBelow t first next seen → first.rank ≤ next.rank → BestSays t (seen ++ next.lit ∷ []) (Two next first)
+best_next t seen first next ranked ranked_next apart there others order =
+    let f : first.rank ≡ rank t first.lit = ranked in
+    let n : next.rank ≡ rank t next.lit = ranked_next in (
+      ranked_next,
+      ranked,
+      record {
+        first = Contains-push seen next.lit;
+        second = Contains-append_left seen (next.lit ∷ []) first.lit there;
+        apart = λ e. apart (sym e);
+        order = omega arith;
+        latest = All-push (λ (m : Literal). (m ≡ next.lit) ⊎ (rank t m ≤ rank t first.lit)) seen next.lit
+            (λ k d low. elim (others k d low) [
+              | inl e ↦ let same : rank t (get_or seen k d) ≡ rank t first.lit = ap (rank t) e in inr (omega arith)
+              | inr both ↦ let less = both.0 in inr (omega arith)
+            ])
+            (inl refl);
+      },
+    )
+
+-- the best of the best one and the next, in order
+ordered_best : (t : TrailState) (seen : List Literal) (first next : Ranked) (best : Best) → IsRanked t first → IsRanked t next → first.lit ≢ next.lit → Contains seen first.lit → AreBelow t first next seen → IsOrdered first next best → BestSays t (seen ++ next.lit ∷ []) best
+ordered_best t seen first next Nothing ranked ranked_next apart there others is = absurd is
+ordered_best t seen first next (One a) ranked ranked_next apart there others is = absurd is
+ordered_best t seen first next (Two a b) ranked ranked_next apart there others is = elim is [
+  | inl e ↦
+      subst (λ (x : Ranked). BestSays t (seen ++ next.lit ∷ []) (Two x b)) (sym e.0)
+      (subst (λ (y : Ranked). BestSays t (seen ++ next.lit ∷ []) (Two first y)) (sym e.1) (best_first t seen first next ranked ranked_next apart there others e.2))
+  | inr e ↦
+      subst (λ (x : Ranked). BestSays t (seen ++ next.lit ∷ []) (Two x b)) (sym e.0)
+      (subst (λ (y : Ranked). BestSays t (seen ++ next.lit ∷ []) (Two next y)) (sym e.1) (best_next t seen first next ranked ranked_next apart there others e.2))
 ]
-latest_skip t clause besides (Some l) n x low is over h = (
-  h.0,
-  h.1,
-  λ k d inside. elim (lt_or_eq k n inside) [
-    | inl less ↦ h.2 k d less
-    | inr same ↦ inl (over ∙ ap (λ (l : Literal). Some l) (sym (at_index clause n k x d low is same)))
-  ],
-)
 
-there_at : (clause : List Literal) (n : ℕ) (x : Literal) → n < length clause → x ≡ get_or clause n x → Contains clause x
-there_at clause n x low is = (n, low, sym is)
+-- a second literal that differs
+pub second_by : (t : TrailState) (seen : List Literal) (first next : Ranked) (best : Best) → IsRanked t next → first.lit ≢ next.lit → IsOrdered first next best → BestSays t seen (One first) → BestSays t (seen ++ next.lit ∷ []) best
+second_by t seen first next best ranked apart is says = ordered_best t seen first next best says.0 ranked apart says.1 (λ k d low. inl (says.2 k d low)) is
 
--- the next literal is compared with the best so far
-pub latest_next : (t : TrailState) (clause : List Literal) (besides best : Option Literal) (n : ℕ) (x l : Literal) → n < length clause → x ≡ get_or clause n x → besides ≢ Some x → LatestTo t clause besides n best → LaterSays t best x l → LatestTo t clause besides (n + 1) (Some l)
-latest_next t clause besides None n x l low is other h says = (
-  subst (Contains clause) (sym says) (there_at clause n x low is),
-  subst (λ (m : Literal). besides ≢ Some m) (sym says) other,
-  λ k d inside. elim (lt_or_eq k n inside) [
-    | inl less ↦ inl (h k d less)
-    | inr same ↦
-        let e : rank t (get_or clause k d) ≡ rank t l = ap (rank t) (at_index clause n k x d low is same ∙ sym says) in
-        inr (omega arith)
-  ],
-)
-latest_next t clause besides (Some b) n x l low is other h says = (
-  elim says.0 [ inl e ↦ subst (Contains clause) (sym e) (there_at clause n x low is) | inr e ↦ subst (Contains clause) (sym e) h.0 ],
-  elim says.0 [ inl e ↦ subst (λ (m : Literal). besides ≢ Some m) (sym e) other | inr e ↦ subst (λ (m : Literal). besides ≢ Some m) (sym e) h.1 ],
-  λ k d inside. elim (lt_or_eq k n inside) [
-    | inl less ↦ elim (h.2 k d less) [
-      | inl e ↦ inl e
-      | inr below ↦ let more = says.1 in inr (omega arith)
-    ]
-    | inr same ↦
-        let e : rank t (get_or clause k d) ≡ rank t x = ap (rank t) (at_index clause n k x d low is same) in
-        let more = says.2 in
-        inr (omega arith)
-  ],
-)
+-- the next literal is no better than the two best, or is the best one
+pub two_stay : (t : TrailState) (seen : List Literal) (first second next : Ranked) → (first.lit ≡ next.lit) ⊎ (next.rank ≤ second.rank) → IsRanked t next → BestSays t seen (Two first second) → BestSays t (seen ++ next.lit ∷ []) (Two first second)
+two_stay t seen first second next worse ranked says =
+    let b = says.2 in
+    let s : second.rank ≡ rank t second.lit = says.1 in
+    let n : next.rank ≡ rank t next.lit = ranked in (
+      says.0,
+      says.1,
+      record {
+        first = Contains-append_left seen (next.lit ∷ []) first.lit b.first;
+        second = Contains-append_left seen (next.lit ∷ []) second.lit b.second;
+        apart = b.apart;
+        order = b.order;
+        latest = All-push (λ (m : Literal). (m ≡ first.lit) ⊎ (rank t m ≤ rank t second.lit)) seen next.lit b.latest (elim worse [ inl e ↦ inl (sym e) | inr low ↦ inr (omega arith) ]);
+      },
+    )
 
-pub latest_none : (t : TrailState) (clause : List Literal) (besides : Option Literal) → LatestTo t clause besides 0 None
-latest_none t clause besides k d low = absurd (omega arith)
+-- the next literal takes the second one's place
+pub better_by : (t : TrailState) (seen : List Literal) (first second next : Ranked) (best : Best) → IsRanked t next → first.lit ≢ next.lit → second.rank < next.rank → IsOrdered first next best → BestSays t seen (Two first second) → BestSays t (seen ++ next.lit ∷ []) best
+better_by t seen first second next best ranked apart more is says =
+    let b = says.2 in
+    let f : first.rank ≡ rank t first.lit = says.0 in
+    let s : second.rank ≡ rank t second.lit = says.1 in
+    let order : rank t second.lit ≤ rank t first.lit = b.order in
+    ordered_best t seen first next best says.0 ranked apart b.first (λ k d low. elim (b.latest k d low) [ inl e ↦ inl e | inr less ↦ inr (omega arith, omega arith) ]) is
 
-pub latest_end : (t : TrailState) (clause : List Literal) (besides best : Option Literal) (n : ℕ) → length clause ≤ n → LatestTo t clause besides n best → LatestSays t clause besides best
-latest_end t clause besides None n end h = λ k d low. h k d (omega arith)
-latest_end t clause besides (Some l) n end h = (h.0, h.1, λ k d low. h.2 k d (omega arith))
+-- one literal more of the clause was looked at
+pub best_more : (t : TrailState) (clause : List Literal) (n : ℕ) (x : Literal) (best : Best) → n < length clause → x ≡ get_or clause n x → BestSays t (take n clause ++ x ∷ []) best → BestSays t (take (n + 1) clause) best
+best_more t clause n x best low is says =
+    subst (λ (seen : List Literal). BestSays t seen best) (sym (take_more clause n x low ∙ ap (λ (l : Literal). take n clause ++ l ∷ []) (sym is))) says
 
-none_some : (l : Literal) → ◌≡◌ {A = Option Literal} None (Some l) → ⊥
-none_some l e = cc
+-- all were looked at
+pub best_all : (t : TrailState) (clause : List Literal) (n : ℕ) (best : Best) → length clause ≤ n → BestSays t (take n clause) best → BestSays t clause best
+best_all t clause n best end says = subst (λ (seen : List Literal). BestSays t seen best) (take_all n clause end) says
 
 -- no two literals differ: there is none, or all are the best one
-pub single_none : (t : TrailState) (clause : List Literal) → LatestSays t clause None None → ChoiceSays t clause None
-single_none t clause h l m there more = absurd (none_some l (All-contains (λ (x : Literal). ◌≡◌ {A = Option Literal} None (Some x)) clause l h there))
+pub single_none : (t : TrailState) (clause : List Literal) → BestSays t clause Nothing → ChoiceSays t clause None
+single_none t clause none l m there more = let low = there.1 in let size : length clause ≡ 0 = ap length none in absurd (omega arith)
 
-some_same : (l m : Literal) → ◌≡◌ {A = Option Literal} (Some l) (Some m) → l ≡ m
-some_same l m e = cc
-
-pub single_one : (t : TrailState) (clause : List Literal) (first : Literal) → LatestSays t clause (Some first) None → ChoiceSays t clause None
-single_one t clause first h l m there more =
-    sym (some_same first l (All-contains (λ (x : Literal). ◌≡◌ {A = Option Literal} (Some first) (Some x)) clause l h there))
-    ∙ some_same first m (All-contains (λ (x : Literal). ◌≡◌ {A = Option Literal} (Some first) (Some x)) clause m h more)
-
--- the best literal, and the best of the others
-pub best_two : (t : TrailState) (clause : List Literal) (first second : Literal) → LatestSays t clause None (Some first) → LatestSays t clause (Some first) (Some second) → IsBest t clause (record { first = first; second = second })
-best_two t clause first second f s = record {
-  first = f.0;
-  second = s.0;
-  apart = λ e. s.1 (ap (λ (l : Literal). Some l) e);
-  order = elim (All-contains (λ (x : Literal). (◌≡◌ {A = Option Literal} None (Some x)) ⊎ (rank t x ≤ rank t first)) clause second f.2 s.0) [
-    | inl e ↦ absurd (none_some second e)
-    | inr low ↦ low
-  ];
-  latest = λ k d low. elim (s.2 k d low) [
-    | inl e ↦ inl (sym (some_same first (get_or clause k d) e))
-    | inr below ↦ inr below
-  ];
-}
-
--- the best so far is of a known variable
-pub later_known : (n : ℕ) (t : TrailState) (best : Option Literal) (x l : Literal) → LaterSays t best x l → IsKnown n best → x.variable < n → l.variable < n
-later_known n t None x l says known low = subst (λ (m : Literal). m.variable < n) (sym says) low
-later_known n t (Some b) x l says known low = elim says.0 [ inl e ↦ subst (λ (m : Literal). m.variable < n) (sym e) low | inr e ↦ subst (λ (m : Literal). m.variable < n) (sym e) known ]
+pub single_one : (t : TrailState) (clause : List Literal) (first : Ranked) → BestSays t clause (One first) → ChoiceSays t clause None
+single_one t clause first says l m there more = All-contains (λ (x : Literal). x ≡ first.lit) clause l says.2 there ∙ sym (All-contains (λ (x : Literal). x ≡ first.lit) clause m says.2 more)
 
 pub never_both : (a : Bool) → a ≡ true → a ≡ false → ⊥
 never_both a e f = let g : true ≡ false = sym e ∙ f in cc
@@ -142,6 +165,50 @@ rank_by t l p false is fits low =
 
 pub rank_fails : (t : TrailState) (l : Literal) (p : ℕ) → p ≤ length t.steps → rank t l < p → Fails (before t.marks t.places p) l
 rank_fails t l p fits low = rank_by t l p (marked t.marks l.variable (not l.positive)) refl fits low
+
+-- none became false later than one that isn't false
+rank_low : (t : TrailState) (clauses : List (List Literal)) (l : Literal) (b : Bool) → IsTrailOver t clauses → marked t.marks l.variable (not l.positive) ≡ b → rank t l ≤ length t.steps
+rank_low t clauses l true h is =
+    let same : rank t l ≡ get_or t.places l.variable 0 = if_true (marked t.marks l.variable (not l.positive)) (get_or t.places l.variable 0) (length t.steps) is in
+    let low = (h.marks_are l.variable (not l.positive) some_step is).0 in
+    omega arith
+rank_low t clauses l false h is =
+    let same : rank t l ≡ length t.steps = if_false (marked t.marks l.variable (not l.positive)) (get_or t.places l.variable 0) (length t.steps) is in
+    omega arith
+
+rank_free : (t : TrailState) (l : Literal) (b : Bool) → marked t.marks l.variable (not l.positive) ≡ b → (Fails (marked t.marks) l → ⊥) → rank t l ≡ length t.steps
+rank_free t l true is free = absurd (free is)
+rank_free t l false is free = if_false (marked t.marks l.variable (not l.positive)) (get_or t.places l.variable 0) (length t.steps) is
+
+-- two that aren't false are the best two
+pub free_best : (t : TrailState) (clauses : List (List Literal)) (clause : List Literal) (pair : Pair) → IsTrailOver t clauses → IsFreeIn t clause pair → IsBest t clause pair
+free_best t clauses clause pair h f =
+    let one = rank_free t pair.first (marked t.marks pair.first.variable (not pair.first.positive)) refl f.first_free in
+    let two = rank_free t pair.second (marked t.marks pair.second.variable (not pair.second.positive)) refl f.second_free in
+    record {
+      first = f.first;
+      second = f.second;
+      apart = f.apart;
+      order = omega arith;
+      latest = λ k d low.
+          let m = get_or clause k d in
+          let under = rank_low t clauses m (marked t.marks m.variable (not m.positive)) h refl in
+          inr (omega arith);
+    }
+
+free_quiet : (set : ℕ → Bool → Bool) (clause : List Literal) (a b : Literal) → Contains clause a → Contains clause b → a ≢ b → (Fails set a → ⊥) → (Fails set b → ⊥) → IsQuiet set clause
+free_quiet set clause a b one two apart free other = (
+  λ l unit. elim (All-contains (λ (m : Literal). (m ≡ l) ⊎ Fails set m) clause a unit.1 one) [
+    | inl e ↦ elim (All-contains (λ (m : Literal). (m ≡ l) ⊎ Fails set m) clause b unit.1 two) [ inl f ↦ absurd (apart (e ∙ sym f)) | inr g ↦ absurd (other g) ]
+    | inr g ↦ absurd (free g)
+  ],
+  λ all. free (All-contains (Fails set) clause a all one),
+)
+
+-- a clause that watches two literals that aren't false forces nothing
+pub chosen_quiet : (t : TrailState) (clause : List Literal) (pair : Option Pair) → ChoiceSays t clause pair → IsFreePair t pair → IsQuiet (marked t.marks) clause
+chosen_quiet t clause None says free = absurd free
+chosen_quiet t clause (Some pair) says free = free_quiet (marked t.marks) clause pair.first pair.second says.first says.second says.apart free.0 free.1
 
 -- what the two best literals owe, at each place at which the clause is served
 pub best_answers : (t : TrailState) (large : ℕ → Bool → Bool) (clause : List Literal) (pair : Pair) (p : ℕ) → IsBest t clause pair → p ≤ length t.steps → IsServed (before t.marks t.places p) large clause → Answers (before t.marks t.places p) large pair

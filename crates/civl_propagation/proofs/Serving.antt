@@ -18,22 +18,8 @@ use Rattle.civl_propagation.specs.Propagation.{IsServed, Goes, Grows}
 use Rattle.civl_propagation.specs.declared.trail.Step.{Step}
 use Rattle.civl_propagation.proofs.Trails.{some_step, before_place, before_by, before_marked, before_push, before_all, trail_push, trail_start, trail_same}
 
--- an element read with another default
-pub at_same : {X : Type 0} (xs : List X) (n k : ℕ) (x d : X) → n < length xs → k ≡ n → get_or xs n x ≡ get_or xs k d
-at_same xs n k x d below same = get_or_default xs n x d below ∙ ap (λ i. get_or xs i d) (sym same)
-
 pub falsified_grows : (a b : ℕ → Bool → Bool) (clause : List Literal) → IsIncluded a b → IsFalsified a clause → IsFalsified b clause
 falsified_grows a b clause within f = λ k d low. within (get_or clause k d).variable (not (get_or clause k d).positive) (f k d low)
-
--- what was served stays so where more is true, or where less is claimed
-pub served_grows : (small large more : ℕ → Bool → Bool) (clause : List Literal) → IsIncluded large more → IsServed small large clause → IsServed small more clause
-served_grows small large more clause within s = record { forced = λ l unit. within l.variable l.positive (s.forced l unit); quiet = s.quiet }
-
-pub served_shrinks : (less small large : ℕ → Bool → Bool) (clause : List Literal) → IsIncluded less small → IsServed small large clause → IsServed less large clause
-served_shrinks less small large clause within s = record {
-  forced = λ l unit. s.forced l (unit_grows less small clause l within unit);
-  quiet = λ all. s.quiet (falsified_grows less small clause within all);
-}
 
 pub served_quiet : (set : ℕ → Bool → Bool) (clause : List Literal) → IsQuiet set clause → IsServed set set clause
 served_quiet set clause q = record { forced = q.0; quiet = q.1 }
@@ -142,9 +128,6 @@ goes_push old new clauses l r t is found free low = record {
       (trail_push old.marks old.places old.steps old.starts clauses l (Some r) t low free reason);
 }
 
-pub goes_trans : (a b c : TrailState) (clauses : List (List Literal)) → Goes a b clauses → Goes b c clauses → Goes a c clauses
-goes_trans a b c clauses f g = record { grows = grows_trans a b c f.grows g.grows; trail = g.trail }
-
 pub goes_self : (t : TrailState) (clauses : List (List Literal)) → IsTrailOver t clauses → Goes t t clauses
 goes_self t clauses h = record { grows = grows_self t; trail = h }
 
@@ -165,10 +148,6 @@ visit_forces old new clauses i t low l unit free known pushed = (
 
 pub visit_quiet : (old : TrailState) (clauses : List (List Literal)) (i : ℕ) → IsTrailOver old clauses → i < length clauses → IsQuiet (marked old.marks) (get_or clauses i []) → Goes old old clauses × IsAt clauses i (IsServed (marked old.marks) (marked old.marks))
 visit_quiet old clauses i t low quiet = (goes_self old clauses t, (low, served_quiet (marked old.marks) (get_or clauses i []) quiet))
-
--- a clause of the set, read with another default
-pub clause_default : (P : List Literal → Type 0) (clauses : List (List Literal)) (i : ℕ) (d : List Literal) → i < length clauses → P (get_or clauses i []) → P (get_or clauses i d)
-clause_default P clauses i d low p = subst P (get_or_default clauses i [] d low) p
 
 -- a level begins with a decision
 pub trail_decides : (old new : TrailState) (clauses : List (List Literal)) (l : Literal) → IsTrailOver old clauses → All (IsQuiet (marked old.marks)) clauses → IsDecided old new l → l.variable < length old.marks → IsOpen old.marks l → IsTrailOver new clauses

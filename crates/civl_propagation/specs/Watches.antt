@@ -14,6 +14,9 @@ use Rattle.civl_propagation.specs.declared.propagation.Ended.TheVariants.{Confli
 use Rattle.civl_propagation.specs.declared.watches.Visit.{Visit}
 use Rattle.civl_propagation.specs.declared.watches.Visit.TheVariants.{Falsified, Stays, Moved}
 use Rattle.civl_propagation.specs.declared.watches.Pair.{Pair}
+use Rattle.civl_propagation.specs.declared.choice.Ranked.{Ranked}
+use Rattle.civl_propagation.specs.declared.choice.Best.{Best}
+use Rattle.civl_propagation.specs.declared.choice.Best.TheVariants.{Nothing, One, Two}
 
 -- for each clause the two literals that are watched, if it has two; for each literal the numbers of the clauses that are to be visited when it becomes false
 pub record WatchState : Type 0 where
@@ -164,21 +167,6 @@ ForceSays old new l number Moved = ⊥
 abbrev pub rank : TrailState → Literal → ℕ
 rank t l = if marked t.marks l.variable (not l.positive) then slice_index_or t.places l.variable 0 else length t.steps
 
--- the literal's variable is below a number, if there is one
-abbrev pub IsKnown : ℕ → Option Literal → Type 0
-IsKnown n None = ⊤
-IsKnown n (Some l) = l.variable < n
-
--- of the best literal so far and the next one that which became false later
-abbrev pub LaterSays : TrailState → Option Literal → Literal → Literal → Type 0
-LaterSays t None next l = l ≡ next
-LaterSays t (Some best) next l = ((l ≡ next) ⊎ (l ≡ best)) × (rank t best ≤ rank t l) × (rank t next ≤ rank t l)
-
--- a literal of the clause, other than the one that is passed over, than which none became false later; or none is left
-abbrev pub LatestSays : TrailState → List Literal → Option Literal → Option Literal → Type 0
-LatestSays t clause besides None = All (λ m. besides ≡ Some m) clause
-LatestSays t clause besides (Some l) = Contains clause l × (besides ≢ Some l) × All (λ m. (besides ≡ Some m) ⊎ (rank t m ≤ rank t l)) clause
-
 -- two different literals of the clause; none of the others became false later than they did
 pub record IsBest (t : TrailState) (clause : List Literal) (pair : Pair) : Type 0 where
   pub first : Contains clause pair.first
@@ -191,6 +179,35 @@ pub record IsBest (t : TrailState) (clause : List Literal) (pair : Pair) : Type 
 abbrev pub ChoiceSays : TrailState → List Literal → Option Pair → Type 0
 ChoiceSays t clause None = IsSingle clause
 ChoiceSays t clause (Some pair) = IsBest t clause pair
+
+-- the number is the literal's rank
+abbrev pub IsRanked : TrailState → Ranked → Type 0
+IsRanked t r = r.rank ≡ rank t r.lit
+
+-- both, the one with the higher rank first
+abbrev pub IsOrdered : Ranked → Ranked → Best → Type 0
+IsOrdered one other Nothing = ⊥
+IsOrdered one other (One first) = ⊥
+IsOrdered one other (Two first second) = ((first ≡ one) × (second ≡ other) × (other.rank ≤ one.rank)) ⊎ ((first ≡ other) × (second ≡ one) × (one.rank ≤ other.rank))
+
+-- the best literals of a clause: there is none, or no other, or the two to watch
+abbrev pub BestSays : TrailState → List Literal → Best → Type 0
+BestSays t clause Nothing = clause ≡ []
+BestSays t clause (One first) = IsRanked t first × Contains clause first.lit × All (λ m. m ≡ first.lit) clause
+BestSays t clause (Two first second) = IsRanked t first × IsRanked t second × IsBest t clause (record { first = first.lit; second = second.lit })
+
+-- two different literals of the clause, none of which is false
+pub record IsFreeIn (t : TrailState) (clause : List Literal) (pair : Pair) : Type 0 where
+  pub first : Contains clause pair.first
+  pub second : Contains clause pair.second
+  pub apart : pair.first ≢ pair.second
+  pub first_free : Fails (marked t.marks) pair.first → ⊥
+  pub second_free : Fails (marked t.marks) pair.second → ⊥
+
+-- there is a pair, and none of its literals is false
+abbrev pub IsFreePair : TrailState → Option Pair → Type 0
+IsFreePair t None = ⊥
+IsFreePair t (Some pair) = (Fails (marked t.marks) pair.first → ⊥) × (Fails (marked t.marks) pair.second → ⊥)
 
 -- a clause is falsified
 abbrev pub MeetsFalsified : TrailState → TrailState → List (List Literal) → WatchState → ℕ → Type 0

@@ -8,7 +8,7 @@ ghost use Rattle.civl_propagation.specs.Engine.{IsEngine, IsAtRest, IsQuietBelow
 ghost use Rattle.civl_propagation.specs.Propagation.{Grows};
 
 use crate::Memory;
-use crate::choice::choose;
+use crate::choice::{choose, is_free};
 use crate::propagation::{Ended, propagate, serve};
 use crate::trail::Trail;
 use crate::watches::Watches;
@@ -79,9 +79,10 @@ impl Engine {
         let from = self.trail.len();
         let copy = Clause::from_slice(self.alloc, clause)?;
         let pair = choose(&self.trail, clause);
+        let quiet = is_free(&self.trail, &pair);
         self.watches.watch(pair)?;
         self.clauses.push(copy)?;
-        let ended = serve(&mut self.trail, self.clauses.as_slice(), number)?;
+        let ended = serve(&mut self.trail, self.clauses.as_slice(), number, quiet)?;
         match ended {
             Ended::Conflict(falsified) => Ok(Ended::Conflict(falsified)),
             Ended::Quiet => {

@@ -1,7 +1,7 @@
 // Unit propagation along the trail.
-ghost use Rattle.std.specs.Prelude.{◌<◌, ◌≤◌, length, IfOk};
+ghost use Rattle.std.specs.Prelude.{◌<◌, ◌≤◌, [], length, slice_index_or, IsTrue, IfOk};
 ghost use Rattle.civl_cnf.specs.ClauseSet.{AreBelow};
-ghost use Rattle.civl_units.specs.Marks.{marked};
+ghost use Rattle.civl_units.specs.Marks.{marked, IsQuiet};
 ghost use Rattle.civl_propagation.specs.Trail.{IsTrailOver, before};
 ghost use Rattle.civl_propagation.specs.Propagation.{ServeSays};
 ghost use Rattle.civl_propagation.specs.Watches.{AllKeepUp, IsHeld, PropagationSays};
@@ -20,13 +20,22 @@ pub enum Ended {
     Quiet,
 }
 
-/// Makes true what one clause forces.
-pub fn serve(trail: &mut Trail, clauses: &[Clause], number: usize) -> Result<Ended, Memory>
+/// Makes true what one clause forces, unless the caller knows that it forces nothing.
+pub fn serve(
+    trail: &mut Trail,
+    clauses: &[Clause],
+    number: usize,
+    quiet: bool,
+) -> Result<Ended, Memory>
     requires number { number < length clauses.now }
     requires below { AreBelow (length trail.old.marks) clauses.now }
     requires trail { IsTrailOver trail.old clauses.now }
+    requires known { IsTrue quiet → IsQuiet (marked trail.old.marks) (slice_index_or clauses.now number []) }
     ensures { IfOk result (ServeSays trail.old trail.new clauses.now number) }
 {
+    if quiet {
+        return Ok(Ended::Quiet);
+    }
     match rule_of(trail.marks(), lits_of(clauses, number)) {
         Rule::Falsified => Ok(Ended::Conflict(number)),
         Rule::Quiet => Ok(Ended::Quiet),

@@ -5,6 +5,7 @@ ghost use Rattle.civl_propagation.specs.Watches.{watchers, without_number, with_
 
 use crate::Memory;
 use civl_cnf::Lit;
+use smallvec::SmallVec;
 use std::alloc::Global;
 use std::marker::Model;
 
@@ -23,11 +24,11 @@ pub enum Visit {
     Moved,
 }
 
-/// Numbers of clauses for a variable and for its negation. Contracts see it as the record of both lists.
+/// Numbers of clauses for a variable and for its negation, up to four of each in the value itself. Contracts see it as the record of both lists.
 #[derive(Drop)]
 struct Signs {
-    positive: Vec<u32>,
-    negative: Vec<u32>,
+    positive: SmallVec<u32, 4>,
+    negative: SmallVec<u32, 4>,
 }
 
 impl Model for Signs {
@@ -44,8 +45,8 @@ impl Signs {
         ensures { result ≡ nowhere }
     {
         Signs {
-            positive: Vec::new(alloc),
-            negative: Vec::new(alloc),
+            positive: SmallVec::new(alloc),
+            negative: SmallVec::new(alloc),
         }
     }
 

@@ -1,11 +1,11 @@
-use Rattle.civl_propagation.proofs.Choosing.{single_none, single_one, best_two}
+use Rattle.civl_propagation.proofs.Choosing.{free_best, single_none, single_one}
 use Rattle.civl_propagation.proofs.choice.choose.Goals as goal
 
-pub returns-in-None : goal.returns-in-None
-returns-in-None c = single_none c.args.trail.now c.args.clause.now c.in-None.ensures
+pub returns-in-Some : goal.returns-in-Some
+returns-in-Some c = free_best c.args.trail.now c.requires.standing.0 c.args.clause.now c.in-Some.pair c.requires.standing.1 c.in-Some.ensures
 
-pub returns-in-None-latest : goal.returns-in-None-latest
-returns-in-None-latest c = single_one c.args.trail.now c.args.clause.now c.in-Some.first c.in-None-latest.ensures
+pub returns-in-One : goal.returns-in-One
+returns-in-One c = single_one c.args.trail.now c.args.clause.now c.in-One.field-0 c.in-One.ensures
 
-pub returns-in-Some-latest : goal.returns-in-Some-latest
-returns-in-Some-latest c = best_two c.args.trail.now c.args.clause.now c.in-Some.first c.in-Some-latest.second c.in-Some.ensures c.in-Some-latest.ensures
+pub returns-in-Nothing : goal.returns-in-Nothing
+returns-in-Nothing c = single_none c.args.trail.now c.args.clause.now c.in-Nothing.ensures

@@ -37,6 +37,9 @@ returns-in-Falsified c =
     let says = subst (λ (m : List (Option Bool)). IsFalsified (marked m) c.lits_of.result.now) c.marks.ensures c.in-Falsified.ensures in
     (goes_self t c.args.clauses.now c.requires.trail, (c.requires.number, subst (IsFalsified (marked t.marks)) c.lits_of.ensures says))
 
+pub returns-then-quiet : goal.returns-then-quiet
+returns-then-quiet c = visit_quiet c.args.trail.now c.args.clauses.now c.args.number c.requires.trail c.requires.number (c.requires.known c.if-quiet.true)
+
 pub returns-in-Quiet : goal.returns-in-Quiet
 returns-in-Quiet c =
     let t = c.args.trail.now in

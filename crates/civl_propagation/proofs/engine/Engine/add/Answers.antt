@@ -1,13 +1,14 @@
-use Rattle.std.proofs.Common.{◌≡◌, ◌∙◌, ◌++◌, ◌∷◌, [], List, length, sym, ap, subst, arith}
-use Rattle.std.proofs.lemmas.List.{length_push}
+use Rattle.std.proofs.Common.{◌≡◌, ◌∙◌, ◌++◌, ◌∷◌, [], List, length, get_or, sym, ap, subst, arith}
+use Rattle.std.proofs.lemmas.List.{get_or_push, length_push}
 use Rattle.civl_cnf.specs.Literal.{Literal}
 use Rattle.civl_cnf.specs.ClauseSet.{IsBelow, AreBelow}
-use Rattle.civl_units.specs.Marks.{marked}
+use Rattle.civl_units.specs.Marks.{marked, IsQuiet}
 use Rattle.civl_propagation.specs.Trail.{IsTrailOver, before}
 use Rattle.civl_propagation.specs.Propagation.{Grows, ServeSays}
 use Rattle.civl_propagation.specs.Watches.{AllKeepUp, IsHeld, PropagationSays}
 use Rattle.civl_propagation.specs.Engine.{EngineState, IsAtRest, IsQuietBelow}
 use Rattle.civl_propagation.proofs.Serving.{grows_trans}
+use Rattle.civl_propagation.proofs.Choosing.{chosen_below, chosen_quiet}
 use Rattle.civl_propagation.proofs.Engines.{adding_by, adding_served, adding_falsified, engine_held, grows_of, ends_by}
 use Rattle.civl_propagation.proofs.engine.Engine.add.Goals as goal
 
@@ -23,6 +24,27 @@ serve-requires-clause-below c =
     let is : c.push.new.self.items ≡ e.clauses ++ c.args.clause.now ∷ [] = c.in_ok-push.ensures.items ∙ ap (λ (x : List Literal). e.clauses ++ x ∷ []) c.in_ok-copy.ensures in
     let a = adding_by e c.args.clause.now c.choose-pair.result c.push.new.self.items c.watch.new.self c.len-number.result c.len-from.result (subst IsAtRest (sym c.self.view_is) c.requires.rest) (subst (λ (x : EngineState). IsBelow (length x.trail.marks) c.args.clause.now) (sym c.self.view_is) c.requires.below) (subst (λ (x : EngineState). IsQuietBelow x.trail c.args.clause.now) (sym c.self.view_is) c.requires.levels) is c.in_ok-watch.ensures c.choose-pair.ensures (omega (arith, c.len-number.ensures)) c.len-from.ensures in
     subst (AreBelow (length e.trail.marks)) (sym c.as_slice.ensures.value) a.engine.below
+
+pub choose-pair-requires-clause-standing : goal.choose-pair-requires-clause-standing
+choose-pair-requires-clause-standing c =
+    let e : EngineState = record { trail = c.self.inside.trail; clauses = c.self.inside.clauses.items; watches = c.self.inside.watches } in
+    let rest : IsAtRest e = subst IsAtRest (sym c.self.view_is) c.requires.rest in
+    (e.clauses, rest.engine.trail)
+
+pub is_free-quiet-requires : goal.is_free-quiet-requires
+is_free-quiet-requires c =
+    let e : EngineState = record { trail = c.self.inside.trail; clauses = c.self.inside.clauses.items; watches = c.self.inside.watches } in
+    chosen_below (length e.trail.marks) e.trail c.args.clause.now c.choose-pair.result (subst (λ (x : EngineState). IsBelow (length x.trail.marks) c.args.clause.now) (sym c.self.view_is) c.requires.below) c.choose-pair.ensures
+
+pub serve-requires-clause-known : goal.serve-requires-clause-known
+serve-requires-clause-known c free =
+    let e : EngineState = record { trail = c.self.inside.trail; clauses = c.self.inside.clauses.items; watches = c.self.inside.watches } in
+    let clause = c.args.clause.now in
+    let number = c.len-number.result in
+    let is : c.push.new.self.items ≡ e.clauses ++ clause ∷ [] = c.in_ok-push.ensures.items ∙ ap (λ (x : List Literal). e.clauses ++ x ∷ []) c.in_ok-copy.ensures in
+    let at : length e.clauses ≡ number = omega (arith, c.len-number.ensures) in
+    let here : get_or c.as_slice.result.now number [] ≡ clause = ap (λ (cs : List (List Literal)). get_or cs number []) (c.as_slice.ensures.value ∙ is) ∙ get_or_push e.clauses clause [] number at in
+    subst (IsQuiet (marked e.trail.marks)) (sym here) (chosen_quiet e.trail clause c.choose-pair.result c.choose-pair.ensures (c.is_free-quiet.ensures free))
 
 pub serve-requires-clause-trail : goal.serve-requires-clause-trail
 serve-requires-clause-trail c =
