@@ -2,7 +2,7 @@
 use Rattle.std.proofs.Common.{◌≡◌, ℕ, ◌+◌, ◌<◌, List, [], ◌∷◌, ◌++◌, length, get_or, refl, sym, ◌∙◌, ap, ap₂, subst, inl, inr, arith, Bool, not}
 use Rattle.std.specs.Prelude.{IsTrue, All, Option, None, Some}
 use Rattle.std.proofs.Math.ListN.{set, length-set}
-use Rattle.std.proofs.lemmas.List.{get_or-set_same, get_or_default, get_or_append_left, length_push}
+use Rattle.std.proofs.lemmas.List.{get_or-set_same, get_or_append_left, length_push}
 use Rattle.std.proofs.lemmas.List.Elements.{All-contains, Contains-push}
 use Rattle.civl_cnf.specs.Literal.{Literal, opposite}
 use Rattle.civl_cnf.specs.ClauseSet.{IsBelow}
@@ -11,7 +11,7 @@ use Rattle.civl_units.specs.Marks.{is_marked, marked, IsQuiet, IsIncluded}
 use Rattle.civl_units.specs.Trail.{IsOpen, open_count}
 use Rattle.civl_units.proofs.MarkLemmas.{same_self, lt_or_eq}
 use Rattle.civl_units.proofs.LawLemmas.{not_not}
-use Rattle.civl_units.proofs.Propagating.{marks_stay, same_is, unit_grows}
+use Rattle.civl_units.proofs.Propagating.{marks_stay, same_is}
 use Rattle.civl_units.proofs.Trails.{open_set}
 use Rattle.civl_propagation.specs.Trail.{TrailState, before, IsAt, IsStep, ReasonSays, IsTrail, IsTrailOver, IsPushed, IsDecided}
 use Rattle.civl_propagation.specs.Propagation.{IsServed, Goes, Grows}
