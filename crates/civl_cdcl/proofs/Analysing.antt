@@ -9,15 +9,12 @@ use Rattle.civl_cnf.specs.ClauseSet.{IsBelow, AreBelow}
 use Rattle.civl_units.specs.Propagation.{Holds, IsFalsified, IsUnit, IsClosedAt, IsClosed, HasConflict}
 use Rattle.civl_units.specs.Marks.{is_marked, marked, IsQuiet}
 use Rattle.civl_units.proofs.MarkLemmas.{same_self, below_or_not, lt_or_eq}
-use Rattle.civl_units.proofs.Propagating.{same_is}
-use Rattle.civl_cdcl.specs.Trail.{TrailState, before, IsAt, IsStep, ReasonSays, IsTrail, IsTrailOver, LastSays}
+use Rattle.civl_propagation.specs.Trail.{TrailState, before, IsAt, IsStep, ReasonSays, IsTrail, IsTrailOver}
+use Rattle.civl_propagation.specs.declared.trail.Step.{Step}
+use Rattle.civl_propagation.proofs.Trails.{some_lit, some_step, those_test, those_marked, those_by, before_place, before_by, before_marked}
+use Rattle.civl_propagation.proofs.Serving.{at_same, mark_is}
+use Rattle.civl_cdcl.specs.Levels.{LastSays}
 use Rattle.civl_cdcl.specs.Analysis.{sees, HasVariable, Sees, Resolves, Analyses, HasOne, IsUnseen}
-use Rattle.civl_cdcl.specs.declared.trail.Step.{Step}
-use Rattle.civl_cdcl.proofs.Trails.{some_lit, some_step, those_test, those_marked, those_by, before_place, before_by, before_marked}
-
--- an element read with another default
-pub at_same : {X : Type 0} (xs : List X) (n k : ℕ) (x d : X) → n < length xs → k ≡ n → get_or xs n x ≡ get_or xs k d
-at_same xs n k x d below same = get_or_default xs n x d below ∙ ap (λ i. get_or xs i d) (sym same)
 
 -- a clause that is falsified, by its number
 pub conflict_at : (s : ℕ → Bool → Bool) (clauses : List (List Literal)) (i : ℕ) → IsAt clauses i (IsFalsified s) → HasConflict s clauses
@@ -76,8 +73,8 @@ resolves_by old mid clause u below s =
     }
 
 -- a clause that is falsified leads to a conflict
-pub analyses_first : (marks : List (Option Bool)) (places : List ℕ) (steps : List Step) (starts : List ℕ) (clauses : List (List Literal)) (limit : ℕ) (r : ℕ) (clause : List Literal) (old seen : List Bool) → IsTrail limit marks places steps starts clauses → length old ≡ length marks → ((v : ℕ) → IsTrue (sees old v) → ⊥) → clause ≡ get_or clauses r [] → IsAt clauses r (IsFalsified (marked marks)) → Sees old seen clause → Analyses marks places clauses (length steps) seen
-analyses_first marks places steps starts clauses limit r clause old seen t size none is at s =
+pub analyses_first : (marks : List (Option Bool)) (places : List ℕ) (steps : List Step) (starts : List ℕ) (clauses : List (List Literal)) (r : ℕ) (clause : List Literal) (old seen : List Bool) → IsTrail marks places steps starts clauses → length old ≡ length marks → ((v : ℕ) → IsTrue (sees old v) → ⊥) → clause ≡ get_or clauses r [] → IsAt clauses r (IsFalsified (marked marks)) → Sees old seen clause → Analyses marks places clauses (length steps) seen
+analyses_first marks places steps starts clauses r clause old seen t size none is at s =
     let falsified : IsFalsified (marked marks) clause = subst (IsFalsified (marked marks)) (sym is) at.1 in
     let d : Step = some_step in
     record {
@@ -97,8 +94,8 @@ analyses_first marks places steps starts clauses limit r clause old seen t size 
     }
 
 -- a step that is not seen is passed
-pub analyses_skip : (marks : List (Option Bool)) (places : List ℕ) (steps : List Step) (starts : List ℕ) (clauses : List (List Literal)) (limit at : ℕ) (s : Step) (seen : List Bool) → IsTrail limit marks places steps starts clauses → ((d : Step) → s ≡ get_or steps at d) → (IsTrue (sees seen s.lit.variable) → ⊥) → Analyses marks places clauses (at + 1) seen → Analyses marks places clauses at seen
-analyses_skip marks places steps starts clauses limit at s seen t is unseen a = record {
+pub analyses_skip : (marks : List (Option Bool)) (places : List ℕ) (steps : List Step) (starts : List ℕ) (clauses : List (List Literal)) (at : ℕ) (s : Step) (seen : List Bool) → IsTrail marks places steps starts clauses → ((d : Step) → s ≡ get_or steps at d) → (IsTrue (sees seen s.lit.variable) → ⊥) → Analyses marks places clauses (at + 1) seen → Analyses marks places clauses at seen
+analyses_skip marks places steps starts clauses at s seen t is unseen a = record {
   size = a.size;
   conflict = a.conflict;
   low = λ v h.
@@ -113,16 +110,12 @@ analyses_skip marks places steps starts clauses limit at s seen t is unseen a = 
       ];
 }
 
--- the mark of a variable is of one sign
-pub mark_is : (marks : List (Option Bool)) (v : ℕ) (a b : Bool) → get_or marks v None ≡ Some a → IsTrue (marked marks v b) → a ≡ b
-mark_is marks v a b e h = same_is a b (ap (λ m. is_marked m b) (sym e) ∙ h)
-
 closed_at : (s : ℕ → Bool → Bool) (clauses : List (List Literal)) (r : ℕ) (clause : List Literal) → r < length clauses → clause ≡ get_or clauses r [] → IsClosed s clauses → IsClosedAt s clause
 closed_at s clauses r clause low is closed = subst (IsClosedAt s) (sym is) (closed r [] low)
 
 -- one variable stands at a place
-pub step_one : (marks : List (Option Bool)) (places : List ℕ) (steps : List Step) (starts : List ℕ) (clauses : List (List Literal)) (limit at : ℕ) (l : Literal) (v : ℕ) (b : Bool) → IsTrail limit marks places steps starts clauses → IsStep marks places at l → IsTrue (marked marks v b) → get_or places v 0 ≡ at → v ≡ l.variable
-step_one marks places steps starts clauses limit at l v b t step held same =
+pub step_one : (marks : List (Option Bool)) (places : List ℕ) (steps : List Step) (starts : List ℕ) (clauses : List (List Literal)) (at : ℕ) (l : Literal) (v : ℕ) (b : Bool) → IsTrail marks places steps starts clauses → IsStep marks places at l → IsTrue (marked marks v b) → get_or places v 0 ≡ at → v ≡ l.variable
+step_one marks places steps starts clauses at l v b t step held same =
     let d : Step = record { lit = l; reason = None } in
     let one = t.marks_are v b d held in
     let two = t.marks_are l.variable l.positive d (ap (λ m. is_marked m l.positive) step.mark ∙ same_self l.positive) in
@@ -130,8 +123,8 @@ step_one marks places steps starts clauses limit at l v b t step held same =
     sym one.1 ∙ ap (λ i. (get_or steps i d).lit.variable) place ∙ two.1
 
 -- a step that is seen is resolved with its reason
-pub analyses_resolve : (marks : List (Option Bool)) (places : List ℕ) (steps : List Step) (starts : List ℕ) (clauses : List (List Literal)) (limit at : ℕ) (l : Literal) (clause : List Literal) (seen new : List Bool) (r : ℕ) → IsTrail limit marks places steps starts clauses → IsStep marks places at l → IsAt clauses r (λ c. IsUnit (before marks places at) c l) → clause ≡ get_or clauses r [] → Resolves seen new clause l.variable → Analyses marks places clauses (at + 1) seen → Analyses marks places clauses at new
-analyses_resolve marks places steps starts clauses limit at l clause seen new r t step reason is s a =
+pub analyses_resolve : (marks : List (Option Bool)) (places : List ℕ) (steps : List Step) (starts : List ℕ) (clauses : List (List Literal)) (at : ℕ) (l : Literal) (clause : List Literal) (seen new : List Bool) (r : ℕ) → IsTrail marks places steps starts clauses → IsStep marks places at l → IsAt clauses r (λ c. IsUnit (before marks places at) c l) → clause ≡ get_or clauses r [] → Resolves seen new clause l.variable → Analyses marks places clauses (at + 1) seen → Analyses marks places clauses at new
+analyses_resolve marks places steps starts clauses at l clause seen new r t step reason is s a =
     let unit : IsUnit (before marks places at) clause l = subst (λ c. IsUnit (before marks places at) c l) (sym is) reason.1 in
     let apart : (v : ℕ) (b : Bool) → IsTrue (before marks places at v b) → v ≡ l.variable → ⊥ = λ v b h e.
     let low = before_place marks places at v b h in
@@ -167,7 +160,7 @@ analyses_resolve marks places steps starts clauses limit at l clause seen new r 
                 let place : get_or places v 0 < at + 1 = before_place marks places (at + 1) v b.0 b.1 in
                 elim (lt_or_eq (get_or places v 0) at place) [
                   | inl less ↦ (b.0, before_by marks places at v b.0 less held)
-                  | inr same ↦ absurd (from.0 (step_one marks places steps starts clauses limit at l v b.0 t step held same))
+                  | inr same ↦ absurd (from.0 (step_one marks places steps starts clauses at l v b.0 t step held same))
                 ]
             | inr there ↦
                 let d : Literal = some_lit in
@@ -180,8 +173,8 @@ analyses_resolve marks places steps starts clauses limit at l clause seen new r 
     }
 
 -- with one literal of the level left
-pub one_left : (marks : List (Option Bool)) (places : List ℕ) (steps : List Step) (starts : List ℕ) (clauses : List (List Literal)) (limit start at : ℕ) (s : Step) (seen : List Bool) → IsTrail limit marks places steps starts clauses → ((d : Step) → s ≡ get_or steps at d) → IsStep marks places at s.lit → IsTrue (sees seen s.lit.variable) → start ≤ at → IsUnseen steps seen start at → Analyses marks places clauses (at + 1) seen → HasOne marks places clauses start seen
-one_left marks places steps starts clauses limit start at s seen t is step here level unseen a = record {
+pub one_left : (marks : List (Option Bool)) (places : List ℕ) (steps : List Step) (starts : List ℕ) (clauses : List (List Literal)) (start at : ℕ) (s : Step) (seen : List Bool) → IsTrail marks places steps starts clauses → ((d : Step) → s ≡ get_or steps at d) → IsStep marks places at s.lit → IsTrue (sees seen s.lit.variable) → start ≤ at → IsUnseen steps seen start at → Analyses marks places clauses (at + 1) seen → HasOne marks places clauses start seen
+one_left marks places steps starts clauses start at s seen t is step here level unseen a = record {
   size = a.size;
   conflict = a.conflict;
   one = s.lit.variable;
@@ -193,7 +186,7 @@ one_left marks places steps starts clauses limit start at s seen t is step here 
       let old = a.low v h in
       let held : IsTrue (marked marks v old.0) = before_marked marks places _ v old.0 old.1 in
       let place : get_or places v 0 < at + 1 = before_place marks places (at + 1) v old.0 old.1 in
-      let differ : get_or places v 0 ≡ at → ⊥ = λ same. other (step_one marks places steps starts clauses limit at s.lit v old.0 t step held same) in
+      let differ : get_or places v 0 ≡ at → ⊥ = λ same. other (step_one marks places steps starts clauses at s.lit v old.0 t step held same) in
       elim (below_or_not (get_or places v 0) start) [
         | inl less ↦ less
         | inr above ↦
@@ -203,12 +196,12 @@ one_left marks places steps starts clauses limit start at s seen t is step here 
 }
 
 -- some literal of the level is seen, since no clause is falsified below it
-pub level_seen : (marks : List (Option Bool)) (places : List ℕ) (steps : List Step) (starts : List ℕ) (clauses : List (List Literal)) (start at : ℕ) (seen : List Bool) → IsTrail (start + 1) marks places steps starts clauses → LastSays starts (Some start) → Analyses marks places clauses at seen → start < at
+pub level_seen : (marks : List (Option Bool)) (places : List ℕ) (steps : List Step) (starts : List ℕ) (clauses : List (List Literal)) (start at : ℕ) (seen : List Bool) → IsTrail marks places steps starts clauses → LastSays starts (Some start) → Analyses marks places clauses at seen → start < at
 level_seen marks places steps starts clauses start at seen t last a = elim (below_or_not start at) [
   | inl less ↦ less
   | inr above ↦
       let some : 0 < length starts = last.0 in
-      let quiet : All (IsQuiet (before marks places start)) clauses = subst (λ p. All (IsQuiet (before marks places p)) clauses) last.1 (t.closed (length starts - 1) (omega arith) (omega (arith, last.1))) in
+      let quiet : All (IsQuiet (before marks places start)) clauses = subst (λ p. All (IsQuiet (before marks places p)) clauses) last.1 (t.closed (length starts - 1) (omega arith)) in
       let found = a.conflict (before marks places start) (λ v b h.
       let old = a.low v (those_test marks (sees seen) v b h) in
       let place : get_or places v 0 < at = before_place marks places at v old.0 old.1 in
@@ -217,8 +210,8 @@ level_seen marks places steps starts clauses start at seen t last a = elim (belo
 ]
 
 -- a literal that was decided begins the last level
-pub decided_last : (limit : ℕ) (marks : List (Option Bool)) (places : List ℕ) (steps : List Step) (starts : List ℕ) (clauses : List (List Literal)) (start at : ℕ) → IsTrail limit marks places steps starts clauses → LastSays starts (Some start) → Contains starts at → at ≤ start
-decided_last limit marks places steps starts clauses start at t last there =
+pub decided_last : (marks : List (Option Bool)) (places : List ℕ) (steps : List Step) (starts : List ℕ) (clauses : List (List Literal)) (start at : ℕ) → IsTrail marks places steps starts clauses → LastSays starts (Some start) → Contains starts at → at ≤ start
+decided_last marks places steps starts clauses start at t last there =
     let some : 0 < length starts = last.0 in
     let low : there.0 < length starts = there.1 in
     let r = t.rise there.0 (length starts - 1) (omega arith) (omega arith) in
@@ -228,18 +221,18 @@ decided_last limit marks places steps starts clauses start at t last there =
 -- the same at the level of trails
 pub at_walk : (t : TrailState) (clauses : List (List Literal)) (start at : ℕ) (seen : List Bool) → IsTrailOver t clauses → LastSays t.starts (Some start) → Analyses t.marks t.places clauses at seen → (start < at) × Analyses t.marks t.places clauses (at - 1 + 1) seen
 at_walk t clauses start at seen h last a =
-    let level = level_seen t.marks t.places t.steps t.starts clauses start at seen (h (start + 1)) last a in
+    let level = level_seen t.marks t.places t.steps t.starts clauses start at seen h last a in
     let e : at - 1 + 1 ≡ at = omega arith in
     (level, subst (λ n. Analyses t.marks t.places clauses n seen) (sym e) a)
 
 pub step_at : (t : TrailState) (clauses : List (List Literal)) (at : ℕ) (s : Step) → IsTrailOver t clauses → at < length t.steps → ((d : Step) → s ≡ get_or t.steps at d) → IsStep t.marks t.places at s.lit
-step_at t clauses at s h low is = subst (λ (x : Step). IsStep t.marks t.places at x.lit) (sym (is s)) ((h 0).steps_are at s low)
+step_at t clauses at s h low is = subst (λ (x : Step). IsStep t.marks t.places at x.lit) (sym (is s)) (h.steps_are at s low)
 
 pub reason_at : (t : TrailState) (clauses : List (List Literal)) (at : ℕ) (s : Step) → IsTrailOver t clauses → at < length t.steps → ((d : Step) → s ≡ get_or t.steps at d) → ReasonSays (before t.marks t.places at) clauses t.starts at s.lit s.reason
-reason_at t clauses at s h low is = subst (λ (x : Step). ReasonSays (before t.marks t.places at) clauses t.starts at x.lit x.reason) (sym (is s)) ((h 0).reasons at s low)
+reason_at t clauses at s h low is = subst (λ (x : Step). ReasonSays (before t.marks t.places at) clauses t.starts at x.lit x.reason) (sym (is s)) (h.reasons at s low)
 
 pub steps_within : (t : TrailState) (clauses : List (List Literal)) (n : ℕ) → IsTrailOver t clauses → n ≡ length t.marks → (k : ℕ) (d : Step) → k < length t.steps → (get_or t.steps k d).lit.variable < n
-steps_within t clauses n h size k d low = let within = ((h 0).steps_are k d low).within in omega arith
+steps_within t clauses n h size k d low = let within = (h.steps_are k d low).within in omega arith
 
 -- a clause has known variables
 pub clause_within : (n m : ℕ) (clauses : List (List Literal)) (r : ℕ) (clause : List Literal) → n ≡ m → AreBelow m clauses → r < length clauses → clause ≡ get_or clauses r [] → IsBelow n clause

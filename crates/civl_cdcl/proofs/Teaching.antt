@@ -9,11 +9,13 @@ use Rattle.civl_units.specs.Propagation.{Fails}
 use Rattle.civl_units.specs.Marks.{same, is_marked, marked, IsQuiet}
 use Rattle.civl_units.proofs.MarkLemmas.{same_self, below_or_not, lt_or_eq}
 use Rattle.civl_units.proofs.LawLemmas.{not_not}
-use Rattle.civl_cdcl.specs.Trail.{TrailState, those, before, IsTrail, IsTrailOver, LastSays}
+use Rattle.civl_propagation.specs.Trail.{TrailState, those, before, IsTrail, IsTrailOver}
+use Rattle.civl_propagation.proofs.Trails.{some_lit, those_test, those_marked, those_by, before_place, before_by}
+use Rattle.civl_propagation.proofs.Serving.{mark_is}
+use Rattle.civl_propagation.specs.declared.trail.Step.{Step}
+use Rattle.civl_cdcl.specs.Levels.{LastSays, AreBefore}
 use Rattle.civl_cdcl.specs.Analysis.{sees, HasOne, Negates, ReachSays, LearnSays}
-use Rattle.civl_cdcl.proofs.Trails.{some_lit, those_test, those_marked, those_by, before_place, before_by}
-use Rattle.civl_cdcl.specs.declared.trail.Step.{Step}
-use Rattle.civl_cdcl.proofs.Analysing.{mark_is, quiet_unfalsified}
+use Rattle.civl_cdcl.proofs.Analysing.{quiet_unfalsified}
 
 pub negates_none : (marks : List (Option Bool)) (seen : List Bool) → Negates marks seen 0 []
 negates_none marks seen = record {
@@ -72,10 +74,10 @@ negates_push marks seen n clause value here mark g =
     }
 
 -- what leads to a conflict below the level is closed and without conflict
-pub start_quiet : (marks : List (Option Bool)) (places : List ℕ) (steps : List Step) (starts : List ℕ) (clauses : List (List Literal)) (start : ℕ) → IsTrail (start + 1) marks places steps starts clauses → LastSays starts (Some start) → All (IsQuiet (before marks places start)) clauses
+pub start_quiet : (marks : List (Option Bool)) (places : List ℕ) (steps : List Step) (starts : List ℕ) (clauses : List (List Literal)) (start : ℕ) → IsTrail marks places steps starts clauses → LastSays starts (Some start) → All (IsQuiet (before marks places start)) clauses
 start_quiet marks places steps starts clauses start t last =
     let some : 0 < length starts = last.0 in
-    subst (λ p. All (IsQuiet (before marks places p)) clauses) last.1 (t.closed (length starts - 1) (omega arith) (omega (arith, last.1)))
+    subst (λ p. All (IsQuiet (before marks places p)) clauses) last.1 (t.closed (length starts - 1) (omega arith))
 
 -- two literals of different variables neither of which fails
 two_free : (set : ℕ → Bool → Bool) (clause : List Literal) (i j : ℕ) → i < length clause → j < length clause → (Fails set (get_or clause i some_lit) → ⊥) → (Fails set (get_or clause j some_lit) → ⊥) → ((get_or clause i some_lit).variable ≡ (get_or clause j some_lit).variable → ⊥) → IsQuiet set clause
@@ -90,12 +92,30 @@ two_free set clause i j low_i low_j free_i free_j differ = (
   λ all. free_i (all i some_lit low_i),
 )
 
+-- the starts of the levels that stay are before the limit
+start_before : (t : TrailState) (clauses : List (List Literal)) (limit levels k : ℕ) → IsTrailOver t clauses → AreBefore t.starts limit levels → k < levels → get_or t.starts k 0 < limit
+start_before t clauses limit levels k h cuts few =
+    let fewer = cuts.fewer in
+    elim cuts.under [
+      | inl none ↦ absurd (omega arith)
+      | inr low ↦ let r = h.rise k (levels - 1) (omega arith) (omega arith) in omega arith
+    ]
+
+-- the limit isn't behind the last start
+pub reach_low : (starts places : List ℕ) (clause : List Literal) (start limit : ℕ) → LastSays starts (Some start) → ReachSays places clause start limit → limit ≤ get_or starts (length starts - 1) 0
+reach_low starts places clause start limit last reach =
+    let is = last.1 in
+    elim reach [
+      | inl none ↦ omega arith
+      | inr there ↦ let top = (there.2 some_lit).1 in omega arith
+    ]
+
 -- the clause of the opposite literals was learned
-pub learned_by : (t : TrailState) (clauses : List (List Literal)) (start : ℕ) (seen : List Bool) (clause : List Literal) (limit : ℕ) → IsTrailOver t clauses → LastSays t.starts (Some start) → HasOne t.marks t.places clauses start seen → Negates t.marks seen (length t.marks) clause → ReachSays t.places clause start limit → LearnSays t clauses clause limit
-learned_by t clauses start seen clause limit h last one g reach =
+pub learned_by : (t : TrailState) (clauses : List (List Literal)) (start : ℕ) (seen : List Bool) (clause : List Literal) (limit levels : ℕ) → IsTrailOver t clauses → LastSays t.starts (Some start) → HasOne t.marks t.places clauses start seen → Negates t.marks seen (length t.marks) clause → ReachSays t.places clause start limit → AreBefore t.starts limit levels → LearnSays t clauses clause levels
+learned_by t clauses start seen clause limit levels h last one g reach cuts =
     let marks = t.marks in
     let places = t.places in
-    let quiet = start_quiet marks places t.steps t.starts clauses start (h (start + 1)) last in
+    let quiet = start_quiet marks places t.steps t.starts clauses start h last in
     let known : (v : ℕ) (b : Bool) → IsTrue (marked marks v b) → v < length marks = λ v b m. elim (below_or_not v (length marks)) [
       | inl low ↦ low
       | inr above ↦ absurd (unmarked_none (get_or marks v None) b (get_or_past marks v None above) m)
@@ -144,15 +164,16 @@ learned_by t clauses start seen clause limit h last one g reach =
         );
         some = λ e. let none = ap length e in absurd (omega arith);
       };
-      quiet = λ p small. elim reach [
+      fewer = cuts.fewer;
+      quiet = λ k few. let p = get_or t.starts k 0 in let small : p < limit = start_before t clauses limit levels k h cuts few in elim reach [
         | inl zero_is ↦ absurd (omega arith)
         | inr there ↦
-            let k = there.0 in
-            let below : k < length clause = there.1 in
-            let far : get_or places (get_or clause k some_lit).variable 0 + 1 ≡ limit = (there.2 some_lit).0 in
+            let j = there.0 in
+            let below : j < length clause = there.1 in
+            let far : get_or places (get_or clause j some_lit).variable 0 + 1 ≡ limit = (there.2 some_lit).0 in
             let top : limit ≤ start = (there.2 some_lit).1 in
-            two_free (before marks places p) clause k at below low
-            (λ f. let q = before_place marks places p (get_or clause k some_lit).variable (not (get_or clause k some_lit).positive) f in absurd (omega arith))
+            two_free (before marks places p) clause j at below low
+            (λ f. let q = before_place marks places p (get_or clause j some_lit).variable (not (get_or clause j some_lit).positive) f in absurd (omega arith))
             (λ f. let q = before_place marks places p l.variable (not l.positive) f in absurd (omega arith))
             (λ e. let same = ap (λ v. get_or places v 0) e in absurd (omega arith))
       ];
@@ -160,6 +181,6 @@ learned_by t clauses start seen clause limit h last one g reach =
 
 pub clause_placed : (t : TrailState) (clauses : List (List Literal)) (seen : List Bool) (clause : List Literal) → IsTrailOver t clauses → Negates t.marks seen (length t.marks) clause → All (λ l. l.variable < length t.places) clause
 clause_placed t clauses seen clause h g k d low =
-    let size = (h 0).size in
+    let size = h.size in
     let below = g.within k d low in
     omega arith

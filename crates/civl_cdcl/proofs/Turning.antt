@@ -1,95 +1,79 @@
 -- The search up to its next conflict.
-use Rattle.std.proofs.Common.{◌≡◌, ℕ, suc, zero, ◌+◌, ◌<◌, ◌≤◌, List, [], ◌∷◌, ◌++◌, length, get_or, sym, ◌∙◌, ap, subst, inl, inr, arith, Bool}
-use Rattle.std.specs.Prelude.{IsTrue, Option, None, Some}
-use Rattle.std.proofs.lemmas.List.{get_or_append_left, length-append}
-use Rattle.std.proofs.lemmas.List.Elements.{All-push}
+use Rattle.std.proofs.Common.{◌≡◌, ℕ, ◌<◌, List, [], length, get_or, sym, ◌∙◌, ap, subst, arith, Bool, true, false}
+use Rattle.std.specs.Prelude.{Some}
+use Rattle.std.proofs.lemmas.List.{get_or-take, length-take-le}
+use Rattle.std.proofs.lemmas.List.Elements.{All-nil}
 use Rattle.civl_cnf.specs.Literal.{Literal}
-use Rattle.civl_units.specs.Propagation.{Holds, IsFalsified, IsUnit, IsClosed}
+use Rattle.civl_units.specs.Propagation.{Holds, IsFalsified}
+use Rattle.civl_units.specs.Marks.{marked, IsQuiet}
+use Rattle.civl_propagation.specs.Trail.{TrailState, before, IsAt, IsTrailOver, IsCut}
+use Rattle.civl_propagation.specs.Engine.{EngineState, IsAtRest, IsQuietBelow}
+use Rattle.civl_propagation.proofs.Engines.{decided_none, conflict_by}
 use Rattle.civl_rup.specs.Rup.{HasRup}
-use Rattle.civl_units.specs.Marks.{marked, IsQuiet, IsIncluded}
-use Rattle.civl_units.proofs.MarkLemmas.{lt_or_eq}
-use Rattle.civl_units.proofs.Propagating.{unit_grows}
-use Rattle.civl_cdcl.specs.Trail.{TrailState, before, IsAt, ReasonSays, IsTrail, IsTrailOf, IsTrailOver, IsCutBack, LastSays}
+use Rattle.civl_cdcl.specs.Levels.{LastSays}
+use Rattle.civl_cdcl.specs.Outcome.{IsLearned}
 use Rattle.civl_cdcl.specs.Analysis.{LearnSays}
-use Rattle.civl_cdcl.specs.declared.trail.Step.{Step}
-use Rattle.civl_cdcl.proofs.Trails.{some_step, before_place, before_by, before_marked, before_all}
-use Rattle.civl_cdcl.proofs.Analysing.{mark_is, conflict_at, quiet_unfalsified}
+use Rattle.civl_cdcl.specs.Turn.{IsFull, IsLearnedBy, TurnSays}
+use Rattle.civl_cdcl.specs.declared.turn.Turn.{Turn}
+use Rattle.civl_cdcl.proofs.Analysing.{quiet_unfalsified}
 use Rattle.civl_cdcl.proofs.Teaching.{start_quiet}
-use Rattle.civl_cdcl.proofs.Visiting.{falsified_grows}
-
-forced : (marks : List (Option Bool)) (places : List ℕ) (clauses : List (List Literal)) (n : ℕ) (l : Literal) (r : Option ℕ) (set : ℕ → Bool → Bool) → IsClosed set clauses → IsIncluded (before marks places n) set → ReasonSays (before marks places n) clauses [] n l r → Holds set l
-forced marks places clauses n l None set closed within h = let low : h.0 < 0 = h.1 in absurd (omega arith)
-forced marks places clauses n l (Some r) set closed within h = closed r [] h.0 l (unit_grows (before marks places n) set (get_or clauses r []) l within h.1)
-
--- with no decision, all marks lie in each closed set
-within_closed : (limit : ℕ) (marks : List (Option Bool)) (places : List ℕ) (steps : List Step) (clauses : List (List Literal)) (set : ℕ → Bool → Bool) → IsTrail limit marks places steps [] clauses → IsClosed set clauses → (n : ℕ) → n ≤ length steps → IsIncluded (before marks places n) set
-within_closed limit marks places steps clauses set t closed zero low v b h = let p = before_place marks places 0 v b h in absurd (omega arith)
-within_closed limit marks places steps clauses set t closed (suc n) low v b h =
-    let p : get_or places v 0 < suc n = before_place marks places (suc n) v b h in
-    let held = before_marked marks places (suc n) v b h in
-    let rest = within_closed limit marks places steps clauses set t closed n (omega arith) in
-    elim (lt_or_eq (get_or places v 0) n (omega arith)) [
-      | inl less ↦ rest v b (before_by marks places n v b less held)
-      | inr is ↦
-          let s = get_or steps n some_step in
-          let step = t.steps_are n some_step (omega arith) in
-          let holds = forced marks places clauses n s.lit s.reason set closed rest (t.reasons n some_step (omega arith)) in
-          let variable : s.lit.variable ≡ v = ap (λ i. (get_or steps i some_step).lit.variable) (sym is) ∙ (t.marks_are v b some_step held).1 in
-          let sign : s.lit.positive ≡ b = mark_is marks s.lit.variable s.lit.positive b step.mark (subst (λ u. IsTrue (marked marks u b)) (sym variable) held) in
-          subst (λ u. IsTrue (set u b)) variable (subst (λ x. IsTrue (set s.lit.variable x)) sign holds)
-    ]
 
 -- a conflict with no decision: the empty clause has RUP
 pub refuted_by : (t : TrailState) (clauses : List (List Literal)) (variables r : ℕ) → IsTrailOver t clauses → t.starts ≡ [] → IsAt clauses r (IsFalsified (marked t.marks)) → HasRup variables clauses []
-refuted_by t clauses variables r h none at =
-    let marks = t.marks in
-    let places = t.places in
-    let steps = t.steps in
-    let first : IsTrail 0 marks places steps [] clauses = subst (λ x. IsTrail 0 marks places steps x clauses) none (h 0) in
-    record {
-      below = λ k d low. absurd (omega arith);
-      once = λ i j d less low. absurd (omega arith);
-      conflict = λ set fails closed.
-          let all = within_closed 0 marks places steps clauses set first closed (length steps) (omega arith) in
-          let within : IsIncluded (marked marks) set = subst (λ f. IsIncluded f set) (before_all 0 marks places steps [] clauses first) all in
-          conflict_at set clauses r (at.0, falsified_grows (marked marks) set (get_or clauses r []) within at.1);
-    }
+refuted_by t clauses variables r h none at = record {
+  below = λ k d low. absurd (omega arith);
+  once = λ i j d less low. absurd (omega arith);
+  conflict = λ set fails closed. conflict_by t clauses [] r h (decided_none t none) at set (All-nil (Holds set)) closed;
+}
 
 -- above the first level the empty clause has no RUP
 pub full_by : (t : TrailState) (clauses : List (List Literal)) (variables start : ℕ) → IsTrailOver t clauses → LastSays t.starts (Some start) → HasRup variables clauses [] → ⊥
 full_by t clauses variables start h last rup =
     let set = before t.marks t.places start in
-    let quiet = start_quiet t.marks t.places t.steps t.starts clauses start (h (start + 1)) last in
+    let quiet = start_quiet t.marks t.places t.steps t.starts clauses start h last in
     quiet_unfalsified set clauses quiet (rup.conflict set (λ k d low. absurd (omega arith)) (λ k d low. (quiet k d low).0))
 
-reason_more : (set : ℕ → Bool → Bool) (clauses more : List (List Literal)) (starts : List ℕ) (i : ℕ) (l : Literal) (r : Option ℕ) → ReasonSays set clauses starts i l r → ReasonSays set (clauses ++ more) starts i l r
-reason_more set clauses more starts i l None h = h
-reason_more set clauses more starts i l (Some r) h =
-    let size = length-append clauses more in
-    let low : r < length clauses = h.0 in
-    (omega arith, subst (λ c. IsUnit set c l) (sym (get_or_append_left clauses more [] r low)) h.1)
+-- once levels are taken back, the clause that was learned can be added
+pub learned_quiet : (t new : TrailState) (clauses : List (List Literal)) (clause : List Literal) (levels : ℕ) → IsTrailOver t clauses → LearnSays t clauses clause levels → IsCut t new levels → IsQuietBelow new clause
+learned_quiet t new clauses clause levels h says cut k low =
+    let fewer = says.fewer in
+    let count : length new.starts ≡ levels = ap length cut.starts ∙ length-take-le levels t.starts (omega arith) in
+    let few : k < levels = omega arith in
+    let older : get_or new.starts k 0 ≡ get_or t.starts k 0 = ap (λ (x : List ℕ). get_or x k 0) cut.starts ∙ get_or-take levels t.starts k 0 few in
+    let end = cut.end in
+    let rise = h.rise k levels (omega arith) fewer in
+    let same : before new.marks new.places (get_or new.starts k 0) ≡ before t.marks t.places (get_or t.starts k 0) = ap (before new.marks new.places) older ∙ cut.same (get_or t.starts k 0) (omega arith) in
+    subst (λ f. IsQuiet f clause) (sym same) (says.quiet k few)
 
--- a clause that is learned, once the levels are cut
-pub trail_learns : (t new : TrailState) (clauses : List (List Literal)) (clause : List Literal) (limit : ℕ) → IsTrailOver t clauses → LearnSays t clauses clause limit → IsCutBack t new limit → IsTrailOver new (clauses ++ clause ∷ [])
-trail_learns t new clauses clause limit h says cut n =
-    let more : IsTrailOf limit t (clauses ++ clause ∷ []) =
-    let o = h limit in
-    record {
-      size = o.size;
-      steps_are = o.steps_are;
-      marks_are = o.marks_are;
-      reasons = λ i d low. reason_more (before t.marks t.places i) clauses (clause ∷ []) t.starts i (get_or t.steps i d).lit (get_or t.steps i d).reason (o.reasons i d low);
-      rise = o.rise;
-      low = o.low;
-      closed = λ k low small. All-push (IsQuiet (before t.marks t.places (get_or t.starts k 0))) clauses clause (o.closed k low small) (says.quiet (get_or t.starts k 0) small);
-    } in
-    let o = cut.keeps (clauses ++ clause ∷ []) limit more in
-    record {
-      size = o.size;
-      steps_are = o.steps_are;
-      marks_are = o.marks_are;
-      reasons = o.reasons;
-      rise = o.rise;
-      low = o.low;
-      closed = λ k low small. o.closed k low (cut.low k low);
-    }
+-- what was learned, read at other lists that are equal
+pub learned_as : (t u : TrailState) (clauses others : List (List Literal)) (clause : List Literal) (levels : ℕ) → t ≡ u → clauses ≡ others → LearnSays t clauses clause levels → LearnSays u others clause levels
+learned_as t u clauses others clause levels e f says =
+    subst (λ (x : TrailState). LearnSays x others clause levels) e (subst (λ (cs : List (List Literal)). LearnSays t cs clause levels) f says)
+
+-- and over the clauses that the engine had
+learned_first : (old e : EngineState) (clause : List Literal) → length e.trail.marks ≡ length old.trail.marks → e.clauses ≡ old.clauses → IsLearned (length e.trail.marks) e.clauses clause → IsLearned (length old.trail.marks) old.clauses clause
+learned_first old e clause size same learned =
+    subst (λ (cs : List (List Literal)). IsLearned (length old.trail.marks) cs clause) same (subst (λ (n : ℕ). IsLearned n e.clauses clause) size learned)
+
+-- no clause may be learned any more
+pub full_as : (old e : EngineState) (may : Bool) (clause : List Literal) (levels start : ℕ) → length e.trail.marks ≡ length old.trail.marks → e.clauses ≡ old.clauses → may ≡ false → IsTrailOver e.trail e.clauses → LastSays e.trail.starts (Some start) → LearnSays e.trail e.clauses clause levels → IsFull may (length old.trail.marks) old.clauses
+full_as old e may clause levels start size same limit h last says = record {
+  limit = limit;
+  unrefuted = λ rup. full_by e.trail e.clauses (length old.trail.marks) start h last (subst (λ (cs : List (List Literal)). HasRup (length old.trail.marks) cs []) (sym same) rup);
+  clause = clause;
+  more = learned_first old e clause size same says.learned;
+}
+
+-- a clause was learned, and levels were taken back
+pub learned_by_cut : (old e new : EngineState) (may : Bool) (clause : List Literal) (levels : ℕ) → length e.trail.marks ≡ length old.trail.marks → e.clauses ≡ old.clauses → may ≡ true → IsTrailOver e.trail e.clauses → LearnSays e.trail e.clauses clause levels → IsAtRest new → new.clauses ≡ e.clauses → IsCut e.trail new.trail levels → IsLearnedBy may old new clause
+learned_by_cut old e new may clause levels size same limit h says rest kept cut = record {
+  limit = limit;
+  size = cut.size ∙ size;
+  clauses = kept ∙ same;
+  learned = learned_first old e clause size same says.learned;
+  rest = rest;
+  levels = learned_quiet e.trail new.trail e.clauses clause levels h says cut;
+}
+
+pub turned_as : (may : Bool) (old new : EngineState) (turned is : Turn) → turned ≡ is → TurnSays may old new turned → TurnSays may old new is
+turned_as may old new turned is e says = subst (TurnSays may old new) e says

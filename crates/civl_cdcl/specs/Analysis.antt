@@ -5,9 +5,9 @@ use Rattle.civl_cnf.specs.ClauseSet.{IsBelow}
 use Rattle.civl_units.specs.Propagation.{Fails, IsClosed, HasConflict}
 use Rattle.civl_rup.specs.Rup.{HasEachOnce}
 use Rattle.civl_units.specs.Marks.{marked, IsQuiet, IsIncluded}
-use Rattle.civl_cdcl.specs.Trail.{TrailState, those, before}
+use Rattle.civl_propagation.specs.Trail.{TrailState, those, before}
+use Rattle.civl_propagation.specs.declared.trail.Step.{Step}
 use Rattle.civl_cdcl.specs.Outcome.{IsLearned}
-use Rattle.civl_cdcl.specs.declared.trail.Step.{Step}
 
 abbrev pub sees : List Bool → ℕ → Bool
 sees seen v = slice_index_or seen v false
@@ -67,7 +67,8 @@ pub record Negates (marks : List (Option Bool)) (seen : List Bool) (n : ℕ) (cl
 abbrev pub ReachSays : List ℕ → List Literal → ℕ → ℕ → Type 0
 ReachSays places clause start r = (r ≡ 0) ⊎ ((k : ℕ) × (k < length clause) × ((d : Literal) → (slice_index_or places (slice_index_or clause k d).variable 0 + 1 ≡ r) × (r ≤ start)))
 
--- a clause was learned, and below the limit it forces nothing and isn't falsified
-pub record LearnSays (t : TrailState) (clauses : List (List Literal)) (clause : List Literal) (limit : ℕ) : Type 0 where
+-- A clause was learned. It forces nothing below the starts of so many levels, not all, and isn't falsified there.
+pub record LearnSays (t : TrailState) (clauses : List (List Literal)) (clause : List Literal) (levels : ℕ) : Type 0 where
   pub learned : IsLearned (length t.marks) clauses clause
-  pub quiet : (p : ℕ) → p < limit → IsQuiet (before t.marks t.places p) clause
+  pub fewer : levels < length t.starts
+  pub quiet : (k : ℕ) → k < levels → IsQuiet (before t.marks t.places (slice_index_or t.starts k 0)) clause

@@ -1,4 +1,4 @@
-pub mod Trail
+pub mod Levels
 pub mod Propagation
 pub mod Analysis
 pub mod Outcome

@@ -1,17 +1,26 @@
 // What a conflict teaches.
-ghost use Rattle.std.specs.Prelude.{◌≡◌, ◌<◌, ◌≤◌, ◌^◌, Some, false, length, All, IfOk, IsFalse};
+ghost use Rattle.std.specs.Prelude.{◌≡◌, ◌<◌, ◌≤◌, ◌^◌, [], Some, false, length, slice_index_or, All, IfOk, IsFalse};
 ghost use Rattle.civl_cnf.specs.ClauseSet.{IsBelow, AreBelow};
 ghost use Rattle.civl_units.specs.Propagation.{IsFalsified};
 ghost use Rattle.civl_units.specs.Marks.{marked};
-ghost use Rattle.civl_cdcl.specs.declared.trail.Step.{Step as StepOf};
-ghost use Rattle.civl_cdcl.specs.Trail.{IsAt, IsTrailOver, LastSays};
+ghost use Rattle.civl_propagation.specs.declared.trail.Step.{Step as StepOf};
+ghost use Rattle.civl_propagation.specs.Trail.{IsAt, IsTrailOver};
+ghost use Rattle.civl_cdcl.specs.Levels.{LastSays};
 ghost use Rattle.civl_cdcl.specs.Analysis.{Sees, Resolves, Analyses, HasOne, IsUnseen, Negates, ReachSays, LearnSays};
 
 use crate::Memory;
-use crate::clauses::Clauses;
-use crate::trail::{Step, Trail};
+use crate::levels::levels_below;
 use civl_cnf::{Clause, Lit};
+use civl_propagation::{Step, Trail};
 use std::alloc::Global;
+
+/// The literals of the clause with a number.
+fn lits_of(clauses: &[Clause], number: usize) -> &[Lit]
+    requires { number < length clauses.now }
+    ensures { result.now ≡ slice_index_or clauses.now number [] }
+{
+    clauses[number].lits()
+}
 
 /// Sees the variables of a clause.
 fn see(seen: &mut [bool], clause: &[Lit])
@@ -51,7 +60,7 @@ fn any_seen(steps: &[Step], seen: &[bool], from: usize, to: usize) -> bool
 }
 
 /// Resolves along the reasons, from the end of the trail down, until one literal of the level is left: the first unique implication point.
-fn walk(trail: &Trail, clauses: &Clauses, start: usize, seen: &mut [bool])
+fn walk(trail: &Trail, clauses: &[Clause], start: usize, seen: &mut [bool])
     requires below { AreBelow (length trail.now.marks) clauses.now }
     requires trail { IsTrailOver trail.now clauses.now }
     requires start { LastSays trail.now.starts (Some start) }
@@ -69,14 +78,14 @@ fn walk(trail: &Trail, clauses: &Clauses, start: usize, seen: &mut [bool])
             }
             match step.reason {
                 None => return,
-                Some(reason) => resolve(seen, clauses.lits(reason), variable),
+                Some(reason) => resolve(seen, lits_of(clauses, reason), variable),
             }
         }
     }
 }
 
 /// Sees what leads to a conflict, with one literal of the level.
-fn analyse(trail: &Trail, clauses: &Clauses, conflict: usize, start: usize, seen: &mut [bool])
+fn analyse(trail: &Trail, clauses: &[Clause], conflict: usize, start: usize, seen: &mut [bool])
     requires below { AreBelow (length trail.now.marks) clauses.now }
     requires trail { IsTrailOver trail.now clauses.now }
     requires start { LastSays trail.now.starts (Some start) }
@@ -85,7 +94,7 @@ fn analyse(trail: &Trail, clauses: &Clauses, conflict: usize, start: usize, seen
     requires none { All (λ b. b ≡ false) seen.old }
     ensures { HasOne trail.now.marks trail.now.places clauses.now start seen.new }
 {
-    see(seen, clauses.lits(conflict));
+    see(seen, lits_of(clauses, conflict));
     walk(trail, clauses, start, seen);
 }
 
@@ -122,18 +131,18 @@ fn reach(places: &[usize], clause: &[Lit], start: usize) -> usize
     reach
 }
 
-/// A clause that was learned, and the place from which on levels are to be taken back.
+/// A clause that was learned, and how many levels are to stay.
 #[derive(Drop)]
 pub struct Learned {
     pub clause: Clause,
-    pub limit: usize,
+    pub levels: usize,
 }
 
 /// The clause that a conflict above the first level teaches, where nothing is seen yet.
 fn teach(
     alloc: Global,
     trail: &Trail,
-    clauses: &Clauses,
+    clauses: &[Clause],
     conflict: usize,
     start: usize,
     seen: &mut [bool],
@@ -145,20 +154,21 @@ fn teach(
     requires conflict { IsAt clauses.now conflict (IsFalsified (marked trail.now.marks)) }
     requires seen { length seen.old ≡ length trail.now.marks }
     requires none { All (λ b. b ≡ false) seen.old }
-    ensures { IfOk result (λ learned. LearnSays trail.now clauses.now learned.clause learned.limit) }
+    ensures { IfOk result (λ learned. LearnSays trail.now clauses.now learned.clause learned.levels) }
 {
     analyse(trail, clauses, conflict, start, seen);
     let lits = negate(alloc, trail.marks(), seen)?;
     let limit = reach(trail.places(), lits.as_slice(), start);
+    let levels = levels_below(trail.starts(), limit);
     let clause = Clause::from_slice(alloc, lits.as_slice())?;
-    Ok(Learned { clause, limit })
+    Ok(Learned { clause, levels })
 }
 
 /// The clause that a conflict above the first level teaches.
 pub fn learn(
     alloc: Global,
     trail: &Trail,
-    clauses: &Clauses,
+    clauses: &[Clause],
     conflict: usize,
     start: usize,
 ) -> Result<Learned, Memory>
@@ -167,7 +177,7 @@ pub fn learn(
     requires trail { IsTrailOver trail.now clauses.now }
     requires start { LastSays trail.now.starts (Some start) }
     requires conflict { IsAt clauses.now conflict (IsFalsified (marked trail.now.marks)) }
-    ensures { IfOk result (λ learned. LearnSays trail.now clauses.now learned.clause learned.limit) }
+    ensures { IfOk result (λ learned. LearnSays trail.now clauses.now learned.clause learned.levels) }
 {
     let mut seen: Vec<bool> = Vec::from_elem(alloc, false, trail.marks().len())?;
     let learned = teach(alloc, trail, clauses, conflict, start, &mut seen)?;

@@ -3,13 +3,11 @@
 
 mod analysis;
 mod choice;
-mod clauses;
 mod laws;
+mod levels;
 mod memory;
 mod outcome;
-mod propagation;
 mod solving;
-mod trail;
 mod turn;
 
 pub use choice::choose;

@@ -23,8 +23,8 @@ impl From<civl_cnf::Memory> for Memory {
     }
 }
 
-impl From<civl_units::Memory> for Memory {
-    fn from(_wanting: civl_units::Memory) -> Memory {
+impl From<civl_propagation::Memory> for Memory {
+    fn from(_wanting: civl_propagation::Memory) -> Memory {
         Memory
     }
 }

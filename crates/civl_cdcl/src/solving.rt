@@ -1,15 +1,14 @@
 // The search.
 ghost use Rattle.std.specs.Prelude.{◌≡◌, ◌≤◌, ◌++◌, ◌∷◌, [], ◌^◌, ℕ, List, Bool, length, IfOk, OnOk};
 ghost use Rattle.civl_cnf.specs.Literal.{Literal};
+ghost use Rattle.civl_rup.specs.Standing.{IsAtRoot, Stands};
 ghost use Rattle.civl_cdcl.specs.Turn.{AreBits};
 ghost use Rattle.civl_cdcl.specs.Outcome.{OutcomeSays, IsModel, RefutesWithin, SpendsWhole};
 
-use crate::clauses::Clauses;
-use crate::trail::Trail;
 use crate::turn::{Turn, take_turn};
 use crate::{Memory, Outcome};
 use civl_cnf::{Bits, Clause, Cnf, Log};
-use civl_units::occurrences_of;
+use civl_propagation::{Ended, Engine};
 use std::alloc::Global;
 
 /// The values as bits, false for a variable without one.
@@ -33,31 +32,34 @@ fn push_empty(alloc: Global, log: &mut Log) -> Result<(), Memory>
     Ok(())
 }
 
-/// Goes from conflict to conflict until an outcome is found.
-fn search(alloc: Global, cnf: &Cnf, budget: u32) -> Result<Outcome, Memory>
+/// Gives an engine the clauses of a set: whether propagation refutes them.
+fn load(engine: &mut Engine, cnf: &Cnf) -> Result<bool, Memory>
+    requires { IsAtRoot engine.old cnf.now.variables [] }
+    ensures { IfOk result (λ refuted. Stands engine.new cnf.now.variables cnf.now.clauses refuted) }
+{
+    for at in 0..cnf.len() {
+        let ended = engine.add(cnf.clause(at).lits())?;
+        match ended {
+            Ended::Conflict(_) => return Ok(true),
+            Ended::Quiet => {}
+        }
+    }
+    Ok(false)
+}
+
+/// Goes from conflict to conflict until an outcome is found, over an engine with the clauses of the set.
+fn search(alloc: Global, engine: &mut Engine, cnf: &Cnf, budget: u32) -> Result<Outcome, Memory>
+    requires { IsAtRoot engine.old cnf.now.variables cnf.now.clauses }
     ensures { IfOk result (OutcomeSays cnf.now budget) }
 {
-    let formula = cnf.clauses();
-    let mut trail = Trail::new(alloc, cnf.variables())?;
-    let mut occurrences = occurrences_of(alloc, cnf)?;
-    let mut due = Vec::from_slice(alloc, occurrences.units())?;
-    let mut from = 0;
     let mut log = Log::new(alloc);
-    loop {
+    let mut ended = Ended::Quiet;
+    'turns: loop {
         let may_learn = log.len() < budget as usize;
-        let clauses = Clauses::new(formula, log.clauses());
-        let turned = take_turn(
-            alloc,
-            &mut trail,
-            &occurrences,
-            &clauses,
-            due.as_slice(),
-            from,
-            may_learn,
-        )?;
+        let turned = take_turn(alloc, engine, ended, may_learn)?;
         match turned {
             Turn::Marked => {
-                let bits = bits_of(alloc, trail.marks())?;
+                let bits = bits_of(alloc, engine.trail().marks())?;
                 return Ok(Outcome::Sat(bits));
             }
             Turn::Refuted => {
@@ -66,15 +68,35 @@ fn search(alloc: Global, cnf: &Cnf, budget: u32) -> Result<Outcome, Memory>
             }
             Turn::Full => return Ok(Outcome::Spent(log)),
             Turn::Learns(clause) => {
-                let number = formula.len() + log.clauses().len();
-                occurrences.add(clause.lits(), number)?;
-                due.clear();
-                due.push(number)?;
-                from = trail.len();
+                let next = engine.add(clause.lits())?;
                 log.push(clause)?;
+                ended = next;
             }
         }
     }
+}
+
+/// The log of clauses that propagation refutes: the empty clause.
+fn empty_log(alloc: Global) -> Result<Log, Memory>
+    ensures { IfOk result (λ log. log ≡ [] ∷ []) }
+{
+    let mut log = Log::new(alloc);
+    push_empty(alloc, &mut log)?;
+    Ok(log)
+}
+
+/// Gives a new engine the clauses, and searches.
+fn run(alloc: Global, cnf: &Cnf, budget: u32) -> Result<Outcome, Memory>
+    ensures { IfOk result (OutcomeSays cnf.now budget) }
+{
+    let mut engine = Engine::new(alloc, cnf.variables())?;
+    let refuted = load(&mut engine, cnf)?;
+    if refuted {
+        let log = empty_log(alloc)?;
+        return Ok(Outcome::Unsat(log));
+    }
+    let outcome = search(alloc, &mut engine, cnf, budget)?;
+    Ok(outcome)
 }
 
 /// Searches for bits that make the clause set true, and learns at most so many clauses, each of which has reverse unit propagation from the clauses before it and is new over them.
@@ -89,6 +111,6 @@ pub fn solve(alloc: Global, cnf: &Cnf, budget: u32) -> Result<Outcome, Memory>
     ensures unsat { IfOk result (λ outcome. (log : List (List Literal)) → outcome ≡ Outcome.Unsat log → RefutesWithin cnf.now budget log) }
     ensures spent { IfOk result (λ outcome. (log : List (List Literal)) → outcome ≡ Outcome.Spent log → SpendsWhole cnf.now budget log) }
 {
-    let outcome = search(alloc, cnf, budget)?;
+    let outcome = run(alloc, cnf, budget)?;
     Ok(outcome)
 }

@@ -1,8 +1,9 @@
-use Rattle.std.proofs.Common.{◌∙◌, sym, subst, length, ◌<◌, List, Bool, ℕ}
+use Rattle.std.proofs.Common.{◌∙◌, ◌-◌, ◌≤◌, sym, subst, length, get_or, ◌<◌, List, Bool, ℕ}
 use Rattle.std.specs.Prelude.{All, Option}
 use Rattle.civl_cnf.specs.Literal.{Literal}
+use Rattle.civl_cdcl.specs.Levels.{AreBefore}
 use Rattle.civl_cdcl.specs.Analysis.{Negates, ReachSays, LearnSays}
-use Rattle.civl_cdcl.proofs.Teaching.{learned_by, clause_placed}
+use Rattle.civl_cdcl.proofs.Teaching.{learned_by, clause_placed, reach_low}
 use Rattle.civl_cdcl.proofs.analysis.teach.Goals as goal
 
 pub reach-limit-requires : goal.reach-limit-requires
@@ -13,14 +14,25 @@ reach-limit-requires c =
     subst (λ (p : List ℕ). All (λ (l : Literal). l.variable < length p) c.as_slice.result.now) (sym c.places.ensures)
     (subst (All (λ (l : Literal). l.variable < length t.places)) (sym c.as_slice.ensures.value) (clause_placed t c.args.clauses.now c.analyse.new.seen lits c.requires.trail negates))
 
+pub levels_below-levels-requires-clause-some : goal.levels_below-levels-requires-clause-some
+levels_below-levels-requires-clause-some c = subst (λ (s : List ℕ). 0 < length s) (sym c.starts.ensures) c.requires.start.0
+
+pub levels_below-levels-requires-clause-last : goal.levels_below-levels-requires-clause-last
+levels_below-levels-requires-clause-last c =
+    let t = c.args.trail.now in
+    subst (λ (s : List ℕ). c.reach-limit.result ≤ get_or s (length s - 1) 0) (sym c.starts.ensures)
+    (reach_low t.starts c.places.result.now c.as_slice.result.now c.args.start c.reach-limit.result c.requires.start c.reach-limit.ensures)
+
 pub returns : goal.returns
 returns c =
     let t = c.args.trail.now in
     let clauses = c.args.clauses.now in
     let lits = c.in_ok-lits.lits.items in
+    let levels = c.levels_below-levels.result in
     let negates = subst (λ (m : List (Option Bool)). Negates m c.analyse.new.seen (length m) lits) c.marks.ensures c.in_ok-lits.ensures in
     let r : ReachSays t.places lits c.args.start c.reach-limit.result
     = subst (λ (p : List ℕ). ReachSays p lits c.args.start c.reach-limit.result) c.places.ensures
     (subst (λ (x : List Literal). ReachSays c.places.result.now x c.args.start c.reach-limit.result) c.as_slice.ensures.value c.reach-limit.ensures) in
-    subst (λ (x : List Literal). LearnSays t clauses x c.reach-limit.result) (sym (c.in_ok-clause.ensures ∙ c.as_slice-2.ensures.value))
-    (learned_by t clauses c.args.start c.analyse.new.seen lits c.reach-limit.result c.requires.trail c.requires.start c.analyse.ensures negates r)
+    let cuts : AreBefore t.starts c.reach-limit.result levels = subst (λ (s : List ℕ). AreBefore s c.reach-limit.result levels) c.starts.ensures c.levels_below-levels.ensures in
+    subst (λ (x : List Literal). LearnSays t clauses x levels) (sym (c.in_ok-clause.ensures ∙ c.as_slice-2.ensures.value))
+    (learned_by t clauses c.args.start c.analyse.new.seen lits c.reach-limit.result levels c.requires.trail c.requires.start c.analyse.ensures negates r cuts)

@@ -1,7 +1,7 @@
 use Rattle.std.proofs.Common.{arith, ◌-◌, sym, ◌∙◌, subst, length, ◌≡◌, ◌<◌, ◌≤◌, true, false, ℕ, List}
 use Rattle.std.specs.Prelude.{All, IsTrue}
-use Rattle.civl_cdcl.specs.Trail.{ReasonSays, before}
-use Rattle.civl_cdcl.specs.declared.trail.Step.{Step}
+use Rattle.civl_propagation.specs.Trail.{ReasonSays, before}
+use Rattle.civl_propagation.specs.declared.trail.Step.{Step}
 use Rattle.civl_cdcl.specs.Analysis.{IsUnseen, Resolves, sees}
 use Rattle.civl_cdcl.proofs.Analysing.{at_walk, step_at, reason_at, steps_within, clause_within, analyses_skip, analyses_resolve, one_left, decided_last}
 use Rattle.civl_cdcl.proofs.analysis.walk.Goals as goal
@@ -44,7 +44,7 @@ returns-then-not-any_seen c =
     let seen = subst (λ (v : ℕ). IsTrue (sees c.loop-seen.seen v)) c.variable-variable.ensures.is c.if-seen-variable.true in
     let unseen : IsUnseen t.steps c.loop-seen.seen c.args.start at
     = subst (λ (x : List Step). IsUnseen x c.loop-seen.seen c.args.start at) c.steps.ensures (c.any_seen.ensures c.if-not-any_seen.true) in
-    one_left t.marks t.places t.steps t.starts clauses 0 c.args.start at c.step-step.result c.loop-seen.seen (c.requires.trail 0) c.step-step.ensures step seen level unseen w.1
+    one_left t.marks t.places t.steps t.starts clauses c.args.start at c.step-step.result c.loop-seen.seen c.requires.trail c.step-step.ensures step seen level unseen w.1
 
 pub returns-in-None : goal.returns-in-None
 returns-in-None c =
@@ -58,12 +58,12 @@ returns-in-None c =
     let seen = subst (λ (v : ℕ). IsTrue (sees c.loop-seen.seen v)) c.variable-variable.ensures.is c.if-seen-variable.true in
     let says = reason_at t clauses at c.step-step.result c.requires.trail low c.step-step.ensures in
     let reason = subst (ReasonSays (before t.marks t.places at) clauses t.starts at c.step-step.result.lit) c.in-None.is says in
-    let top : at ≤ c.args.start = decided_last 0 t.marks t.places t.steps t.starts clauses c.args.start at (c.requires.trail 0) c.requires.start reason in
+    let top : at ≤ c.args.start = decided_last t.marks t.places t.steps t.starts clauses c.args.start at c.requires.trail c.requires.start reason in
     let unseen : IsUnseen t.steps c.loop-seen.seen c.args.start at = λ k d a b. absurd (omega arith) in
-    one_left t.marks t.places t.steps t.starts clauses 0 c.args.start at c.step-step.result c.loop-seen.seen (c.requires.trail 0) c.step-step.ensures step seen level unseen w.1
+    one_left t.marks t.places t.steps t.starts clauses c.args.start at c.step-step.result c.loop-seen.seen c.requires.trail c.step-step.ensures step seen level unseen w.1
 
-pub lits-requires : goal.lits-requires
-lits-requires c =
+pub lits_of-requires : goal.lits_of-requires
+lits_of-requires c =
     let t = c.args.trail.now in
     let clauses = c.args.clauses.now in
     let at = c.loop-seen.at - 1 in
@@ -80,7 +80,7 @@ resolve-requires-clause-clause c =
     let w = at_walk t clauses c.args.start c.loop-seen.at c.loop-seen.seen c.requires.trail c.requires.start c.loop-seen.invariant.seen in
     let says = reason_at t clauses at c.step-step.result c.requires.trail (omega (arith, w.0)) c.step-step.ensures in
     let reason = subst (ReasonSays (before t.marks t.places at) clauses t.starts at c.step-step.result.lit) c.in-Some.is says in
-    clause_within (length c.loop-seen.seen) (length t.marks) clauses c.in-Some.reason c.lits.result.now c.loop-seen.invariant.seen.size c.requires.below reason.0 c.lits.ensures
+    clause_within (length c.loop-seen.seen) (length t.marks) clauses c.in-Some.reason c.lits_of.result.now c.loop-seen.invariant.seen.size c.requires.below reason.0 c.lits_of.ensures
 
 pub loop-seen-preserved-in-Some : goal.loop-seen-preserved-in-Some
 loop-seen-preserved-in-Some c =
@@ -92,10 +92,10 @@ loop-seen-preserved-in-Some c =
     let step = step_at t clauses at c.step-step.result c.requires.trail low c.step-step.ensures in
     let says = reason_at t clauses at c.step-step.result c.requires.trail low c.step-step.ensures in
     let reason = subst (ReasonSays (before t.marks t.places at) clauses t.starts at c.step-step.result.lit) c.in-Some.is says in
-    let resolved = subst (λ (v : ℕ). Resolves c.loop-seen.seen c.resolve.new.seen c.lits.result.now v) c.variable-variable.ensures.is c.resolve.ensures in
+    let resolved = subst (λ (v : ℕ). Resolves c.loop-seen.seen c.resolve.new.seen c.lits_of.result.now v) c.variable-variable.ensures.is c.resolve.ensures in
     record {
       top = omega arith;
-      seen = analyses_resolve t.marks t.places t.steps t.starts clauses 0 at c.step-step.result.lit c.lits.result.now c.loop-seen.seen _ c.in-Some.reason (c.requires.trail 0) step reason c.lits.ensures resolved w.1;
+      seen = analyses_resolve t.marks t.places t.steps t.starts clauses at c.step-step.result.lit c.lits_of.result.now c.loop-seen.seen _ c.in-Some.reason c.requires.trail step reason c.lits_of.ensures resolved w.1;
     }
 
 pub loop-seen-smaller : goal.loop-seen-smaller
@@ -111,7 +111,7 @@ loop-seen-preserved c =
     let w = at_walk t clauses c.args.start c.loop-seen.at c.loop-seen.seen c.requires.trail c.requires.start c.loop-seen.invariant.seen in
     record {
       top = omega arith;
-      seen = analyses_skip t.marks t.places t.steps t.starts clauses 0 at c.step-step.result c.loop-seen.seen (c.requires.trail 0) c.step-step.ensures (λ h.
+      seen = analyses_skip t.marks t.places t.steps t.starts clauses at c.step-step.result c.loop-seen.seen c.requires.trail c.step-step.ensures (λ h.
           let here = subst (λ (v : ℕ). IsTrue (sees c.loop-seen.seen v)) (sym c.variable-variable.ensures.is) h in
           let unseen : false ≡ true = sym c.if-seen-variable.false ∙ here in cc) w.1;
     }

@@ -1,19 +1,18 @@
-use Rattle.std.proofs.Common.{◌≡◌, ◌≤◌, ◌<◌, ◌-◌, ◌++◌, length}
-use Rattle.std.specs.Prelude.{All}
+use Rattle.std.proofs.Common.{◌≡◌, ◌≤◌, ◌-◌, ◌++◌, length}
+use Rattle.civl_cnf.specs.ClauseSet.{AreBelow}
+use Rattle.civl_propagation.specs.Engine.{EndsBy}
 use Rattle.civl_cdcl.specs.Outcome.{HaveLearned}
-use Rattle.civl_cdcl.specs.Propagation.{IsSearch, IsDue}
 use Rattle.civl_cdcl.proofs.solving.search.Given as goal
 
-abbrev pub invariant-loop-log : goal.invariant-loop-log
-invariant-loop-log l = record {
-  size : length l.trail.marks ≡ l.cnf.variables;
-  search : IsSearch l.trail l.occurrences (l.cnf.clauses ++ l.log);
+abbrev pub invariant-turns : goal.invariant-turns
+invariant-turns l = record {
+  size : length l.engine.trail.marks ≡ l.cnf.variables;
+  below : AreBelow l.cnf.variables l.cnf.clauses;
+  clauses : l.engine.clauses ≡ l.cnf.clauses ++ l.log;
+  ends : EndsBy l.engine l.ended;
   learned : HaveLearned l.cnf l.log (length l.log);
   few : length l.log ≤ l.budget;
-  numbers : All (λ i. i < length (l.cnf.clauses ++ l.log)) l.due.items;
-  from : l.from ≤ length l.trail.steps;
-  due : IsDue l.trail (l.cnf.clauses ++ l.log) l.due.items l.from;
 }
 
-abbrev pub decreases-loop-log : goal.decreases-loop-log
-decreases-loop-log l = l.budget - length l.log
+abbrev pub decreases-turns : goal.decreases-turns
+decreases-turns l = l.budget - length l.log
