@@ -1,11 +1,6 @@
 pub mod Scoping
-pub mod Lists
 pub mod Widths
-pub mod NameKeys
-pub mod Repeats
 pub mod Slots
 pub mod Powers
 pub mod Answering
 pub mod Telling
-pub mod Declaring
-pub mod Declares

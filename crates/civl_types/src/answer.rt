@@ -2,26 +2,23 @@
 ghost use Rattle.std.specs.Prelude.{◌≡◌, [], ◌∷◌, IfOk, IfErr};
 ghost use Rattle.civl_tree.specs.Numbered.{IsNumbered};
 ghost use Rattle.civl_tree.specs.rules.Rules.{refusal_by, Keeps};
-ghost use Rattle.civl_tree.specs.rules.Typing.{typing_rules, unknown_rule, count_rule, width_rule, sort_rule, index_rule, arity_rule, store_size_rule};
+ghost use Rattle.civl_tree.specs.rules.Typing.{typing_rules, count_rule, width_rule, sort_rule, index_rule, arity_rule, store_size_rule};
 ghost use Rattle.civl_tree.specs.rules.Broken.{IsRefusal};
 ghost use Rattle.civl_types.specs.Checked.{IsCause, IsFirstCause};
 
-use crate::declare::first_twice;
 use crate::rule::TypingRule;
 use crate::typed::Typed;
+use civl_names::first_misnamed;
 use civl_tree::{Memory, Program, Refusal, Refused};
 use civl_walks::first_broken;
 use std::alloc::Global;
 
-/// The refusal of the first of the rules E11 to E24 that is broken.
+/// The refusal of the first of the rules E12 to E24 that is broken.
 #[tactic(auto, using(civl_walks::proofs::Placing::of_rules))]
 fn first_of_rules(program: &Program) -> Option<Refusal>
     requires { IsNumbered program.now }
-    ensures { result ≡ refusal_by (unknown_rule ∷ count_rule ∷ width_rule ∷ sort_rule ∷ index_rule ∷ arity_rule ∷ store_size_rule ∷ []) program.now }
+    ensures { result ≡ refusal_by (count_rule ∷ width_rule ∷ sort_rule ∷ index_rule ∷ arity_rule ∷ store_size_rule ∷ []) program.now }
 {
-    if let Some(refusal) = first_broken(&TypingRule::Unknown, program) {
-        return Some(refusal);
-    }
     if let Some(refusal) = first_broken(&TypingRule::Count, program) {
         return Some(refusal);
     }
@@ -52,7 +49,7 @@ pub fn refusal(alloc: Global, program: &Program) -> Result<Option<Refusal>, Memo
     ensures same { IfOk result (λ refusal. refusal ≡ refusal_by typing_rules program.now) }
     ensures first { IfOk result (λ refusal. IsRefusal typing_rules program.now refusal) }
 {
-    if let Some(refusal) = first_twice(alloc, program)? {
+    if let Some(refusal) = first_misnamed(alloc, program)? {
         return Ok(Some(refusal));
     }
     Ok(first_of_rules(program))

@@ -1,5 +1,5 @@
 // Numbers of arguments, results and updates (E23), and the sorts of results (a part of E21).
-ghost use Rattle.std.specs.Prelude.{◌≡◌, ◌||◌, length, not, nat_eq, option_copied};
+ghost use Rattle.std.specs.Prelude.{◌≡◌, ◌||◌, map, length, not, nat_eq, option_copied};
 ghost use Rattle.std.specs.List.{list_any};
 ghost use Rattle.civl_tree.specs.rules.Names.{has_name, param_names, targets_of, action_named, callee_signature};
 ghost use Rattle.civl_tree.specs.rules.Arity.{differs_in_length, action_arity, with_arity, refines_arity, call_arity, thread_arity, stmt_arity};
@@ -9,13 +9,12 @@ ghost use Rattle.civl_tree.specs.declared.stmt.Stmt.{out-Stmt};
 ghost use Rattle.civl_types.specs.Rules.{any_use};
 ghost use Rattle.civl_types.specs.Views.{signature_of};
 
-use crate::named::is_named;
-use crate::names::{Signature, action_named, callee_signature, proc_named};
+use crate::names::{Signature, action_named, callee_signature, proc_named, same_name};
 use crate::rule::TypingRule;
 use crate::sorts::same_sort;
 use crate::uses::stmt_uses_break;
 use crate::view::place_sort;
-use civl_tree::{Action, Expr, List, Name, Param, Proc, Program, Sort, Stmt};
+use civl_tree::{Action, Expr, List, Name, Param, Proc, Program, Sort, Stmt, Update};
 
 /// Whether an action breaks E23: an output has no update.
 pub(crate) fn action_arity(action: &Action) -> bool
@@ -24,11 +23,22 @@ pub(crate) fn action_arity(action: &Action) -> bool
     outs_arity(action, action.outs.as_slice())
 }
 
+fn is_updated(updates: &[Update], name: &Name) -> bool
+    ensures { result ≡ has_name (map (λ update. update.target) updates.now) name.now }
+{
+    for update in updates {
+        if same_name(name, &update.target) {
+            return true;
+        }
+    }
+    false
+}
+
 fn outs_arity(action: &Action, outs: &[Param]) -> bool
     ensures { result ≡ list_any (λ out. not (has_name (targets_of action.now) out)) (param_names outs.now) }
 {
     for out in outs {
-        if !is_named(action.updates.as_slice(), &out.name) {
+        if !is_updated(action.updates.as_slice(), &out.name) {
             return true;
         }
     }

@@ -92,7 +92,7 @@ fn locals_width(program: &Program, locals: &[Local]) -> bool
 }
 
 /// Whether an action breaks E20.
-#[tactic(auto, using(crate::proofs::Lists::any_append))]
+#[tactic(auto, using(civl_names::proofs::Lists::any_append))]
 pub(crate) fn action_width(program: &Program, action: &Action) -> bool
     ensures { result ≡ action_width program.now action.now }
 {
@@ -103,7 +103,7 @@ pub(crate) fn action_width(program: &Program, action: &Action) -> bool
 }
 
 /// Whether a procedure breaks E20, outside its statements.
-#[tactic(auto, using(crate::proofs::Lists::any_append))]
+#[tactic(auto, using(civl_names::proofs::Lists::any_append))]
 pub(crate) fn proc_width(program: &Program, proc: &Proc) -> bool
     ensures { result ≡ proc_width program.now proc.now }
 {
@@ -142,7 +142,7 @@ fn locals_index(locals: &[Local]) -> bool
 }
 
 /// Whether an action breaks E22.
-#[tactic(auto, using(crate::proofs::Lists::any_append))]
+#[tactic(auto, using(civl_names::proofs::Lists::any_append))]
 pub(crate) fn action_index(program: &Program, action: &Action) -> bool
     ensures { result ≡ action_index program.now action.now }
 {
@@ -153,7 +153,7 @@ pub(crate) fn action_index(program: &Program, action: &Action) -> bool
 }
 
 /// Whether a procedure breaks E22, outside its statements.
-#[tactic(auto, using(crate::proofs::Lists::any_append))]
+#[tactic(auto, using(civl_names::proofs::Lists::any_append))]
 pub(crate) fn proc_index(program: &Program, proc: &Proc) -> bool
     ensures { result ≡ proc_index program.now proc.now }
 {

@@ -1,6 +1,6 @@
 // What the rules ask of one expression beside its sort.
 ghost use Rattle.std.specs.Prelude.{◌≡◌, ◌^◌, ◌≤◌};
-ghost use Rattle.civl_tree.specs.rules.Exprs.{names_known, is_width, literal_fits, slice_in_range, widen_in_range, joined_in_range, join_in_range, widths_fit, is_index, indices_fit};
+ghost use Rattle.civl_tree.specs.rules.Exprs.{is_width, literal_fits, slice_in_range, widen_in_range, joined_in_range, join_in_range, widths_fit, is_index, indices_fit};
 ghost use Rattle.civl_types.specs.Views.{scope_of};
 ghost use Rattle.civl_types.specs.Judging.{judge, judge_one, judge_two, judge_pick, judge_get, judge_set, judge_fill, judge_slice, judge_widen, judge_join};
 
@@ -10,30 +10,6 @@ use crate::sorts::{
 };
 use crate::view::{View, name_sort, old_sort};
 use civl_tree::{Expr, One, Sort, Two};
-
-/// Whether all names of an expression are in scope at a place.
-pub(crate) fn names_known(view: &View, expr: &Expr) -> bool
-    ensures { result ≡ names_known (scope_of view.now) expr.now }
-{
-    match expr {
-        Expr::Name(name) => name_sort(view, name).is_some(),
-        Expr::Old(name) => old_sort(view, name).is_some(),
-        Expr::Literal(_, _) | Expr::True | Expr::False | Expr::Done | Expr::OldDone => true,
-        Expr::One(_, part) => names_known(view, part),
-        Expr::Two(_, first, second) => names_known(view, first) && names_known(view, second),
-        Expr::Pick(test, first, second) => names_known(view, test)
-            && names_known(view, first)
-            && names_known(view, second),
-        Expr::Get(row, at) => names_known(view, row) && names_known(view, at),
-        Expr::Set(row, at, cell) => names_known(view, row)
-            && names_known(view, at)
-            && names_known(view, cell),
-        Expr::Fill(_, cell) => names_known(view, cell),
-        Expr::Slice(word, _, _) => names_known(view, word),
-        Expr::Widen(word, _) => names_known(view, word),
-        Expr::Join(first, second) => names_known(view, first) && names_known(view, second),
-    }
-}
 
 /// Whether a word or a cell may have so many bits.
 pub(crate) fn is_width(width: u32) -> bool

@@ -12,7 +12,6 @@ use crate::declared::{
 };
 use crate::names::proc_named;
 use crate::rule::TypingRule;
-use crate::unknown::{action_unknown, proc_unknown, stmt_unknown, thread_unknown};
 use crate::uses::{
     action_uses_break, init_uses_break, invariant_uses_break, stmt_uses_break, thread_uses_break,
     with_uses_break,
@@ -33,7 +32,6 @@ impl<'a> Test for OfStatement<'a> {
 
     fn breaks(&self, stmt: &Stmt) -> bool {
         match self.rule {
-            TypingRule::Unknown => stmt_unknown(self.program, self.proc, stmt),
             TypingRule::Width => stmt_uses_break(TypingRule::Width, self.program, self.proc, stmt),
             TypingRule::Sorts => stmt_missorted(self.program, self.proc, stmt),
             TypingRule::Index => stmt_uses_break(TypingRule::Index, self.program, self.proc, stmt),
@@ -48,7 +46,6 @@ impl Decides for TypingRule {
 
     fn code(&self) -> u32 {
         match *self {
-            TypingRule::Unknown => 11,
             TypingRule::Count => 12,
             TypingRule::Width => 20,
             TypingRule::Sorts => 21,
@@ -61,8 +58,7 @@ impl Decides for TypingRule {
     fn header(&self, program: &Program) -> bool {
         match *self {
             TypingRule::Count => header_count(program),
-            TypingRule::Unknown
-            | TypingRule::Width
+            TypingRule::Width
             | TypingRule::Sorts
             | TypingRule::Index
             | TypingRule::Arity
@@ -76,13 +72,12 @@ impl Decides for TypingRule {
             TypingRule::Width => global_width(program, global),
             TypingRule::Index => sort_index(global.sort),
             TypingRule::StoreSize => global_store_size(program, place, global),
-            TypingRule::Unknown | TypingRule::Sorts | TypingRule::Arity => false,
+            TypingRule::Sorts | TypingRule::Arity => false,
         }
     }
 
     fn init(&self, program: &Program) -> bool {
         match *self {
-            TypingRule::Unknown => init_uses_break(TypingRule::Unknown, program),
             TypingRule::Width => init_uses_break(TypingRule::Width, program),
             TypingRule::Sorts => init_uses_break(TypingRule::Sorts, program),
             TypingRule::Index => init_uses_break(TypingRule::Index, program),
@@ -92,7 +87,6 @@ impl Decides for TypingRule {
 
     fn invariant(&self, program: &Program, place: usize, invariant: &Invariant) -> bool {
         match *self {
-            TypingRule::Unknown => invariant_uses_break(TypingRule::Unknown, program, invariant),
             TypingRule::Count => passes_limit(INVARIANTS, place),
             TypingRule::Width => invariant_uses_break(TypingRule::Width, program, invariant),
             TypingRule::Sorts => invariant_uses_break(TypingRule::Sorts, program, invariant),
@@ -103,7 +97,6 @@ impl Decides for TypingRule {
 
     fn action(&self, program: &Program, place: usize, action: &Action) -> bool {
         match *self {
-            TypingRule::Unknown => action_unknown(program, action),
             TypingRule::Count => action_count(place, action),
             TypingRule::Width => action_width(program, action),
             TypingRule::Sorts => action_uses_break(TypingRule::Sorts, program, action),
@@ -115,7 +108,6 @@ impl Decides for TypingRule {
 
     fn proc(&self, program: &Program, place: usize, proc: &Proc) -> bool {
         match *self {
-            TypingRule::Unknown => proc_unknown(program, proc),
             TypingRule::Count => proc_count(program, place, proc),
             TypingRule::Width => proc_width(program, proc),
             TypingRule::Sorts => with_uses_break(TypingRule::Sorts, program, proc),
@@ -136,7 +128,6 @@ impl Decides for TypingRule {
 
     fn thread(&self, program: &Program, place: usize, thread: &Thread) -> bool {
         match *self {
-            TypingRule::Unknown => thread_unknown(program, thread),
             TypingRule::Count => passes_limit(THREADS, place),
             TypingRule::Width => thread_uses_break(TypingRule::Width, program, thread),
             TypingRule::Sorts => thread_uses_break(TypingRule::Sorts, program, thread),

@@ -7,7 +7,7 @@ ghost use Rattle.civl_types.specs.Views.{scope_of, signature_of};
 ghost use Rattle.civl_tree.specs.rules.Uses.{taken_sorts, chosen_sorts};
 ghost use Rattle.civl_tree.specs.rules.Names.{action_named};
 
-use crate::exprs::{indices_fit, names_known, widths_fit};
+use crate::exprs::{indices_fit, widths_fit};
 use crate::names::{Signature, action_named, callee_signature, proc_signature};
 use crate::rule::TypingRule;
 use crate::sorts::{same_sort, sort_of};
@@ -62,7 +62,6 @@ pub(crate) fn use_breaks(rule: TypingRule, view: &View, expr: &Expr, wanted: Wan
     ensures { result ≡ use_breaks rule (record { scope = scope_of view.now; expression = expr.now; need = need_for wanted }) }
 {
     match rule {
-        TypingRule::Unknown => !names_known(view, expr),
         TypingRule::Width => !widths_fit(view, expr),
         TypingRule::Sorts => !serves(sort_of(view, expr), wanted),
         TypingRule::Index => !indices_fit(expr),
@@ -146,7 +145,7 @@ fn updates_break(rule: TypingRule, program: &Program, action: &Action, updates: 
 }
 
 /// Whether an expression of an action breaks a rule of expressions.
-#[tactic(auto, using(crate::proofs::Lists::any_append))]
+#[tactic(auto, using(civl_names::proofs::Lists::any_append))]
 pub(crate) fn action_uses_break(rule: TypingRule, program: &Program, action: &Action) -> bool
     ensures { result ≡ any_use rule (action_uses program.now action.now) }
 {

@@ -1,0 +1,10 @@
+pub mod Lists
+pub mod NameKeys
+pub mod Repeats
+pub mod Declaring
+pub mod Declares
+pub mod Answering
+pub mod Same
+pub mod Strangers
+pub mod Parts
+pub mod Telling

@@ -1,9 +1,0 @@
-use Rattle.std.proofs.Common.{◌≡◌, ◌++◌, take, map, false}
-use Rattle.civl_tree.specs.rules.Names.{any_twice}
-use Rattle.civl_types.specs.NameSets.{names_in}
-use Rattle.civl_types.proofs.named.add_all.Given as goal
-
-abbrev pub invariant-loop-item : goal.invariant-loop-item
-invariant-loop-item g l =
-    (names_in l.set ≡ names_in l.fn.set ++ map g.T.Named.name_of (take l.item-index l.items))
-    × (any_twice (names_in l.set) ≡ false)
