@@ -1,5 +1,5 @@
 -- The first refusal: of the rules on names, then of the others.
-use Rattle.std.proofs.Common.{◌≡◌, List, [], ◌∷◌, ◌++◌, Some, refl, sym, ap, ◌∙◌, subst}
+use Rattle.std.proofs.Common.{◌≡◌, List, [], ◌∷◌, ◌++◌, None, Some, sym, ap, ◌∙◌, subst}
 use Rattle.std.specs.Prelude.{Option}
 use Rattle.std.proofs.lemmas.List.{append_assoc, append-nil}
 use Rattle.civl_tree.specs.declared.program.Program.{Program}
@@ -29,8 +29,10 @@ names_first program =
 pub is_answer : (program : Program) (refusal : Option Refusal) → refusal ≡ refusal_by typing_rules program → IsRefusal typing_rules program refusal
 is_answer program refusal e = subst (IsRefusal typing_rules program) (sym e) (first_is_answer typing_rules program typing_in_order)
 
--- where a rule on names is broken, that comes first
+-- where none on names is broken, the others are asked
+pub others_are_next : (program : Program) → refusal_by name_rules program ≡ None → refusal_by other_rules program ≡ refusal_by typing_rules program
+others_are_next program e = sym (names_first program ∙ ap (λ (o : Option Refusal). or_first o (refusal_by other_rules program)) e)
+
+-- where one is broken, that comes first
 pub names_are_first : (program : Program) (refusal : Refusal) → Some refusal ≡ refusal_by name_rules program → Some refusal ≡ refusal_by typing_rules program
 names_are_first program refusal e = sym (names_first program ∙ ap (λ (o : Option Refusal). or_first o (refusal_by other_rules program)) (sym e))
-
-pub ruleset answering = (names_first, is_answer)

@@ -43,7 +43,6 @@ fn first_of_rules(program: &Program) -> Option<Refusal>
 /// # Errors
 ///
 /// For want of memory: the names that a program declares are kept in sets, which take memory in proportion to their number.
-#[tactic(auto, using(crate::proofs::Answering::answering))]
 pub fn refusal(alloc: Global, program: &Program) -> Result<Option<Refusal>, Memory>
     requires { IsNumbered program.now }
     ensures same { IfOk result (λ refusal. refusal ≡ refusal_by typing_rules program.now) }
