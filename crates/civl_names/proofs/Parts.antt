@@ -1,23 +1,20 @@
 -- The first place at which E11 is broken, kind by kind.
-use Rattle.std.proofs.Common.{◌≡◌, ℕ, ◌+◌, Bool, true, false, List, [], ◌∷◌, ◌++◌, map, length, None, Some, refl, sym, ap, ap₂, ◌∙◌, subst}
+use Rattle.std.proofs.Common.{◌≡◌, ℕ, Bool, List, [], ◌∷◌, ◌++◌, map, refl, sym, ap, ap₂, ◌∙◌}
 use Rattle.std.specs.Prelude.{Option}
 use Rattle.std.proofs.lemmas.List.{map-append}
-use Rattle.civl_tree.specs.declared.action.Action.{Action}
-use Rattle.civl_tree.specs.declared.program.Invariant.{Invariant}
 use Rattle.civl_tree.specs.declared.program.Proc.{Proc}
-use Rattle.civl_tree.specs.declared.program.Thread.{Thread}
 use Rattle.civl_tree.specs.declared.program.Program.{Program}
 use Rattle.civl_tree.specs.declared.refusal.Refusal.{Refusal}
 use Rattle.civl_tree.specs.Numbering.{init_item, invariant_item, action_item, proc_item, thread_item, statements_of}
 use Rattle.civl_tree.specs.rules.Codes.{E11}
-use Rattle.civl_tree.specs.rules.Rules.{Rule, Place, item_place, statement_places, each_place, global_places, invariant_places, action_places, proc_places, thread_places, places_of, refusal_at, refusals_of, first_of}
+use Rattle.civl_tree.specs.rules.Rules.{Rule, Place, item_place, statement_places, each_place, invariant_places, action_places, proc_places, thread_places, places_of, refusal_at, refusals_of, first_of}
 use Rattle.civl_tree.specs.rules.Typing.{unknown_rule}
 use Rattle.civl_tree.specs.rules.Unknown.{stmt_unknown}
 use Rattle.std.specs.Option.{option_or}
 use Rattle.civl_tree.specs.declared.name.Name.{Name}
 use Rattle.civl_tree.specs.rules.Names.{global_names, action_names, proc_names}
 use Rattle.civl_walks.proofs.Placing.{no_globals}
-use Rattle.civl_names.specs.Strange.{Declared, declared_by, inner_names, global_strange, invariant_strange, action_strange, thread_strange, stmt_strange, strange_rule, first_strange}
+use Rattle.civl_names.specs.Strange.{Declared, declared_by, inner_names, global_strange, stmt_strange, strange_rule, first_strange}
 use Rattle.civl_names.proofs.Same.{numbers_same, each_same}
 use Rattle.civl_names.proofs.Strangers.{init_is, invariant_is, action_is, refines_is, stmt_is, thread_is}
 

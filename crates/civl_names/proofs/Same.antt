@@ -1,6 +1,6 @@
 -- What is the same of each part is the same of the whole.
-use Rattle.std.proofs.Common.{◌≡◌, ℕ, ◌+◌, Bool, true, false, List, [], ◌∷◌, ◌++◌, map, None, Some, refl, sym, ap, ap₂, ◌∙◌}
-use Rattle.std.specs.Prelude.{Option, cond, not, ◌||◌, if◌then◌else◌, is_none}
+use Rattle.std.proofs.Common.{◌≡◌, ℕ, ◌+◌, Bool, true, false, List, [], ◌∷◌, ◌++◌, map, None, Some, refl, ap₂}
+use Rattle.std.specs.Prelude.{cond, not, ◌||◌, if◌then◌else◌, is_none}
 use Rattle.std.specs.List.{list_any, find}
 use Rattle.civl_tree.specs.declared.stmt.Stmt.{Stmt}
 use Rattle.civl_tree.specs.rules.Codes.{E11}

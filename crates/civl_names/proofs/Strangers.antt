@@ -1,10 +1,10 @@
 -- Rule E11 by the names alone.
-use Rattle.std.proofs.Common.{◌≡◌, ℕ, ◌+◌, Bool, true, false, List, [], ◌∷◌, ◌++◌, map, None, Some, refl, sym, ap, ap₂, ◌∙◌, subst}
-use Rattle.std.specs.Prelude.{Option, not, ◌||◌, ◌&&◌, if◌then◌else◌, is_none, is_some}
+use Rattle.std.proofs.Common.{◌≡◌, ℕ, Bool, true, false, List, [], ◌∷◌, ◌++◌, map, None, Some, refl, sym, ap, ap₂, ◌∙◌, subst}
+use Rattle.std.specs.Prelude.{Option, not, ◌||◌, if◌then◌else◌, is_none, is_some}
 use Rattle.std.specs.List.{list_any}
 use Rattle.civl_tree.specs.declared.name.Name.{Name}
 use Rattle.civl_tree.specs.declared.expr.Sort.{Sort}
-use Rattle.civl_tree.specs.declared.expr.Expr.{Expr, roll-Expr, map-Expr}
+use Rattle.civl_tree.specs.declared.expr.Expr.{Expr, map-Expr}
 use Rattle.civl_tree.specs.declared.expr.Expr.TheOpen as expr
 use Rattle.civl_tree.specs.declared.expr.Expr.TheFolds.{fold-roll-Expr, ind-Expr}
 use Rattle.civl_tree.specs.declared.stmt.Stmt.{Stmt, out-Stmt}

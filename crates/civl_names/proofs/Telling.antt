@@ -31,7 +31,7 @@ module _ (declared : Declared) (action : Action) (outs : List Name) (o : outs �
         → guard_strange (declared.globals ++ names) (declared.globals ++ outs) action ≡ action_strange declared action
     guard_last names n t g =
         let guard : guard_strange (declared.globals ++ names) (declared.globals ++ outs) action
-            ≡ guard_strange (declared.globals ++ with_names (set_of (param_names action.params)) (choice_names action)) (declared.globals ++ set_of (param_names action.outs)) action =
+        ≡ guard_strange (declared.globals ++ with_names (set_of (param_names action.params)) (choice_names action)) (declared.globals ++ set_of (param_names action.outs)) action =
         ap₂ (λ (ns os : List Name). guard_strange (declared.globals ++ ns) (declared.globals ++ os) action) (n ∙ ap (λ (ns : List Name). with_names ns (choice_names action)) p) o in
         let gate : gate_strange (declared.globals ++ set_of (param_names action.params)) (declared.globals ++ set_of (param_names action.outs)) action ≡ false =
         ap₂ (λ (ns os : List Name). gate_strange (declared.globals ++ ns) (declared.globals ++ os) action) (sym p) (sym o) ∙ g in

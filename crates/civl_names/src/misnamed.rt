@@ -17,11 +17,7 @@ use civl_walks::first_in_procs;
 use std::alloc::Global;
 
 /// The refusal of the first item in which there is a name that isn't one of these, as what is needed.
-fn first_strange(
-    alloc: Global,
-    sets: &Sets,
-    program: &Program,
-) -> Result<Option<Refusal>, Memory>
+fn first_strange(alloc: Global, sets: &Sets, program: &Program) -> Result<Option<Refusal>, Memory>
     requires { IsNumbered program.now }
     ensures { IfOk result (λ first. first ≡ first_strange (declared_in sets.now) program.now) }
 {
@@ -46,11 +42,7 @@ fn first_strange(
 }
 
 /// The refusal of the first place at which E11 is broken, where these are the names that the program declares.
-fn first_unknown(
-    alloc: Global,
-    sets: &Sets,
-    program: &Program,
-) -> Result<Option<Refusal>, Memory>
+fn first_unknown(alloc: Global, sets: &Sets, program: &Program) -> Result<Option<Refusal>, Memory>
     requires numbered { IsNumbered program.now }
     requires globals { names_in sets.now.globals.now ≡ global_names program.now.globals }
     requires actions { names_in sets.now.actions.now ≡ action_names program.now.actions }

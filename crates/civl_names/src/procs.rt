@@ -35,20 +35,14 @@ fn own_names<'a>(alloc: Global, proc: &'a Proc) -> Result<Own<'a>, Memory>
 fn body_unknown(names: &InProc, expr: &Expr) -> bool
     ensures { result ≡ body_strange (inner_in names.now) expr.now }
 {
-    !all_known(
-        &Scope::Body(names.declared.globals, names.own),
-        expr,
-    )
+    !all_known(&Scope::Body(names.declared.globals, names.own), expr)
 }
 
 /// The same where globals may stand.
 fn note_unknown(names: &InProc, expr: &Expr) -> bool
     ensures { result ≡ note_strange (inner_in names.now) expr.now }
 {
-    !all_known(
-        &Scope::Note(names.declared.globals, names.own),
-        expr,
-    )
+    !all_known(&Scope::Note(names.declared.globals, names.own), expr)
 }
 
 fn arguments_unknown(names: &InProc, args: &List<Expr>) -> bool

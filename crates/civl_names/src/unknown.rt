@@ -43,8 +43,10 @@ impl Judged for Thread {
     ghost unknown = { thread_strange };
 
     fn is_unknown(&self, _alloc: Global, sets: &Sets) -> Result<bool, Memory> {
-        Ok(!sets.procs.has(&self.callee)
-            || any_strange(&Scope::Globals(sets.globals), self.args.as_slice()))
+        Ok(
+            !sets.procs.has(&self.callee)
+                || any_strange(&Scope::Globals(sets.globals), self.args.as_slice()),
+        )
     }
 }
 
@@ -93,7 +95,9 @@ fn gate_unknown(scope: &Scope, action: &Action) -> bool
 fn offers_unknown(scope: &Scope, choices: &[Choice]) -> bool
     ensures { result ≡ list_any (λ choice. not (all_known (names_of scope.now) (olds_of scope.now) choice.offer)) choices.now }
 {
-    choices.iter().any(|choice| !all_known(scope, &choice.offer))
+    choices
+        .iter()
+        .any(|choice| !all_known(scope, &choice.offer))
 }
 
 /// Whether a name of the guard or of an update's value isn't in scope.

@@ -15,6 +15,6 @@ returns c =
     let invariants = moved (invariant_strange declared) (c.len-init.result + 1) (init_item program + 1) c.as_slice.result.now program.invariants (ap (λ (n : ℕ). n + 1) c.len-init.ensures) c.as_slice.ensures in
     let actions = moved (action_strange declared) (c.len-init.result + 1 + c.len.result) (invariant_item program (length program.invariants)) c.as_slice-2.result.now program.actions before c.as_slice-2.ensures in
     let threads = moved (thread_strange declared) (c.len-init.result + 1 + c.len.result + c.len-2.result + c.len-3.result) (proc_item program (length program.procs)) c.as_slice-3.result.now program.threads
-        (ap₂ (λ (m n : ℕ). m + n) (ap₂ (λ (m n : ℕ). m + n) before c.len-2.ensures) c.len-3.ensures) c.as_slice-3.ensures in
+    (ap₂ (λ (m n : ℕ). m + n) (ap₂ (λ (m n : ℕ). m + n) before c.len-2.ensures) c.len-3.ensures) c.as_slice-3.ensures in
     c.in_ok-last.ensures ∙ threads
     ∙ sym (all_past _ _ _ _ _ (sym init) (sym invariants ∙ sym c.in_ok-refusal.ensures ∙ c.in_default.is) (sym actions ∙ sym c.in_ok-refusal-2.ensures ∙ c.in_default-2.is) (sym c.in_ok-refusal-3.ensures ∙ c.in_default-3.is))
