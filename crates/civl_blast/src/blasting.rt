@@ -11,17 +11,17 @@ ghost use Rattle.civl_blast.specs.Steps.{inputs_before, output_of, IsCircuit};
 use crate::inputs::{Inputs, bits_of_input, lay_out};
 use crate::steps::step;
 use crate::{Blasted, Memory};
-use civl_circuits::start;
-use civl_cnf::{Clause, Gates, Lit};
+use civl_circuits::{Circuit, start};
+use civl_cnf::{Clause, Lit};
 use civl_reach::marks;
 use civl_symbolic::Symbolic;
 use civl_terms::{Id, Terms};
 use std::alloc::Global;
 
-/// The gates of a term, and the literal of its truth value.
+/// The circuit of a term, and the literal of its truth value.
 #[derive(Drop)]
-struct Circuit {
-    gates: Gates,
+struct Truth {
+    gates: Circuit,
     output: Lit,
 }
 
@@ -42,7 +42,7 @@ fn gates_of(
     id: Id,
     marks: &[bool],
     count: u32,
-) -> Result<Circuit, Memory>
+) -> Result<Truth, Memory>
     requires within { id < length terms.now }
     requires truth { sort_at terms.now id ≡ Some sort.Bool }
     requires marking { IsMarking terms.now id 0 marks.now }
@@ -71,7 +71,7 @@ fn gates_of(
         table.push(made)?;
     }
     let output = output(one, &table[id]);
-    Ok(Circuit { gates, output })
+    Ok(Truth { gates, output })
 }
 
 /// Clauses that stand for a boolean term that reaches no row.
@@ -94,7 +94,7 @@ pub fn blast_flat(alloc: Global, terms: &Terms, id: Id) -> Result<Blasted, Memor
     let _count = terms.len();
     let marks = marks(alloc, terms, id)?;
     let Inputs { places, count } = lay_out(alloc, terms, id, marks.as_slice())?;
-    let Circuit { gates, output } = gates_of(alloc, terms, id, marks.as_slice(), count)?;
+    let Truth { gates, output } = gates_of(alloc, terms, id, marks.as_slice(), count)?;
     let mut cnf = gates.into_cnf();
     let unit = [output];
     let clause = Clause::from_slice(alloc, unit.as_slice())?;

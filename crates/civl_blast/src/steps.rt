@@ -5,7 +5,8 @@ ghost use Rattle.civl_circuits.specs.Circuits.{IsOne};
 ghost use Rattle.civl_blast.specs.Steps.{IsReady, NodeMade, StepMade};
 
 use crate::Memory;
-use civl_cnf::{Gates, Lit};
+use civl_circuits::Circuit;
+use civl_cnf::Lit;
 use civl_symbolic::{Symbolic, binary, constant, join, pick, slice, unary, variable, widen};
 use civl_terms::{Id, Node, Terms};
 use std::alloc::Global;
@@ -13,7 +14,7 @@ use std::alloc::Global;
 /// The symbolic value of a node, from those of the nodes before. A variable's bits are the clause variables from `first` on.
 #[tactic(auto, using(crate::proofs::Nodes::extending))]
 fn blast_node(
-    gates: &mut Gates,
+    gates: &mut Circuit,
     alloc: Global,
     one: Lit,
     first: u32,
@@ -66,7 +67,7 @@ fn blast_node(
 
 /// The symbolic value of a node where it is marked, and any other elsewhere.
 pub(crate) fn step(
-    gates: &mut Gates,
+    gates: &mut Circuit,
     alloc: Global,
     one: Lit,
     first: u32,

@@ -4,7 +4,7 @@ use Rattle.std.proofs.lemmas.Bool.{cases_eq, cases_Bool, eq-eqb, ne_eqb, and_fro
 use Rattle.std.proofs.lemmas.Nat.{pow_pos}
 use Rattle.civl_cnf.specs.Literal.{Literal, truth_of, opposite}
 use Rattle.civl_cnf.specs.ClauseSet.{ClauseSet}
-use Rattle.civl_cnf.specs.Gates.{IsGate, bit, xor}
+use Rattle.civl_cnf.specs.Gates.{bit, xor}
 use Rattle.civl_cnf.proofs.Extending.{extends_trans, extends_keeps, truth_of-opposite}
 use Rattle.civl_circuits.specs.Circuits.{number, MakesBit}
 use Rattle.civl_circuits.proofs.Numbers.{number-next, number-low}
@@ -34,7 +34,7 @@ same_bits true false p n m hn hm = equal_by (n + p * 1) (m + p * 0) n m false (�
 same_bits false true p n m hn hm = equal_by (n + p * 0) (m + p * 1) n m false (λ e. absurd (omega arith)) (λ e t. absurd cc)
 same_bits false false p n m hn hm = equal_by (n + p * 0) (m + p * 0) n m true (λ e. (omega arith, refl)) (λ e t. omega arith)
 
-pub equal_more : {f g m h : ClauseSet} {r d s : Literal} (a b : List Literal) (i : ℕ) (x y e : Literal) → MakesBit f g r (2 * i) (λ v. eqb (number v (take i a)) (number v (take i b))) → i < length a → i < length b → x ≡ get_or a i x → y ≡ get_or b i y → IsGate g m d (λ v. xor (truth_of v x) (truth_of v y)) → e ≡ opposite d → IsGate m h s (λ v. truth_of v r && truth_of v e) → MakesBit f h s (2 * (i + 1)) (λ v. eqb (number v (take (i + 1) a)) (number v (take (i + 1) b)))
+pub equal_more : {f g m h : ClauseSet} {r d s : Literal} (a b : List Literal) (i : ℕ) (x y e : Literal) → MakesBit f g r (2 * i) (λ v. eqb (number v (take i a)) (number v (take i b))) → i < length a → i < length b → x ≡ get_or a i x → y ≡ get_or b i y → MakesBit g m d 1 (λ v. xor (truth_of v x) (truth_of v y)) → e ≡ opposite d → MakesBit m h s 1 (λ v. truth_of v r && truth_of v e) → MakesBit f h s (2 * (i + 1)) (λ v. eqb (number v (take (i + 1) a)) (number v (take (i + 1) b)))
 equal_more {f} {g} {m} {h} {r} {d} {s} a b i x y e t ha hb ex ey differs ee k = record {
   extends = extends_trans t.extends (extends_trans differs.extends k.extends);
   variables = omega (arith, t.variables, differs.variables, k.variables);
@@ -49,7 +49,7 @@ equal_more {f} {g} {m} {h} {r} {d} {s} a b i x y e t ha hb ex ey differs ee k = 
       ∙ ap₂ eqb (sym (number-next v a i x ha ex)) (sym (number-next v b i y hb ey));
 }
 
-pub zero_more : {f g h : ClauseSet} {r s : Literal} (a : List Literal) (i : ℕ) (x e : Literal) → MakesBit f g r i (λ v. eqb (number v (take i a)) 0) → i < length a → x ≡ get_or a i x → e ≡ opposite x → IsGate g h s (λ v. truth_of v r && truth_of v e) → MakesBit f h s (i + 1) (λ v. eqb (number v (take (i + 1) a)) 0)
+pub zero_more : {f g h : ClauseSet} {r s : Literal} (a : List Literal) (i : ℕ) (x e : Literal) → MakesBit f g r i (λ v. eqb (number v (take i a)) 0) → i < length a → x ≡ get_or a i x → e ≡ opposite x → MakesBit g h s 1 (λ v. truth_of v r && truth_of v e) → MakesBit f h s (i + 1) (λ v. eqb (number v (take (i + 1) a)) 0)
 zero_more {f} {g} {h} {r} {s} a i x e t ha ex ee k =
     bit_then (λ v. eqb (number v (take (i + 1) a)) 0) t k (λ v old.
     let p : Bool = truth_of v x in

@@ -1,6 +1,9 @@
 pub mod Numbers
 pub mod Words
 pub mod Starting
+pub mod Folds
+pub mod Entries
+pub mod Hashing
 pub mod BitByBit
 pub mod Choices
 pub mod Sums

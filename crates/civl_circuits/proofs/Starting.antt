@@ -30,6 +30,7 @@ start_is inputs set one eo es =
     let built : IsStart inputs (record { variables = inputs + 1; clauses = (first inputs ∷ []) ∷ [] }) (first inputs) = record {
       extends = definition_extends (before inputs) ((first inputs ∷ []) ∷ []) (λ v. true) (unit_defines inputs);
       variables = refl;
+      clauses = refl;
       constant = record {
         below = omega arith;
         always = λ v h. definition_value (before inputs) ((first inputs ∷ []) ∷ []) (λ v. true) (unit_defines inputs) v h;

@@ -6,9 +6,10 @@ use Rattle.std.proofs.lemmas.List.Elements.{All-nil, All-push}
 use Rattle.civl_bits.specs.Word.{sum_at, difference_at, negative_at, complement_at}
 use Rattle.civl_cnf.specs.Literal.{Literal, truth_of, opposite}
 use Rattle.civl_cnf.specs.ClauseSet.{ClauseSet, IsBelow, Satisfies}
-use Rattle.civl_cnf.specs.Gates.{Extends, IsAdder, bit}
+use Rattle.civl_cnf.specs.Gates.{Extends, bit}
 use Rattle.civl_cnf.proofs.Extending.{extends_same, extends_trans, extends_keeps}
 use Rattle.civl_circuits.specs.Circuits.{number, IsOne, MakesWord}
+use Rattle.civl_circuits.specs.Folding.{MakesSum}
 use Rattle.civl_circuits.proofs.Numbers.{number-push, number-next, number-take, number-lt, number-zeros}
 use Rattle.civl_circuits.proofs.Words.{IsBelow-more, IsBelow-take, zero_is, word_as}
 
@@ -35,7 +36,7 @@ sum_none f a b c h = record {
   value = λ v t. omega arith;
 }
 
-pub sum_more : (f g n : ClauseSet) (a b : List Literal) (c : Literal) (at : ℕ) (sum : List Literal) (rest s k x y : Literal) → IsSum f g a b c at sum rest → at < length a → at < length b → x ≡ get_or a at x → y ≡ get_or b at y → IsAdder g n x y rest s k → IsSum f n a b c (at + 1) (sum ++ s ∷ []) k
+pub sum_more : (f g n : ClauseSet) (a b : List Literal) (c : Literal) (at : ℕ) (sum : List Literal) (rest s k x y : Literal) → IsSum f g a b c at sum rest → at < length a → at < length b → x ≡ get_or a at x → y ≡ get_or b at y → MakesSum g n x y rest s k → IsSum f n a b c (at + 1) (sum ++ s ∷ []) k
 sum_more f g n a b c at sum rest s k x y i la lb ex ey adder = record {
   extends = extends_trans i.extends adder.extends;
   variables = omega (arith, i.variables, adder.variables);
@@ -50,7 +51,7 @@ sum_more f g n a b c at sum rest s k x y i la lb ex ey adder = record {
       number-next v a at x la ex in
       let bx : number v (take (at + 1) b) ≡ number v (take at b) + 2 ^ at * bit (truth_of v y) =
       number-next v b at y lb ey in
-      let arithmetic = one_more (number v sum) (2 ^ at) (bit (truth_of v s)) (bit (truth_of v k)) (bit (truth_of v x)) (bit (truth_of v y)) (bit (truth_of v rest)) (number v (take at a) + number v (take at b) + bit (truth_of v c)) (adder.count v t) before in
+      let arithmetic = one_more (number v sum) (2 ^ at) (bit (truth_of v s)) (bit (truth_of v k)) (bit (truth_of v x)) (bit (truth_of v y)) (bit (truth_of v rest)) (number v (take at a) + number v (take at b) + bit (truth_of v c)) (adder.count_is v t) before in
       rw (here, ax, bx, add-one at, pow-suc 2 at) (omega (arith, arithmetic));
 }
 

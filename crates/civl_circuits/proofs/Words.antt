@@ -3,7 +3,7 @@ use Rattle.std.proofs.Common.{◌≡◌, ℕ, ◌+◌, ◌*◌, ◌^◌, ◌<◌
 use Rattle.std.proofs.lemmas.List.Elements.{All-nil, All-weaker, All-push, All-take, All-map, All-replicate, All-append}
 use Rattle.civl_cnf.specs.Literal.{Literal, truth_of, opposite}
 use Rattle.civl_cnf.specs.ClauseSet.{ClauseSet, IsBelow, Satisfies}
-use Rattle.civl_cnf.specs.Gates.{Extends, IsGate, bit}
+use Rattle.civl_cnf.specs.Gates.{Extends, bit}
 use Rattle.civl_cnf.proofs.Extending.{extends_same, extends_trans, extends_keeps, truth_of-opposite}
 use Rattle.civl_circuits.specs.Circuits.{number, IsOne, MakesWord, MakesBit}
 use Rattle.civl_circuits.proofs.Numbers.{number-push}
@@ -35,23 +35,6 @@ zero_is {f} {one} o v h = truth_of-opposite v one ∙ ap not (o.always v h)
 pub zero_below : {f : ClauseSet} {one z : Literal} → IsOne f one → z ≡ opposite one → z.variable < f.variables
 zero_below o e = omega (arith, o.below, ap (λ (l : Literal). l.variable) e)
 
--- a gate's output turned
-pub gate_turned : {f g : ClauseSet} {s : Literal} {fn : (ℕ → Bool) → Bool} (r : Literal) (new : (ℕ → Bool) → Bool) → IsGate f g s fn → r ≡ opposite s → ((v : ℕ → Bool) → not (fn v) ≡ new v) → IsGate f g r new
-gate_turned {f} {g} {s} r new k e so = record {
-  extends = k.extends;
-  variables = k.variables;
-  below = omega (arith, k.below, ap (λ (l : Literal). l.variable) e);
-  value = λ v y. ap (truth_of v) e ∙ truth_of-opposite v s ∙ ap not (k.value v y) ∙ so v;
-}
-
-pub gate_as : {f g : ClauseSet} {s : Literal} {fn : (ℕ → Bool) → Bool} (new : (ℕ → Bool) → Bool) → IsGate f g s fn → ((v : ℕ → Bool) → fn v ≡ new v) → IsGate f g s new
-gate_as new k so = record {
-  extends = k.extends;
-  variables = k.variables;
-  below = k.below;
-  value = λ v y. k.value v y ∙ so v;
-}
-
 -- a word of no bits
 pub word_none : (f : ClauseSet) (value : (ℕ → Bool) → ℕ) → ((v : ℕ → Bool) → 0 ≡ value v) → MakesWord f f [] 0 0 value
 word_none f value none = record {
@@ -62,8 +45,8 @@ word_none f value none = record {
   value = λ v h. none v;
 }
 
--- one gate more, as the next bit
-pub word_push : {f g h : ClauseSet} {word : List Literal} {s : Literal} {n k : ℕ} {fn : (ℕ → Bool) → Bool} {old : (ℕ → Bool) → ℕ} (new : (ℕ → Bool) → ℕ) → MakesWord f g word n k old → IsGate g h s fn → ((v : ℕ → Bool) → old v + 2 ^ n * bit (fn v) ≡ new v) → MakesWord f h (word ++ s ∷ []) (n + 1) (k + 1) new
+-- one bit more, as the next
+pub word_push : {f g h : ClauseSet} {word : List Literal} {s : Literal} {n k : ℕ} {fn : (ℕ → Bool) → Bool} {old : (ℕ → Bool) → ℕ} (new : (ℕ → Bool) → ℕ) → MakesWord f g word n k old → MakesBit g h s 1 fn → ((v : ℕ → Bool) → old v + 2 ^ n * bit (fn v) ≡ new v) → MakesWord f h (word ++ s ∷ []) (n + 1) (k + 1) new
 word_push {f} {g} {h} {word} {s} {n} {k} {fn} {old} new w t so = record {
   extends = extends_trans w.extends t.extends;
   variables = omega (arith, w.variables, t.variables);
@@ -114,8 +97,8 @@ bit_there f one value o all = record {
   value = λ v y. o.always v y ∙ all v;
 }
 
--- one gate more, which is then the bit
-pub bit_then : {f g h : ClauseSet} {r s : Literal} {n : ℕ} {old fn : (ℕ → Bool) → Bool} (new : (ℕ → Bool) → Bool) → MakesBit f g r n old → IsGate g h s fn → ((v : ℕ → Bool) → truth_of v r ≡ old v → fn v ≡ new v) → MakesBit f h s (n + 1) new
+-- one more, which is then the bit
+pub bit_then : {f g h : ClauseSet} {r s : Literal} {n : ℕ} {old fn : (ℕ → Bool) → Bool} (new : (ℕ → Bool) → Bool) → MakesBit f g r n old → MakesBit g h s 1 fn → ((v : ℕ → Bool) → truth_of v r ≡ old v → fn v ≡ new v) → MakesBit f h s (n + 1) new
 bit_then new t k so = record {
   extends = extends_trans t.extends k.extends;
   variables = omega (arith, t.variables, k.variables);

@@ -14,10 +14,11 @@ pub record IsOne (set : ClauseSet) (one : Literal) : Type 0 where
   pub below : one.variable < set.variables
   pub always : (v : ℕ → Bool) → Satisfies v set.clauses → IsTrue (truth_of v one)
 
--- variables of which nothing is said, and one more, a literal of which is true wherever the clauses are
+-- variables of which nothing is said, and one more, a literal of which is the only clause: it is true wherever the clauses are
 pub record IsStart (inputs : ℕ) (set : ClauseSet) (one : Literal) : Type 0 where
   pub extends : Extends (record { variables = inputs; clauses = [] }) set
   pub variables : set.variables ≡ inputs + 1
+  pub clauses : set.clauses ≡ (one ∷ []) ∷ []
   pub constant : IsOne set one
 
 -- The word is a constant: it has so many bits, and is this number under every assignment at which `one` is true.

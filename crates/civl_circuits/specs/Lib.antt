@@ -1,3 +1,5 @@
 pub mod Circuits
+pub mod Hashing
+pub mod Folding
 pub mod Shift
 pub mod Laws

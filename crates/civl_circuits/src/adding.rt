@@ -6,19 +6,19 @@ ghost use Rattle.civl_cnf.specs.ClauseSet.{IsBelow};
 ghost use Rattle.civl_cnf.specs.Gates.{Extends, bit};
 ghost use Rattle.civl_circuits.specs.Circuits.{number, IsOne, MakesWord};
 
-use crate::complement;
 use crate::wiring::repeated;
-use civl_cnf::{Gates, Lit, Memory};
+use crate::{Circuit, complement};
+use civl_cnf::{Lit, Memory};
 use std::alloc::Global;
 
-/// The sum of two words and a bit, not cut: its top bit is the carry (a ripple-carry adder). It takes two variables for each bit of the words.
+/// The sum of two words and a bit, not cut: its top bit is the carry (a ripple-carry adder). It takes at most two variables for each bit of the words.
 ///
 /// # Errors
 ///
 /// For want of memory. The clauses that the gates then have still extend the old ones in exactly one way.
 #[tactic(auto, using(crate::proofs::Words::extending))]
 pub fn add_with_carry(
-    gates: &mut Gates,
+    gates: &mut Circuit,
     alloc: Global,
     a: &[Lit],
     b: &[Lit],
@@ -44,14 +44,14 @@ pub fn add_with_carry(
     Ok(sum)
 }
 
-/// The sum of two words modulo 2 to their width. It takes two variables for each bit.
+/// The sum of two words modulo 2 to their width. It takes at most two variables for each bit.
 ///
 /// # Errors
 ///
 /// For want of memory. The clauses that the gates then have still extend the old ones in exactly one way.
 #[tactic(auto, using(crate::proofs::Words::extending))]
 pub fn add(
-    gates: &mut Gates,
+    gates: &mut Circuit,
     alloc: Global,
     one: Lit,
     a: &[Lit],
@@ -71,14 +71,14 @@ pub fn add(
     Ok(sum)
 }
 
-/// The difference of two words modulo 2 to their width, by adding the opposite bits and 1. It takes two variables for each bit.
+/// The difference of two words modulo 2 to their width, by adding the opposite bits and 1. It takes at most two variables for each bit.
 ///
 /// # Errors
 ///
 /// For want of memory. The clauses that the gates then have still extend the old ones in exactly one way.
 #[tactic(auto, using(crate::proofs::Words::extending))]
 pub fn subtract(
-    gates: &mut Gates,
+    gates: &mut Circuit,
     alloc: Global,
     one: Lit,
     a: &[Lit],
@@ -99,13 +99,13 @@ pub fn subtract(
     Ok(difference)
 }
 
-/// The negative of a word modulo 2 to its width. It takes two variables for each bit.
+/// The negative of a word modulo 2 to its width. It takes at most two variables for each bit.
 ///
 /// # Errors
 ///
 /// For want of memory. The clauses that the gates then have still extend the old ones in exactly one way.
 #[tactic(auto, using(crate::proofs::Words::extending))]
-pub fn negate(gates: &mut Gates, alloc: Global, one: Lit, a: &[Lit]) -> Result<Vec<Lit>, Memory>
+pub fn negate(gates: &mut Circuit, alloc: Global, one: Lit, a: &[Lit]) -> Result<Vec<Lit>, Memory>
     requires room { gates.old.variables + 2 * length a.now ≤ 2 ^ 30 }
     requires one { IsOne gates.old one }
     requires a { IsBelow gates.old.variables a.now }

@@ -6,18 +6,18 @@ ghost use Rattle.civl_cnf.specs.ClauseSet.{IsBelow};
 ghost use Rattle.civl_cnf.specs.Gates.{Extends};
 ghost use Rattle.civl_circuits.specs.Circuits.{number, MakesWord};
 
-use crate::or;
-use civl_cnf::{Gates, Lit, Memory};
+use crate::{Circuit, or};
+use civl_cnf::{Lit, Memory};
 use std::alloc::Global;
 
-/// The word whose bits are 1 where both are. It takes as many variables as the words have bits.
+/// The word whose bits are 1 where both are. It takes at most as many variables as the words have bits.
 ///
 /// # Errors
 ///
 /// For want of memory. The clauses that the gates then have still extend the old ones in exactly one way.
 #[tactic(auto, using(crate::proofs::Words::extending))]
 pub fn bitwise_and(
-    gates: &mut Gates,
+    gates: &mut Circuit,
     alloc: Global,
     a: &[Lit],
     b: &[Lit],
@@ -38,14 +38,14 @@ pub fn bitwise_and(
     Ok(word)
 }
 
-/// The word whose bits are 1 where one of them is. It takes as many variables as the words have bits.
+/// The word whose bits are 1 where one of them is. It takes at most as many variables as the words have bits.
 ///
 /// # Errors
 ///
 /// For want of memory. The clauses that the gates then have still extend the old ones in exactly one way.
 #[tactic(auto, using(crate::proofs::Words::extending))]
 pub fn bitwise_or(
-    gates: &mut Gates,
+    gates: &mut Circuit,
     alloc: Global,
     a: &[Lit],
     b: &[Lit],
@@ -66,14 +66,14 @@ pub fn bitwise_or(
     Ok(word)
 }
 
-/// The word whose bits are 1 where exactly one of them is. It takes as many variables as the words have bits.
+/// The word whose bits are 1 where exactly one of them is. It takes at most as many variables as the words have bits.
 ///
 /// # Errors
 ///
 /// For want of memory. The clauses that the gates then have still extend the old ones in exactly one way.
 #[tactic(auto, using(crate::proofs::Words::extending))]
 pub fn bitwise_xor(
-    gates: &mut Gates,
+    gates: &mut Circuit,
     alloc: Global,
     a: &[Lit],
     b: &[Lit],

@@ -5,17 +5,18 @@ ghost use Rattle.civl_cnf.specs.ClauseSet.{IsBelow};
 ghost use Rattle.civl_cnf.specs.Gates.{Extends};
 ghost use Rattle.civl_circuits.specs.Circuits.{number, MakesWord};
 
-use civl_cnf::{Gates, Lit, Memory};
+use crate::Circuit;
+use civl_cnf::{Lit, Memory};
 use std::alloc::Global;
 
-/// The first word where `c` is true, and the second elsewhere. It takes as many variables as the words have bits.
+/// The first word where `c` is true, and the second elsewhere. It takes at most as many variables as the words have bits.
 ///
 /// # Errors
 ///
 /// For want of memory. The clauses that the gates then have still extend the old ones in exactly one way.
 #[tactic(auto, using(crate::proofs::Words::extending))]
 pub fn choose(
-    gates: &mut Gates,
+    gates: &mut Circuit,
     alloc: Global,
     c: Lit,
     a: &[Lit],

@@ -6,17 +6,23 @@ ghost use Rattle.civl_cnf.specs.ClauseSet.{IsBelow};
 ghost use Rattle.civl_cnf.specs.Gates.{Extends};
 ghost use Rattle.civl_circuits.specs.Circuits.{number, blank, IsOne, MakesBit};
 
-use crate::{add_with_carry, complement};
-use civl_cnf::{Gates, Lit, Memory};
+use crate::{Circuit, add_with_carry, complement};
+use civl_cnf::{Lit, Memory};
 use std::alloc::Global;
 
-/// Whether the first word is less: their difference has no carry. It takes two variables for each bit.
+/// Whether the first word is less: their difference has no carry. It takes at most two variables for each bit.
 ///
 /// # Errors
 ///
 /// For want of memory. The clauses that the gates then have still extend the old ones in exactly one way.
 #[tactic(auto, using(crate::proofs::Words::extending))]
-pub fn less(gates: &mut Gates, alloc: Global, one: Lit, a: &[Lit], b: &[Lit]) -> Result<Lit, Memory>
+pub fn less(
+    gates: &mut Circuit,
+    alloc: Global,
+    one: Lit,
+    a: &[Lit],
+    b: &[Lit],
+) -> Result<Lit, Memory>
     requires room { gates.old.variables + 2 * length a.now ≤ 2 ^ 30 }
     requires one { IsOne gates.old one }
     requires a { IsBelow gates.old.variables a.now }
@@ -32,14 +38,14 @@ pub fn less(gates: &mut Gates, alloc: Global, one: Lit, a: &[Lit], b: &[Lit]) ->
     Ok(carry.negate())
 }
 
-/// Whether the first word is less or the same. It takes two variables for each bit.
+/// Whether the first word is less or the same. It takes at most two variables for each bit.
 ///
 /// # Errors
 ///
 /// For want of memory. The clauses that the gates then have still extend the old ones in exactly one way.
 #[tactic(auto, using(crate::proofs::Words::extending))]
 pub fn less_or_equal(
-    gates: &mut Gates,
+    gates: &mut Circuit,
     alloc: Global,
     one: Lit,
     a: &[Lit],
@@ -70,14 +76,14 @@ fn with_top_flipped(alloc: Global, a: &[Lit]) -> Result<Vec<Lit>, Memory>
     Ok(word)
 }
 
-/// Whether the first word is less by two's complement. It takes two variables for each bit. The words have a bit at least.
+/// Whether the first word is less by two's complement. It takes at most two variables for each bit. The words have a bit at least.
 ///
 /// # Errors
 ///
 /// For want of memory. The clauses that the gates then have still extend the old ones in exactly one way.
 #[tactic(auto, using(crate::proofs::Words::extending))]
 pub fn signed_less(
-    gates: &mut Gates,
+    gates: &mut Circuit,
     alloc: Global,
     one: Lit,
     a: &[Lit],
@@ -99,14 +105,14 @@ pub fn signed_less(
     Ok(below)
 }
 
-/// Whether the first word is less or the same by two's complement. It takes two variables for each bit. The words have a bit at least.
+/// Whether the first word is less or the same by two's complement. It takes at most two variables for each bit. The words have a bit at least.
 ///
 /// # Errors
 ///
 /// For want of memory. The clauses that the gates then have still extend the old ones in exactly one way.
 #[tactic(auto, using(crate::proofs::Words::extending))]
 pub fn signed_less_or_equal(
-    gates: &mut Gates,
+    gates: &mut Circuit,
     alloc: Global,
     one: Lit,
     a: &[Lit],

@@ -7,8 +7,8 @@ ghost use Rattle.civl_cnf.specs.Gates.{Extends, bit};
 ghost use Rattle.civl_circuits.specs.Circuits.{number, IsOne, MakesBit, MakesWord};
 
 use crate::wiring::{join, repeated};
-use crate::{add_with_carry, choose, complement};
-use civl_cnf::{Gates, Lit, Memory};
+use crate::{Circuit, add_with_carry, choose, complement};
+use civl_cnf::{Lit, Memory};
 use std::alloc::Global;
 
 /// A quotient and its remainder.
@@ -25,10 +25,10 @@ struct Step {
     rest: Vec<Lit>,
 }
 
-/// Brings down the next bit, and subtracts the divisor where that is enough. It takes three variables for each bit, and two more.
+/// Brings down the next bit, and subtracts the divisor where that is enough. It takes at most three variables for each bit, and two more.
 #[tactic(auto, using(crate::proofs::Words::extending))]
 fn divide_step(
-    gates: &mut Gates,
+    gates: &mut Circuit,
     alloc: Global,
     one: Lit,
     rest: &[Lit],
@@ -59,14 +59,14 @@ fn divide_step(
     Ok(Step { enough, rest })
 }
 
-/// The quotient of two words, rounded down, and the remainder, by restoring division; by 0 the quotient has all bits, and the remainder is the first word. It takes three variables for each pair of bits, and two more for each bit.
+/// The quotient of two words, rounded down, and the remainder, by restoring division; by 0 the quotient has all bits, and the remainder is the first word. It takes at most three variables for each pair of bits, and two more for each bit.
 ///
 /// # Errors
 ///
 /// For want of memory. The clauses that the gates then have still extend the old ones in exactly one way.
 #[tactic(auto, using(crate::proofs::Words::extending))]
 pub fn divide(
-    gates: &mut Gates,
+    gates: &mut Circuit,
     alloc: Global,
     one: Lit,
     a: &[Lit],

@@ -4,15 +4,16 @@ ghost use Rattle.civl_cnf.specs.ClauseSet.{IsBelow};
 ghost use Rattle.civl_cnf.specs.Gates.{Extends};
 ghost use Rattle.civl_circuits.specs.Circuits.{number, IsOne, MakesBit};
 
-use civl_cnf::{Gates, Lit, Memory};
+use crate::Circuit;
+use civl_cnf::{Lit, Memory};
 
-/// Whether two words are the same. It takes two variables for each bit.
+/// Whether two words are the same. It takes at most two variables for each bit.
 ///
 /// # Errors
 ///
 /// For want of memory. The clauses that the gates then have still extend the old ones in exactly one way.
 #[tactic(auto, using(crate::proofs::Words::extending))]
-pub fn equal(gates: &mut Gates, one: Lit, a: &[Lit], b: &[Lit]) -> Result<Lit, Memory>
+pub fn equal(gates: &mut Circuit, one: Lit, a: &[Lit], b: &[Lit]) -> Result<Lit, Memory>
     requires room { gates.old.variables + 2 * length a.now ≤ 2 ^ 30 }
     requires one { IsOne gates.old one }
     requires a { IsBelow gates.old.variables a.now }
@@ -30,13 +31,13 @@ pub fn equal(gates: &mut Gates, one: Lit, a: &[Lit], b: &[Lit]) -> Result<Lit, M
     Ok(same)
 }
 
-/// Whether a word is 0. It takes a variable for each bit.
+/// Whether a word is 0. It takes at most a variable for each bit.
 ///
 /// # Errors
 ///
 /// For want of memory. The clauses that the gates then have still extend the old ones in exactly one way.
 #[tactic(auto, using(crate::proofs::Words::extending))]
-pub fn is_zero(gates: &mut Gates, one: Lit, a: &[Lit]) -> Result<Lit, Memory>
+pub fn is_zero(gates: &mut Circuit, one: Lit, a: &[Lit]) -> Result<Lit, Memory>
     requires room { gates.old.variables + length a.now ≤ 2 ^ 30 }
     requires one { IsOne gates.old one }
     requires a { IsBelow gates.old.variables a.now }

@@ -8,14 +8,14 @@ ghost use Rattle.civl_circuits.specs.Circuits.{number, IsOne, MakesWord};
 
 use crate::shifting::{Direction, moved};
 use crate::wiring::repeated;
-use crate::{add, mask};
-use civl_cnf::{Gates, Lit, Memory};
+use crate::{Circuit, add, mask};
+use civl_cnf::{Lit, Memory};
 use std::alloc::Global;
 
-/// The sum of a word and, where a bit is true, another that is moved up. It takes three variables for each bit.
+/// The sum of a word and, where a bit is true, another that is moved up. It takes at most three variables for each bit.
 #[tactic(auto, using(crate::proofs::Words::extending))]
 fn add_moved(
-    gates: &mut Gates,
+    gates: &mut Circuit,
     alloc: Global,
     one: Lit,
     sum: &[Lit],
@@ -41,14 +41,14 @@ fn add_moved(
     Ok(word)
 }
 
-/// The product of two words modulo 2 to their width, by shifts and sums. It takes three variables for each pair of bits.
+/// The product of two words modulo 2 to their width, by shifts and sums. It takes at most three variables for each pair of bits.
 ///
 /// # Errors
 ///
 /// For want of memory. The clauses that the gates then have still extend the old ones in exactly one way.
 #[tactic(auto, using(crate::proofs::Words::extending))]
 pub fn multiply(
-    gates: &mut Gates,
+    gates: &mut Circuit,
     alloc: Global,
     one: Lit,
     a: &[Lit],

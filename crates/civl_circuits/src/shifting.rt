@@ -8,8 +8,8 @@ ghost use Rattle.civl_circuits.specs.Circuits.{number, IsOne, MakesWord};
 ghost use Rattle.civl_circuits.specs.Shift.{shifted_word, shifted};
 
 use crate::wiring::{join, repeated};
-use crate::{choose, complement, is_zero};
-use civl_cnf::{Gates, Lit, Memory};
+use crate::{Circuit, choose, complement, is_zero};
+use civl_cnf::{Lit, Memory};
 use std::alloc::Global;
 
 /// Where a shift moves the bits.
@@ -19,13 +19,13 @@ pub(crate) enum Direction {
     Down,
 }
 
-/// The word where the bit is true, else 0. It takes as many variables as the word has bits.
+/// The word where the bit is true, else 0. It takes at most as many variables as the word has bits.
 ///
 /// # Errors
 ///
 /// For want of memory. The clauses that the gates then have still extend the old ones in exactly one way.
 #[tactic(auto, using(crate::proofs::Words::extending))]
-pub fn mask(gates: &mut Gates, alloc: Global, c: Lit, a: &[Lit]) -> Result<Vec<Lit>, Memory>
+pub fn mask(gates: &mut Circuit, alloc: Global, c: Lit, a: &[Lit]) -> Result<Vec<Lit>, Memory>
     requires room { gates.old.variables + length a.now ≤ 2 ^ 30 }
     requires c { c.variable < gates.old.variables }
     requires a { IsBelow gates.old.variables a.now }
@@ -41,9 +41,9 @@ pub fn mask(gates: &mut Gates, alloc: Global, c: Lit, a: &[Lit]) -> Result<Vec<L
     Ok(word)
 }
 
-/// The word where the bit is false, and its complement where it is true. It takes as many variables as the word has bits.
+/// The word where the bit is false, and its complement where it is true. It takes at most as many variables as the word has bits.
 #[tactic(auto, using(crate::proofs::Words::extending))]
-fn turn(gates: &mut Gates, alloc: Global, c: Lit, a: &[Lit]) -> Result<Vec<Lit>, Memory>
+fn turn(gates: &mut Circuit, alloc: Global, c: Lit, a: &[Lit]) -> Result<Vec<Lit>, Memory>
     requires room { gates.old.variables + length a.now ≤ 2 ^ 30 }
     requires c { c.variable < gates.old.variables }
     requires a { IsBelow gates.old.variables a.now }
@@ -81,10 +81,10 @@ pub(crate) fn moved(
     }
 }
 
-/// The word moved by a distance where a bit is true. It takes as many variables as the word has bits.
+/// The word moved by a distance where a bit is true. It takes at most as many variables as the word has bits.
 #[tactic(auto, using(crate::proofs::Words::extending))]
 fn stage(
-    gates: &mut Gates,
+    gates: &mut Circuit,
     alloc: Global,
     one: Lit,
     direction: Direction,
@@ -110,7 +110,7 @@ fn stage(
 /// The word moved by the number of another of the same width. It takes at most seven variables for each bit.
 #[tactic(auto, using(crate::proofs::Words::extending))]
 fn shift(
-    gates: &mut Gates,
+    gates: &mut Circuit,
     alloc: Global,
     one: Lit,
     direction: Direction,
@@ -155,7 +155,7 @@ fn shift(
 /// For want of memory. The clauses that the gates then have still extend the old ones in exactly one way.
 #[tactic(auto, using(crate::proofs::Words::extending))]
 pub fn shift_left(
-    gates: &mut Gates,
+    gates: &mut Circuit,
     alloc: Global,
     one: Lit,
     a: &[Lit],
@@ -182,7 +182,7 @@ pub fn shift_left(
 /// For want of memory. The clauses that the gates then have still extend the old ones in exactly one way.
 #[tactic(auto, using(crate::proofs::Words::extending))]
 pub fn shift_right(
-    gates: &mut Gates,
+    gates: &mut Circuit,
     alloc: Global,
     one: Lit,
     a: &[Lit],
@@ -209,7 +209,7 @@ pub fn shift_right(
 /// For want of memory. The clauses that the gates then have still extend the old ones in exactly one way.
 #[tactic(auto, using(crate::proofs::Words::extending))]
 pub fn arithmetic_shift_right(
-    gates: &mut Gates,
+    gates: &mut Circuit,
     alloc: Global,
     one: Lit,
     a: &[Lit],

@@ -6,8 +6,8 @@ ghost use Rattle.civl_values.specs.Values.{is_sort};
 ghost use Rattle.civl_circuits.specs.Circuits.{IsOne};
 ghost use Rattle.civl_symbolic.specs.Symbolic.{sort_of, is_flat, IsIn};
 
-use civl_circuits::start;
-use civl_cnf::{Gates, Lit, Memory};
+use civl_circuits::{Circuit, start};
+use civl_cnf::{Lit, Memory};
 use civl_symbolic::{Symbolic, binary, join, pick, slice, unary, variable, widen};
 use civl_tree::{One, Sort, Two};
 use std::alloc::Global;
@@ -117,7 +117,7 @@ fn join_fits(sort: Sort) -> bool
 
 /// The operator's circuit; `None` where the sort doesn't fit.
 fn circuit(
-    gates: &mut Gates,
+    gates: &mut Circuit,
     alloc: Global,
     one: Lit,
     operator: Operator,

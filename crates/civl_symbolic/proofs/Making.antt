@@ -13,7 +13,6 @@ use Rattle.civl_values.specs.Operators.{nothing, on_words, test_words}
 use Rattle.civl_tree.specs.rules.Exprs.{is_width}
 use Rattle.civl_cnf.specs.Literal.{Literal, truth_of, opposite}
 use Rattle.civl_cnf.specs.ClauseSet.{ClauseSet, IsBelow}
-use Rattle.civl_cnf.specs.Gates.{IsGate}
 use Rattle.civl_cnf.proofs.Extending.{extends_same, extends_trans, truth_of-opposite}
 use Rattle.civl_circuits.specs.Circuits.{number, MakesWord, MakesBit}
 use Rattle.civl_symbolic.specs.declared.symbolic.Symbolic.TheVariants as symbolic
@@ -34,15 +33,6 @@ word_makes {f} {g} {word} {k} {n} kind cost new w e width ek so = record {
 -- a bool from its circuit
 pub bit_makes : {f g : ClauseSet} {output : Literal} {k : ℕ} {old : (ℕ → Bool) → Bool} (kind : Option Sort) (cost : ℕ) (new : (ℕ → Bool) → Value) → MakesBit f g output k old → k ≤ cost → kind ≡ Some sort.Bool → ((v : ℕ → Bool) → value.Bool (old v) ≡ new v) → Makes f g (symbolic.Bool output) kind cost new
 bit_makes kind cost new w e ek so = record {
-  extends = w.extends;
-  variables = omega (arith, w.variables);
-  inside = record { below = w.below; limits = refl };
-  sorted = ek;
-  is = λ v y. ap (λ (b : Bool). value.Bool b) (w.value v y) ∙ so v;
-}
-
-pub gate_makes : {f g : ClauseSet} {output : Literal} {old : (ℕ → Bool) → Bool} (kind : Option Sort) (cost : ℕ) (new : (ℕ → Bool) → Value) → IsGate f g output old → 1 ≤ cost → kind ≡ Some sort.Bool → ((v : ℕ → Bool) → value.Bool (old v) ≡ new v) → Makes f g (symbolic.Bool output) kind cost new
-gate_makes kind cost new w e ek so = record {
   extends = w.extends;
   variables = omega (arith, w.variables);
   inside = record { below = w.below; limits = refl };

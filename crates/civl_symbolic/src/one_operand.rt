@@ -13,8 +13,8 @@ ghost use Rattle.civl_circuits.specs.Circuits.{number, IsOne};
 ghost use Rattle.civl_symbolic.specs.Symbolic.{value_under, sort_of, IsIn, Makes};
 
 use crate::{Lits, Symbolic};
-use civl_circuits::{complement, negate};
-use civl_cnf::{Gates, Lit, Memory};
+use civl_circuits::{Circuit, complement, negate};
+use civl_cnf::{Lit, Memory};
 use civl_tree::One;
 use std::alloc::Global;
 
@@ -25,7 +25,7 @@ use std::alloc::Global;
 /// For want of memory. The clauses that the gates then have still extend the old ones in exactly one way.
 #[tactic(auto, using(crate::proofs::Making::extending))]
 pub fn unary(
-    gates: &mut Gates,
+    gates: &mut Circuit,
     alloc: Global,
     one: Lit,
     op: One,
@@ -50,7 +50,7 @@ pub fn unary(
 
 #[tactic(auto, using(crate::proofs::Making::extending))]
 fn unary_of_word(
-    gates: &mut Gates,
+    gates: &mut Circuit,
     alloc: Global,
     one: Lit,
     op: One,

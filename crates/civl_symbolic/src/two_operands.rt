@@ -17,11 +17,11 @@ ghost use Rattle.civl_symbolic.specs.declared.symbolic.Symbolic.TheVariants as s
 
 use crate::{Lits, Symbolic};
 use civl_circuits::{
-    add, arithmetic_shift_right, bitwise_and, bitwise_or, bitwise_xor, choose, divide, equal, iff,
+    Circuit, add, arithmetic_shift_right, bitwise_and, bitwise_or, bitwise_xor, choose, divide, equal, iff,
     implies, less, less_or_equal, multiply, or, shift_left, shift_right, signed_less,
     signed_less_or_equal, subtract,
 };
-use civl_cnf::{Gates, Lit, Memory};
+use civl_cnf::{Lit, Memory};
 use civl_tree::Two;
 use std::alloc::Global;
 
@@ -32,7 +32,7 @@ use std::alloc::Global;
 /// For want of memory. The clauses that the gates then have still extend the old ones in exactly one way.
 #[tactic(auto, using(crate::proofs::Making::extending))]
 pub fn binary(
-    gates: &mut Gates,
+    gates: &mut Circuit,
     alloc: Global,
     one: Lit,
     op: Two,
@@ -67,7 +67,7 @@ pub fn binary(
 }
 
 #[tactic(auto, using(crate::proofs::Making::extending))]
-fn of_bools(gates: &mut Gates, one: Lit, op: Two, a: Lit, b: Lit) -> Result<Symbolic, Memory>
+fn of_bools(gates: &mut Circuit, one: Lit, op: Two, a: Lit, b: Lit) -> Result<Symbolic, Memory>
     requires room { gates.old.variables ≤ 2 ^ 29 }
     requires one { IsOne gates.old one }
     requires a { a.variable < gates.old.variables }
@@ -104,7 +104,7 @@ fn of_bools(gates: &mut Gates, one: Lit, op: Two, a: Lit, b: Lit) -> Result<Symb
 
 #[tactic(auto, using(crate::proofs::Making::extending))]
 fn of_words(
-    gates: &mut Gates,
+    gates: &mut Circuit,
     alloc: Global,
     one: Lit,
     op: Two,
@@ -182,7 +182,7 @@ fn bit(lit: Result<Lit, Memory>) -> Result<Symbolic, Memory>
 /// For want of memory. The clauses that the gates then have still extend the old ones in exactly one way.
 #[tactic(auto, using(crate::proofs::Making::extending))]
 pub fn pick(
-    gates: &mut Gates,
+    gates: &mut Circuit,
     alloc: Global,
     c: &Symbolic,
     a: &Symbolic,
@@ -208,7 +208,7 @@ pub fn pick(
 
 #[tactic(auto, using(crate::proofs::Making::extending))]
 fn pick_by(
-    gates: &mut Gates,
+    gates: &mut Circuit,
     alloc: Global,
     c: Lit,
     a: &Symbolic,
