@@ -1,5 +1,5 @@
 -- The variables for the choices of calls, one call after the other.
-use Rattle.std.specs.Prelude.{map, filter, take, drop, get_or, nat_eq, if◌then◌else◌, Contains}
+use Rattle.std.specs.Prelude.{map, filter, take, drop, get_or, nat_eq, slice_get, if◌then◌else◌, Contains}
 use Rattle.std.specs.List.Sorted.{IsStrictlyIncreasing}
 use Rattle.std.proofs.lemmas.Bool.{false≢true, eq-eqb, eqb-true}
 use Rattle.civl_tree.proofs.Pairs.{contains_nil, contains_cons, contains_map}
@@ -15,8 +15,12 @@ use Rattle.civl_tree.specs.declared.program.Program.{Program}
 use Rattle.civl_tree.specs.Numbering.{statements_of, statement_at}
 use Rattle.civl_meaning.specs.Layers.{program_at}
 use Rattle.civl_layers.specs.declared.cut.Cut.{Cut}
+use Rattle.civl_layers.specs.Cuts.{proc_cuts}
 use Rattle.civl_paths.specs.Flows.{flow_from}
 use Rattle.civl_paths.proofs.Standing.{Stand, passed_stand}
+use Rattle.civl_meaning.proofs.Zipping.{zip_long}
+use Rattle.civl_bodies.specs.declared.body.Body.{Body}
+use Rattle.civl_bodies.specs.Bodies.{ArePassed, IsBody}
 use Rattle.civl_terms.specs.declared.node.Node.{Node}
 use Rattle.civl_terms.specs.Graphs.{sort_at}
 use Rattle.civl_terms.specs.Building.{Lengthens}
@@ -168,6 +172,13 @@ pub calls_are : (program : Program) (step layer : ℕ) (proc : Proc) (cut : Cut)
 calls_are program step layer proc cut stmts numbers e s n =
     ap (λ (k : ℕ). calls_at program k stmts numbers) e ∙ ap (λ (ss : List Stmt). calls_at program (step - 1) ss numbers) s ∙ ap (calls_at program (step - 1) (statements_of proc.body)) n
     ∙ passed_called program (step - 1) proc.body (flow_from proc cut).passed (passed_stand proc cut)
+
+-- a procedure's cut is one of its body's, with what the paths from there pass
+pub cut_there : (proc : Proc) (body : Body) (number : ℕ) (cut : Cut) → IsBody proc body → slice_get (proc_cuts proc) number ≡ Some cut → slice_get body.cuts number ≡ Some cut
+cut_there proc body number cut is at = ap (λ (cs : List Cut). slice_get cs number) is.cuts ∙ at
+
+pub passed_there : (proc : Proc) (body : Body) (number : ℕ) → IsBody proc body → number < length (proc_cuts proc) → number < length body.passed.items
+passed_there proc body number is within = omega (arith, within, zip_long (ArePassed proc) (proc_cuts proc) body.passed.items is.passed)
 
 -- ---- the choices of one of these calls
 

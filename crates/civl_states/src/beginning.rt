@@ -1,9 +1,10 @@
 // The terms at the beginning of a path.
-ghost use Rattle.std.specs.Prelude.{◌≡◌, ◌+◌, ◌≤◌, ◌<◌, ◌^◌, ℕ, length, map, All, IsTrue, IfOk, OnOk};
-ghost use Rattle.civl_tree.specs.Numbering.{sizes_of};
+ghost use Rattle.std.specs.Prelude.{◌≡◌, ◌+◌, ◌≤◌, ◌<◌, ◌^◌, ℕ, length, map, slice_get, All, IsTrue, IfOk, OnOk, Some};
 ghost use Rattle.civl_tree.specs.rules.Rules.{Keeps};
 ghost use Rattle.civl_tree.specs.rules.Typing.{typing_rules};
 ghost use Rattle.civl_values.specs.Values.{is_sort};
+ghost use Rattle.civl_layers.specs.Cuts.{proc_cuts};
+ghost use Rattle.civl_bodies.specs.Bodies.{IsBody};
 ghost use Rattle.civl_terms.specs.Building.{Lengthens};
 ghost use Rattle.civl_terms.specs.Weights.{graph_weight};
 ghost use Rattle.civl_conditions.specs.Values.{layout, begun};
@@ -19,6 +20,7 @@ use crate::beginning_frames::{begin_frame, begin_old_store};
 use crate::beginning_places::places_of;
 use crate::choices::Choices;
 use crate::stores::{Existing, store};
+use civl_bodies::Body;
 use civl_layers::Cut;
 use civl_terms::{Id, Memory, Terms};
 use civl_tree::{List, Proc, Program, Sort};
@@ -41,7 +43,7 @@ pub struct Beginning {
 /// old ones, at a rank loop; the parameters; the outputs and locals, but for the entry, where they are zeros; the old outputs, at a
 /// rank loop; `done`, but for the entry, where it is false; the old `done`, at a rank loop; and the choices of each call that some
 /// path passes. What is old is the present but at a rank loop. The sorts are those of all the formula's variables, the first of
-/// which are these.
+/// which are these. The cut has this number among the procedure's, and `body` is what belongs to the procedure.
 ///
 /// The graph's weight rises by at most the bits of these variables.
 ///
@@ -55,11 +57,14 @@ pub fn begin(
     sorts: &[Sort],
     step: u32,
     proc: &Proc,
+    number: u32,
     cut: Cut,
+    body: &Body<'_>,
 ) -> Result<Beginning, Memory>
     requires rules { Keeps typing_rules program.now }
     requires proc { IsProcIn program.now proc.now }
-    requires body { sizes_of proc.now.body < 2 ^ 32 }
+    requires there { slice_get (proc_cuts proc.now) number ≡ Some cut }
+    requires body { IsBody proc.now body.now }
     requires stand { StandFrom sorts.now 0 (map (λ v. v.sort) (path_variables program.now step proc.now cut)) }
     requires small { length sorts.now < 2 ^ 32 }
     requires limits { All (λ s. IsTrue (is_sort s)) sorts.now }
@@ -76,7 +81,18 @@ pub fn begin(
         alloc, terms, program, sorts, step, cut.kind, &globals, places.old,
     )?;
     let frame = begin_frame(alloc, terms, sorts, proc, cut.kind, places)?;
-    let chosen = begin_choices(alloc, terms, sorts, program, step, proc, cut, places.calls)?;
+    let chosen = begin_choices(
+        alloc,
+        terms,
+        sorts,
+        program,
+        step,
+        proc,
+        number,
+        cut,
+        body,
+        places.calls,
+    )?;
     Ok(Beginning {
         globals,
         locals: frame.locals,

@@ -1,10 +1,8 @@
 // The variables for the choices of the calls that some path passes.
-ghost use Rattle.std.specs.Prelude.{◌≡◌, ◌+◌, ◌≤◌, ◌<◌, ◌^◌, [], length, map, slice_get, All, IsTrue, IfOk, OnOk};
+ghost use Rattle.std.specs.Prelude.{◌≡◌, ◌+◌, ◌≤◌, ◌<◌, ◌^◌, [], length, map, slice_get, All, IsTrue, IfOk, OnOk, Some};
 ghost use Rattle.std.specs.Option.{option_map_or};
-ghost use Rattle.std.specs.List.Sorted.{IsStrictlyIncreasing};
 ghost use Rattle.civl_tree.specs.declared.stmt.Stmt.{out-Stmt};
-ghost use Rattle.civl_tree.specs.Numbering.{sizes_of, statements_of};
-ghost use Rattle.civl_paths.specs.Flows.{flow_from};
+ghost use Rattle.civl_tree.specs.declared.program.Proc.{Proc};
 ghost use Rattle.civl_values.specs.Values.{is_sort};
 ghost use Rattle.civl_meaning.specs.Meaning.{called};
 ghost use Rattle.civl_meaning.specs.Layers.{program_at};
@@ -12,17 +10,19 @@ ghost use Rattle.civl_terms.specs.Building.{Lengthens};
 ghost use Rattle.civl_terms.specs.Weights.{graph_weight};
 ghost use Rattle.civl_conditions.specs.Variables.{choices_of, layer_choices, passed_choices};
 ghost use Rattle.civl_formulas.specs.Given.{bits_of_sorts, AreVariablesOf};
+ghost use Rattle.civl_layers.specs.declared.cut.Cut.{Cut};
+ghost use Rattle.civl_layers.specs.Cuts.{proc_cuts};
+ghost use Rattle.civl_bodies.specs.Bodies.{ArePassed, IsBody};
 ghost use Rattle.civl_states.specs.Groups.{StandFrom};
 ghost use Rattle.civl_states.specs.Laying.{calls_at, call_sorts, with_some, AreChosen, ChooseMore};
 
 use crate::choices::{Choices, Chosen};
+use civl_bodies::{Body, passed_at};
 use civl_conditions::action_called;
 use civl_formulas::variables;
 use civl_layers::Cut;
-use civl_paths::met_from;
 use civl_terms::{Memory, Terms};
-use civl_tree::{Choice, List, Name, Proc, Program, Sort, Stmt};
-use civl_walks::statements;
+use civl_tree::{Choice, Name, Proc, Program, Sort, Stmt};
 use std::alloc::Global as Alloc;
 
 /// The choices of the action that a call of this name means in the program of a layer; none where it means none.
@@ -128,29 +128,18 @@ fn choices_from(
     Ok(calls)
 }
 
-/// The numbers of the statements that some path from a cut passes.
-pub(crate) fn passed_from(alloc: Alloc, proc: &Proc, cut: Cut) -> Result<List<u32>, Memory>
-    requires { sizes_of proc.now.body < 2 ^ 32 }
-    ensures passed { IfOk result (λ numbers. numbers ≡ map (λ q. q.0) (flow_from proc.now cut).passed) }
-    ensures order { IfOk result IsStrictlyIncreasing }
+/// The numbers of the statements that some path from the cut with this number passes, which is one of the body's.
+pub(crate) fn passed_from(alloc: Alloc, body: &Body<'_>, number: u32) -> Result<Vec<u32>, Memory>
+    requires { number < length body.now.passed.items }
+    ensures { IfOk result (λ passed. (proc : Proc) (cut : Cut) → IsBody proc body.now → slice_get body.now.cuts number ≡ Some cut → ArePassed proc cut passed.items) }
 {
-    match met_from(alloc, proc, cut) {
-        Ok(met) => Ok(met.passed),
+    match passed_at(alloc, body, number) {
+        Ok(passed) => Ok(passed),
         Err(_) => Err(Memory),
     }
 }
 
-/// All statements of a procedure.
-pub(crate) fn flat_statements<'a>(alloc: Alloc, proc: &'a Proc) -> Result<Vec<&'a Stmt>, Memory>
-    ensures { IfOk result (λ flat. map (λ s. s.now) flat.items ≡ statements_of proc.now.body) }
-{
-    match statements(alloc, &proc.body) {
-        Ok(flat) => Ok(flat),
-        Err(_) => Err(Memory),
-    }
-}
-
-/// The variables for the choices of the calls that some path from a cut passes, from this number on.
+/// The variables for the choices of the calls that some path from a cut of a procedure passes, from this number on.
 pub(crate) fn begin_choices(
     alloc: Alloc,
     terms: &mut Terms,
@@ -158,10 +147,13 @@ pub(crate) fn begin_choices(
     program: &Program,
     step: u32,
     proc: &Proc,
+    number: u32,
     cut: Cut,
+    body: &Body<'_>,
     first: u32,
 ) -> Result<Choices, Memory>
-    requires body { sizes_of proc.now.body < 2 ^ 32 }
+    requires there { slice_get (proc_cuts proc.now) number ≡ Some cut }
+    requires body { IsBody proc.now body.now }
     requires stand { StandFrom sorts.now first (call_sorts (passed_choices program.now step proc.now cut)) }
     requires small { length sorts.now < 2 ^ 32 }
     requires limits { All (λ s. IsTrue (is_sort s)) sorts.now }
@@ -171,16 +163,15 @@ pub(crate) fn begin_choices(
     ensures lengthens { Lengthens terms.old terms.new }
     ensures weighs { OnOk result (graph_weight terms.new ≤ graph_weight terms.old + bits_of_sorts (call_sorts (passed_choices program.now step proc.now cut))) }
 {
-    let numbers = passed_from(alloc, proc, cut)?;
-    let flat = flat_statements(alloc, proc)?;
+    let passed = passed_from(alloc, body, number)?;
     let calls = choices_from(
         alloc,
         terms,
         sorts,
         program,
         step.saturating_sub(1),
-        flat.as_slice(),
-        numbers.as_slice(),
+        body.statements.as_slice(),
+        passed.as_slice(),
         first,
     )?;
     Ok(Choices::from_vec(calls))

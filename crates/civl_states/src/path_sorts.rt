@@ -1,6 +1,7 @@
 // The sorts of the variables of paths from a cut.
-ghost use Rattle.std.specs.Prelude.{◌≡◌, ◌<◌, ◌^◌, ◌++◌, ◌∷◌, [], not, map, OnOk};
-ghost use Rattle.civl_tree.specs.Numbering.{sizes_of};
+ghost use Rattle.std.specs.Prelude.{◌≡◌, ◌++◌, ◌∷◌, [], not, map, OnOk};
+ghost use Rattle.civl_tree.specs.Numbering.{statements_of};
+ghost use Rattle.civl_bodies.specs.Bodies.{ArePassed};
 ghost use Rattle.civl_tree.specs.declared.expr.Sort.TheVariants.{Bool as Truth};
 ghost use Rattle.civl_tree.specs.rules.Uses.{param_sorts};
 ghost use Rattle.civl_paths.specs.Ends.{is_entry, is_rank_loop};
@@ -9,14 +10,13 @@ ghost use Rattle.civl_states.specs.declared.stores.Existing.TheVariants.{Near};
 ghost use Rattle.civl_states.specs.Existing.{existing_sorts};
 ghost use Rattle.civl_states.specs.Laying.{calls_at, call_sorts, inner_sorts, path_sorts, sorts_where};
 
-use crate::beginning_choices::{flat_statements, number_choices, passed_from};
+use crate::beginning_choices::number_choices;
 use crate::beginning_places::{is_entry, is_rank_loop};
 use crate::sort_groups::{push_choices, push_globals, push_locals, push_params};
 use crate::stores::Existing;
 use civl_layers::{Cut, CutKind};
 use civl_terms::Memory;
 use civl_tree::{Proc, Program, Sort, Stmt};
-use std::alloc::Global as Alloc;
 
 /// The old globals, at a rank loop.
 fn push_old_globals(
@@ -80,40 +80,18 @@ fn push_numbers(
     Ok(())
 }
 
-/// The choices of the calls that some path from a cut passes.
-fn push_passed(
-    alloc: Alloc,
-    sorts: &mut Vec<Sort>,
-    program: &Program,
-    step: u32,
-    proc: &Proc,
-    cut: Cut,
-) -> Result<(), Memory>
-    requires { sizes_of proc.now.body < 2 ^ 32 }
-    ensures { OnOk result (sorts.new.items ≡ sorts.old.items ++ call_sorts (passed_choices program.now step proc.now cut)) }
-{
-    let numbers = passed_from(alloc, proc, cut)?;
-    let flat = flat_statements(alloc, proc)?;
-    push_numbers(
-        sorts,
-        program,
-        step.saturating_sub(1),
-        flat.as_slice(),
-        numbers.as_slice(),
-    )?;
-    Ok(())
-}
-
 /// Those of the paths from a cut of a procedure.
 pub(crate) fn push_path(
-    alloc: Alloc,
     sorts: &mut Vec<Sort>,
     program: &Program,
     step: u32,
     proc: &Proc,
     cut: Cut,
+    flat: &[&Stmt],
+    passed: &[u32],
 ) -> Result<(), Memory>
-    requires { sizes_of proc.now.body < 2 ^ 32 }
+    requires flat { map (λ s. s.now) flat.now ≡ statements_of proc.now.body }
+    requires passed { ArePassed proc.now cut passed.now }
     ensures { OnOk result (sorts.new.items ≡ sorts.old.items ++ path_sorts program.now step proc.now cut.kind (passed_choices program.now step proc.now cut)) }
 {
     push_globals(sorts, program, Existing::Near(step))?;
@@ -123,6 +101,6 @@ pub(crate) fn push_path(
     push_old_outs(sorts, proc, cut.kind)?;
     push_flag(sorts, !is_entry(cut.kind))?;
     push_flag(sorts, is_rank_loop(cut.kind))?;
-    push_passed(alloc, sorts, program, step, proc, cut)?;
+    push_numbers(sorts, program, step.saturating_sub(1), flat, passed)?;
     Ok(())
 }

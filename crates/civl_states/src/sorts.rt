@@ -1,19 +1,20 @@
 // The sorts of a condition's variables.
-ghost use Rattle.std.specs.Prelude.{◌≡◌, ◌<◌, ◌^◌, ◌++◌, ◌∷◌, [], Some, length, map, slice_get, IfOk, IfSome, OnOk};
+ghost use Rattle.std.specs.Prelude.{◌≡◌, ◌++◌, [], Some, slice_get, IfOk, OnOk};
 ghost use Rattle.std.specs.Option.{option_map_or};
-ghost use Rattle.civl_tree.specs.Numbered.{IsNumbered};
-ghost use Rattle.civl_tree.specs.Numbering.{sizes_of};
+ghost use Rattle.civl_bodies.specs.Bodies.{AreBodies, IsBody};
 ghost use Rattle.civl_layers.specs.Cuts.{proc_cuts};
 ghost use Rattle.civl_conditions.specs.Steps.{of_action, of_cut};
 ghost use Rattle.civl_states.specs.Formulas.{sorts_of};
 ghost use Rattle.civl_states.specs.Runs.{instance_sorts, param_sorts};
 ghost use Rattle.civl_states.specs.Sorted.{cut_sorts, grouped_sorts, lower_sorts, other_sorts, thread_sorts};
 
+use crate::beginning_choices::passed_from;
 use crate::path_sorts::push_path;
 use crate::sort_groups::{push_globals, push_instance, push_locals, push_params};
 use crate::stores::Existing;
+use civl_bodies::{Bodies, Body, body_at};
 use civl_conditions::{Condition, Target};
-use civl_layers::{Cut, Layered, cuts, program};
+use civl_layers::{Layered, program};
 use civl_terms::Memory;
 use civl_tree::{List, Proc, Program, Sort};
 use std::alloc::Global;
@@ -83,36 +84,34 @@ fn push_other(sorts: &mut Vec<Sort>, program: &Program, target: Target) -> Resul
     }
 }
 
-/// The paths from the cut with this number among those of a procedure, where there is one.
+/// The paths from the cut with this number of a procedure, where there is one.
 fn push_from(
     alloc: Global,
     sorts: &mut Vec<Sort>,
     program: &Program,
     step: u32,
     proc: &Proc,
-    cuts: &[Cut],
+    body: &Body<'_>,
     number: u32,
 ) -> Result<(), Memory>
-    requires { sizes_of proc.now.body < 2 ^ 32 }
-    ensures { OnOk result (sorts.new.items ≡ sorts.old.items ++ option_map_or (cut_sorts program.now step proc.now) (slice_get cuts.now number) []) }
+    requires { IsBody proc.now body.now }
+    ensures { OnOk result (sorts.new.items ≡ sorts.old.items ++ option_map_or (cut_sorts program.now step proc.now) (slice_get (proc_cuts proc.now) number) []) }
 {
-    match cuts.get(number as usize) {
+    match body.cuts.as_slice().get(number as usize) {
         Some(cut) => {
-            push_path(alloc, sorts, program, step, proc, *cut)?;
+            let passed = passed_from(alloc, body, number)?;
+            push_path(
+                sorts,
+                program,
+                step,
+                proc,
+                *cut,
+                body.statements.as_slice(),
+                passed.as_slice(),
+            )?;
             Ok(())
         }
         None => Ok(()),
-    }
-}
-
-/// The cuts of the procedure with this number.
-fn cuts_of(alloc: Global, src: &Layered, number: u32) -> Result<List<Cut>, Memory>
-    requires { number < length src.now.procs }
-    ensures { IfOk result (λ cuts. IfSome (slice_get src.now.procs number) (λ proc. cuts ≡ proc_cuts proc)) }
-{
-    match cuts(alloc, src, number) {
-        Ok(cuts) => Ok(cuts),
-        Err(_) => Err(Memory),
     }
 }
 
@@ -121,17 +120,18 @@ fn push_in(
     alloc: Global,
     sorts: &mut Vec<Sort>,
     src: &Layered,
+    bodies: &Bodies<'_>,
     step: u32,
     number: u32,
     proc: &Proc,
     cut: u32,
 ) -> Result<(), Memory>
-    requires numbered { IsNumbered src.now }
+    requires bodies { AreBodies src.now bodies.now }
     requires found { slice_get src.now.procs number ≡ Some proc.now }
     ensures { OnOk result (sorts.new.items ≡ sorts.old.items ++ option_map_or (cut_sorts src.now step proc.now) (slice_get (proc_cuts proc.now) cut) []) }
 {
-    let cuts = cuts_of(alloc, src, number)?;
-    push_from(alloc, sorts, program(src), step, proc, cuts.as_slice(), cut)?;
+    let body = body_at(bodies, src, number);
+    push_from(alloc, sorts, program(src), step, proc, body, cut)?;
     Ok(())
 }
 
@@ -140,15 +140,17 @@ fn push_cut(
     alloc: Global,
     sorts: &mut Vec<Sort>,
     src: &Layered,
+    bodies: &Bodies<'_>,
     step: u32,
     number: u32,
     cut: u32,
 ) -> Result<(), Memory>
+    requires { AreBodies src.now bodies.now }
     ensures { OnOk result (sorts.new.items ≡ sorts.old.items ++ of_cut src.now number cut [] (cut_sorts src.now step)) }
 {
     match program(src).procs.as_slice().get(number as usize) {
         Some(proc) => {
-            push_in(alloc, sorts, src, step, number, proc, cut)?;
+            push_in(alloc, sorts, src, bodies, step, number, proc, cut)?;
             Ok(())
         }
         None => Ok(()),
@@ -163,8 +165,10 @@ fn push_groups(
     alloc: Global,
     sorts: &mut Vec<Sort>,
     src: &Layered,
+    bodies: &Bodies<'_>,
     condition: &Condition,
 ) -> Result<(), Memory>
+    requires { AreBodies src.now bodies.now }
     ensures { OnOk result (sorts.new.items ≡ sorts.old.items ++ grouped_sorts src.now condition.now) }
 {
     let program = program(src);
@@ -190,11 +194,11 @@ fn push_groups(
             Ok(())
         }
         Condition::Path(_, step, proc, cut) => {
-            push_cut(alloc, sorts, src, step, proc, cut)?;
+            push_cut(alloc, sorts, src, bodies, step, proc, cut)?;
             Ok(())
         }
         Condition::Block(step, proc, cut, target) => {
-            push_cut(alloc, sorts, src, step, proc, cut)?;
+            push_cut(alloc, sorts, src, bodies, step, proc, cut)?;
             push_other(sorts, program, target)?;
             Ok(())
         }
@@ -207,7 +211,7 @@ fn push_groups(
     }
 }
 
-/// The sorts of a condition's variables, in their order.
+/// The sorts of a condition's variables, in their order. `bodies` is what belongs to each procedure.
 ///
 /// # Errors
 ///
@@ -215,11 +219,13 @@ fn push_groups(
 pub fn variable_sorts(
     alloc: Global,
     src: &Layered,
+    bodies: &Bodies<'_>,
     condition: &Condition,
 ) -> Result<List<Sort>, Memory>
+    requires { AreBodies src.now bodies.now }
     ensures { IfOk result (λ sorts. sorts ≡ sorts_of src.now condition.now) }
 {
     let mut sorts = Vec::new(alloc);
-    push_groups(alloc, &mut sorts, src, condition)?;
+    push_groups(alloc, &mut sorts, src, bodies, condition)?;
     Ok(List::from_vec(sorts))
 }
