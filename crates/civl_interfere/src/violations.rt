@@ -11,8 +11,8 @@ use crate::acts::act_fails;
 use crate::starts::start_fails;
 use civl_conditions::{Condition, Target};
 use civl_layers::{Layered, program};
-use civl_states::variable_sorts;
 use civl_terms::{Id, Memory, Terms};
+use civl_tree::Sort;
 use std::alloc::Global as Alloc;
 
 /// The term of the formula that values violate a condition that initial stores or actions keep an invariant of the step, K1 and K11.
@@ -27,23 +27,24 @@ pub fn violation(
     alloc: Alloc,
     terms: &mut Terms,
     src: &Layered,
+    sorts: &[Sort],
     condition: &Condition,
 ) -> Result<Id, Memory>
     requires kind { IsOfInvariants src.now condition.now }
+    requires sorts { sorts.now ≡ sorts_of src.now condition.now }
     requires variables { AreVariablesOf terms.old (sorts_of src.now condition.now) }
     ensures says { IfOk result (λ id. IsViolation terms.new id src.now condition.now) }
     ensures weighs { OnOk result (graph_weight terms.new ≤ graph_weight terms.old + 4 * weight src.now condition.now) }
     ensures lengthens { Lengthens terms.old terms.new }
 {
-    let sorts = variable_sorts(alloc, src, condition)?;
     let program = program(src);
     match *condition {
         Condition::Start(step, place) => {
-            let id = start_fails(alloc, terms, program, sorts.as_slice(), step, place)?;
+            let id = start_fails(alloc, terms, program, sorts, step, place)?;
             Ok(id)
         }
         Condition::Act(step, action, Target::Invariant(place)) => {
-            let id = act_fails(alloc, terms, program, sorts.as_slice(), step, action, place)?;
+            let id = act_fails(alloc, terms, program, sorts, step, action, place)?;
             Ok(id)
         }
         _ => unreachable!(),

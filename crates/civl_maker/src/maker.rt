@@ -46,7 +46,7 @@ impl Makes for Maker {
     ) -> Result<Made, Memory> {
         // The program keeps the rules that bound the sorts of its variables.
         let _program = program(src);
-        let sorts = variable_sorts(alloc, src, condition)?;
+        let sorts = variable_sorts(alloc, src, bodies, condition)?;
         let mut terms = Terms::new(alloc);
         let id = violation(
             alloc,

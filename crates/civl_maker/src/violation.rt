@@ -71,7 +71,7 @@ pub(crate) fn violation(
 {
     match kind_of(condition) {
         Kind::Actions => {
-            let id = action_violation(alloc, terms, src, condition)?;
+            let id = action_violation(alloc, terms, src, sorts, condition)?;
             Ok(id)
         }
         Kind::Paths => {

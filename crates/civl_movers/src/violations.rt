@@ -26,7 +26,7 @@ use civl_bits::Value;
 use civl_conditions::Condition;
 use civl_formulas::{both, variables};
 use civl_layers::{Layered, program};
-use civl_states::{invocation, store, variable_sorts};
+use civl_states::{invocation, store};
 use civl_terms::{Id, Memory, Terms};
 use civl_tree::{Program, Sort};
 use std::alloc::Global as Alloc;
@@ -189,27 +189,28 @@ pub fn violation(
     alloc: Alloc,
     terms: &mut Terms,
     src: &Layered,
+    sorts: &[Sort],
     condition: &Condition,
 ) -> Result<Id, Memory>
     requires kind { IsOfActions src.now condition.now }
+    requires sorts { sorts.now ≡ sorts_of src.now condition.now }
     requires variables { AreVariablesOf terms.old (sorts_of src.now condition.now) }
     ensures says { IfOk result (λ id. IsViolation terms.new id src.now condition.now) }
     ensures weighs { OnOk result (HaveOutModes src.now → graph_weight terms.new ≤ graph_weight terms.old + 4 * weight src.now condition.now) }
     ensures lengthens { Lengthens terms.old terms.new }
 {
-    let sorts = variable_sorts(alloc, src, condition)?;
     let program = program(src);
     match *condition {
         Condition::Keep(step, action) => {
-            let id = keep_fails(alloc, terms, program, sorts.as_slice(), step, action)?;
+            let id = keep_fails(alloc, terms, program, sorts, step, action)?;
             Ok(id)
         }
         Condition::Pair(number, step, x, y) => {
-            let id = pair_fails(alloc, terms, program, sorts.as_slice(), number, step, x, y)?;
+            let id = pair_fails(alloc, terms, program, sorts, number, step, x, y)?;
             Ok(id)
         }
         Condition::Fire(step, action) => {
-            let id = fire_fails(alloc, terms, program, sorts.as_slice(), step, action)?;
+            let id = fire_fails(alloc, terms, program, sorts, step, action)?;
             Ok(id)
         }
         _ => unreachable!(),

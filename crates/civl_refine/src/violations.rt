@@ -1,11 +1,9 @@
 // The violations of the conditions on paths, as terms over their variables.
-ghost use Rattle.std.specs.Prelude.{◌≡◌, ◌+◌, ◌*◌, ◌≤◌, IfOk, OnOk, map};
-ghost use Rattle.std.specs.List.{Contains};
-ghost use Rattle.civl_tree.specs.Numbering.{statements_of};
+ghost use Rattle.std.specs.Prelude.{◌≡◌, ◌+◌, ◌*◌, ◌≤◌, IfOk, OnOk, Some, slice_get};
 ghost use Rattle.civl_tree.specs.rules.Rules.{Keeps};
 ghost use Rattle.civl_layers.specs.Cuts.{proc_cuts};
 ghost use Rattle.civl_layers.specs.Layered.{IsLayered};
-ghost use Rattle.civl_bodies.specs.Bodies.{AreBodies};
+ghost use Rattle.civl_bodies.specs.Bodies.{AreBodies, IsBody};
 ghost use Rattle.civl_linear.specs.Cuts.{all_held};
 ghost use Rattle.civl_linear.specs.LinearRules.{linear_rules};
 ghost use Rattle.civl_terms.specs.Building.{Lengthens};
@@ -18,7 +16,6 @@ ghost use Rattle.civl_conditions.specs.Weights.{bits_of_variables, path_weight, 
 ghost use Rattle.civl_formulas.specs.Given.{AreVariablesOf};
 ghost use Rattle.civl_states.specs.Formulas.{sorts_of, IsFormula, IsViolation};
 ghost use Rattle.civl_refine.specs.Assuming.{IsStart};
-ghost use Rattle.civl_refine.specs.Judging.{AreCuts};
 ghost use Rattle.civl_refine.specs.Kinds.{HasCut, IsOfPaths};
 ghost use Rattle.civl_refine.specs.Walked.{sorts_from};
 
@@ -26,11 +23,11 @@ use crate::failures::failing;
 use crate::finding::start_at;
 use crate::start::Start;
 use crate::walking::walk_from;
-use civl_bodies::{Bodies, body_at};
+use civl_bodies::{Bodies, Body, body_at};
 use civl_conditions::{Condition, Part};
-use civl_layers::{Cut, Held, Layered, program};
+use civl_layers::{Held, Layered, program};
 use civl_terms::{Id, Memory, Terms};
-use civl_tree::{Sort, Stmt};
+use civl_tree::Sort;
 use std::alloc::Global as Alloc;
 
 /// K9 from a cut: what is assumed there holds, and a part fails on the path from there.
@@ -40,22 +37,20 @@ fn path_at(
     sorts: &[Sort],
     start: &Start<'_>,
     part: Part,
-    cuts: &[Cut],
-    flat: &[&Stmt],
+    body: &Body<'_>,
 ) -> Result<Id, Memory>
     requires layered { IsLayered start.now.program.now }
     requires linear { Keeps linear_rules start.now.program.now }
     requires start { IsStart start.now }
-    requires there { Contains (proc_cuts start.now.proc.now) start.now.cut }
-    requires cuts { AreCuts start.now.proc.now cuts.now }
-    requires flat { map (λ s. s.now) flat.now ≡ statements_of start.now.proc.now.body }
+    requires there { slice_get (proc_cuts start.now.proc.now) start.now.number ≡ Some start.now.cut }
+    requires body { IsBody start.now.proc.now body.now }
     requires sorts { sorts.now ≡ sorts_from start.now }
     requires variables { AreVariablesOf terms.old sorts.now }
     ensures says { IfOk result (λ id. IsFormula terms.new id (sorts_from start.now) (λ values. path_fails start.now.program.now start.now.step part start.now.proc.now start.now.number start.now.cut (begun start.now.program.now start.now.step start.now.proc.now start.now.cut values))) }
     ensures weighs { OnOk result (graph_weight terms.new ≤ graph_weight terms.old + 4 * (bits_of_variables (path_variables start.now.program.now start.now.step start.now.proc.now start.now.cut) + path_weight start.now.program.now start.now.step part start.now.proc.now start.now.number start.now.cut)) }
     ensures lengthens { Lengthens terms.old terms.new }
 {
-    let walked = walk_from(alloc, terms, sorts, start, cuts)?;
+    let walked = walk_from(alloc, terms, sorts, start, body)?;
     let id = failing(
         alloc,
         terms,
@@ -63,8 +58,8 @@ fn path_at(
         part,
         &walked.beginning,
         &walked.walk,
-        cuts,
-        flat,
+        body.cuts.as_slice(),
+        body.statements.as_slice(),
     )?;
     Ok(id)
 }
@@ -106,15 +101,7 @@ fn path_fails(
         cut,
         body.statements.as_slice(),
     );
-    let id = path_at(
-        alloc,
-        terms,
-        sorts,
-        &start,
-        part,
-        body.cuts.as_slice(),
-        body.statements.as_slice(),
-    )?;
+    let id = path_at(alloc, terms, sorts, &start, part, body)?;
     Ok(id)
 }
 

@@ -1,8 +1,8 @@
 // The paths from a cut, with variables at their beginning.
-ghost use Rattle.std.specs.Prelude.{◌≡◌, ◌+◌, ◌*◌, ◌≤◌, ℕ, All, IsTrue, IfOk, OnOk};
-ghost use Rattle.std.specs.List.{Contains};
+ghost use Rattle.std.specs.Prelude.{◌≡◌, ◌+◌, ◌*◌, ◌≤◌, ℕ, All, IsTrue, IfOk, OnOk, Some, slice_get};
 ghost use Rattle.civl_tree.specs.rules.Rules.{Keeps};
 ghost use Rattle.civl_values.specs.Values.{is_sort};
+ghost use Rattle.civl_bodies.specs.Bodies.{IsBody};
 ghost use Rattle.civl_layers.specs.Cuts.{proc_cuts};
 ghost use Rattle.civl_layers.specs.Layered.{IsLayered};
 ghost use Rattle.civl_linear.specs.LinearRules.{linear_rules};
@@ -14,12 +14,11 @@ ghost use Rattle.civl_conditions.specs.Weights.{bits_of_variables, passed_weight
 ghost use Rattle.civl_formulas.specs.Given.{given, AreVariablesOf};
 ghost use Rattle.civl_states.specs.Groups.{StandFrom};
 ghost use Rattle.civl_refine.specs.Assuming.{IsStart};
-ghost use Rattle.civl_refine.specs.Judging.{AreCuts};
 ghost use Rattle.civl_refine.specs.Walked.{IsWalked, CanWalk, sorts_from};
 
 use crate::start::Start;
+use civl_bodies::Body;
 use civl_body::{Walk, walk};
-use civl_layers::Cut;
 use civl_states::{Beginning, begin};
 use civl_terms::{Memory, Terms};
 use civl_tree::Sort;
@@ -46,13 +45,13 @@ pub fn walk_from(
     terms: &mut Terms,
     sorts: &[Sort],
     start: &Start<'_>,
-    cuts: &[Cut],
+    body: &Body<'_>,
 ) -> Result<Walked, Memory>
     requires layered { IsLayered start.now.program.now }
     requires linear { Keeps linear_rules start.now.program.now }
     requires start { IsStart start.now }
-    requires there { Contains (proc_cuts start.now.proc.now) start.now.cut }
-    requires cuts { AreCuts start.now.proc.now cuts.now }
+    requires there { slice_get (proc_cuts start.now.proc.now) start.now.number ≡ Some start.now.cut }
+    requires body { IsBody start.now.proc.now body.now }
     requires stand { StandFrom sorts.now 0 (sorts_from start.now) }
     requires limits { All (λ s. IsTrue (is_sort s)) sorts.now }
     requires variables { AreVariablesOf terms.old sorts.now }
@@ -69,7 +68,9 @@ pub fn walk_from(
     let proc = start.proc;
     let step = start.step;
     let cut = start.cut;
-    let beginning = begin(alloc, terms, program, sorts, step, proc, cut)?;
+    let number = start.number;
+    let cuts = body.cuts.as_slice();
+    let beginning = begin(alloc, terms, program, sorts, step, proc, number, cut, body)?;
     let walk = walk(alloc, terms, program, step, proc, cut, cuts, &beginning)?;
     Ok(Walked { beginning, walk })
 }

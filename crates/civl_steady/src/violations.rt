@@ -1,11 +1,10 @@
 // The violations of the conditions on initial stores, and of those that blocks and actions keep invariants.
-ghost use Rattle.std.specs.Prelude.{◌≡◌, ◌+◌, ◌*◌, ◌≤◌, ◌<◌, All, IsTrue, IfOk, OnOk, length, map, if◌then◌else◌};
-ghost use Rattle.std.specs.List.{Contains};
+ghost use Rattle.std.specs.Prelude.{◌≡◌, ◌+◌, ◌*◌, ◌≤◌, ◌<◌, All, IsTrue, IfOk, OnOk, Some, slice_get, length, map, if◌then◌else◌};
 ghost use Rattle.civl_tree.specs.rules.Rules.{Keeps};
 ghost use Rattle.civl_values.specs.Values.{is_sort};
 ghost use Rattle.civl_layers.specs.Cuts.{proc_cuts};
 ghost use Rattle.civl_layers.specs.Layered.{IsLayered};
-ghost use Rattle.civl_bodies.specs.Bodies.{AreBodies};
+ghost use Rattle.civl_bodies.specs.Bodies.{AreBodies, IsBody};
 ghost use Rattle.civl_linear.specs.Cuts.{all_held};
 ghost use Rattle.civl_linear.specs.LinearRules.{linear_rules};
 ghost use Rattle.civl_terms.specs.Building.{Lengthens};
@@ -21,7 +20,6 @@ ghost use Rattle.civl_formulas.specs.Given.{given, AreVariablesOf};
 ghost use Rattle.civl_states.specs.Groups.{StandFrom};
 ghost use Rattle.civl_states.specs.Formulas.{sorts_of, IsViolation};
 ghost use Rattle.civl_refine.specs.Assuming.{IsStart};
-ghost use Rattle.civl_refine.specs.Judging.{AreCuts};
 ghost use Rattle.civl_refine.specs.Kinds.{HasCut};
 ghost use Rattle.civl_refine.specs.Walked.{sorts_from};
 ghost use Rattle.civl_steady.specs.Kept.{CanKeep, SaysOther, kept_weight};
@@ -33,10 +31,10 @@ use crate::acting::act_loses;
 use crate::blocks::block_loses;
 use crate::kept::Kept;
 use crate::makers::kept_of;
-use civl_bodies::{Bodies, body_at};
+use civl_bodies::{Bodies, Body, body_at};
 use civl_conditions::{Condition, Target};
 use civl_interfere::violation as interference;
-use civl_layers::{Cut, Held, Layered, program};
+use civl_layers::{Held, Layered, program};
 use civl_refine::{Start, start_at, walk_from};
 use civl_states::{Existing, existing_count, invocation, store};
 use civl_terms::{Id, Memory, Terms};
@@ -90,13 +88,13 @@ fn block_from(
     sorts: &[Sort],
     start: &Start<'_>,
     kept: &Kept<'_>,
-    cuts: &[Cut],
+    body: &Body<'_>,
 ) -> Result<Id, Memory>
     requires layered { IsLayered start.now.program.now }
     requires linear { Keeps linear_rules start.now.program.now }
     requires start { IsStart start.now }
-    requires there { Contains (proc_cuts start.now.proc.now) start.now.cut }
-    requires cuts { AreCuts start.now.proc.now cuts.now }
+    requires there { slice_get (proc_cuts start.now.proc.now) start.now.number ≡ Some start.now.cut }
+    requires body { IsBody start.now.proc.now body.now }
     requires stand { StandFrom sorts.now 0 (sorts_from start.now) }
     requires limits { All (λ s. IsTrue (is_sort s)) sorts.now }
     requires variables { AreVariablesOf terms.old sorts.now }
@@ -106,7 +104,8 @@ fn block_from(
     ensures lengthens { Lengthens terms.old terms.new }
     ensures weighs { OnOk result (graph_weight terms.new ≤ graph_weight terms.old + bits_of_variables (path_variables start.now.program.now start.now.step start.now.proc.now start.now.cut) + 4 * passed_weight start.now.program.now start.now.step start.now.proc.now start.now.cut + 4 * base_weight start.now.program.now start.now.step start.now.proc.now start.now.number start.now.cut + kept_weight start.now.program.now start.now.step kept.now + 4 * summed (map (end_weight start.now (kept_weight start.now.program.now start.now.step kept.now)) (ends_from start.now.proc.now start.now.cut)) + together_weight start.now kept.now + (if is_rank_loop start.now.cut.kind then 2 else 0)) }
 {
-    let walked = walk_from(alloc, terms, sorts, start, cuts)?;
+    let walked = walk_from(alloc, terms, sorts, start, body)?;
+    let cuts = body.cuts.as_slice();
     let id = block_loses(alloc, terms, start, kept, &walked, cuts)?;
     Ok(id)
 }
@@ -150,7 +149,7 @@ fn block_fails(
         body.statements.as_slice(),
     );
     let kept = kept_of(alloc, terms, src, held, bodies, sorts, target)?;
-    let id = block_from(alloc, terms, sorts, &start, &kept, body.cuts.as_slice())?;
+    let id = block_from(alloc, terms, sorts, &start, &kept, body)?;
     Ok(id)
 }
 
@@ -184,11 +183,11 @@ pub fn violation(
 {
     match *condition {
         Condition::Start(_, _) => {
-            let id = interference(alloc, terms, src, condition)?;
+            let id = interference(alloc, terms, src, sorts, condition)?;
             Ok(id)
         }
         Condition::Act(_, _, Target::Invariant(_)) => {
-            let id = interference(alloc, terms, src, condition)?;
+            let id = interference(alloc, terms, src, sorts, condition)?;
             Ok(id)
         }
         Condition::Act(step, action, Target::Yield(number, place)) => {

@@ -1,7 +1,10 @@
-use Rattle.std.specs.Prelude.{ℕ, length, List}
-use Rattle.std.proofs.Common.{◌≡◌, ◌∙◌, sym, ap, subst, arith}
+use Rattle.std.specs.Prelude.{ℕ, length, slice_get, IfSome, List}
+use Rattle.std.proofs.Common.{◌≡◌, ◌∙◌, Option, Some, sym, ap, subst, arith}
 use Rattle.civl_tree.specs.declared.expr.Sort.{Sort}
+use Rattle.civl_tree.specs.declared.program.Proc.{Proc}
 use Rattle.civl_tree.specs.declared.program.Program.{Program}
+use Rattle.civl_layers.specs.Cuts.{proc_cuts}
+use Rattle.civl_bodies.specs.Bodies.{IsBody}
 use Rattle.civl_terms.proofs.Growing.{lengthens_trans}
 use Rattle.civl_conditions.specs.declared.condition.Condition.TheVariants.{Block}
 use Rattle.civl_conditions.specs.Targets.{Other, block_fails}
@@ -15,7 +18,6 @@ use Rattle.civl_states.proofs.Formulas.{formula_of}
 use Rattle.civl_states.proofs.Given.{stand_first}
 use Rattle.civl_states.proofs.Limits.{AreSorts, sorts_append}
 use Rattle.civl_refine.specs.Walked.{StartsAt, sorts_from}
-use Rattle.civl_refine.proofs.Cutting.{cut_among}
 use Rattle.civl_refine.proofs.Placing.{paths_long, paths_are}
 use Rattle.civl_steady.specs.Kept.{IsTarget, other_at}
 use Rattle.civl_steady.specs.Losing.{block_loses}
@@ -42,7 +44,16 @@ kept_of-requires-clause-limits c =
     (sorts_append (sorts_from s) (other_sorts_of p c.args.target) (paths_are s.program.now h.rules s.step s.proc.now h.proc s.cut) (others_limited p (rules_of c.program-program.result.now p c.program-program.ensures.keeps c.program-program.ensures.same) c.args.target c.requires.there))
 
 pub block_from-requires-clause-there : goal.block_from-requires-clause-there
-block_from-requires-clause-there c = cut_among _ c.args.place c.start_at-start.result.cut c.start_at-start.ensures.at.cut
+block_from-requires-clause-there c =
+    let s = c.start_at-start.result in
+    let at = c.start_at-start.ensures.at in
+    subst (λ (n : ℕ). slice_get (proc_cuts s.proc.now) n ≡ Some s.cut) (sym at.place) at.cut
+
+pub block_from-requires-clause-body : goal.block_from-requires-clause-body
+block_from-requires-clause-body c =
+    let s = c.start_at-start.result in
+    let at = subst (λ (o : Program). StartsAt o c.args.step c.args.number c.args.place s) c.program-program.ensures.same c.start_at-start.ensures.at in
+    subst (λ (o : Option Proc). IfSome o (λ q. IsBody q c.body_at-body.result.now)) at.proc c.body_at-body.ensures
 
 pub block_from-requires-clause-stand : goal.block_from-requires-clause-stand
 block_from-requires-clause-stand c =
