@@ -17,8 +17,8 @@ ghost use Rattle.civl_symbolic.specs.declared.symbolic.Symbolic.TheVariants as s
 
 use crate::{Lits, Symbolic};
 use civl_circuits::{
-    Circuit, add, arithmetic_shift_right, bitwise_and, bitwise_or, bitwise_xor, choose, divide, equal, iff,
-    implies, less, less_or_equal, multiply, or, shift_left, shift_right, signed_less,
+    Circuit, add, arithmetic_shift_right, bitwise_and, bitwise_or, bitwise_xor, choose, divide,
+    equal, iff, implies, less, less_or_equal, multiply, or, shift_left, shift_right, signed_less,
     signed_less_or_equal, subtract,
 };
 use civl_cnf::{Lit, Memory};
