@@ -1,0 +1,13 @@
+mod Listing
+mod Seeing
+mod Fitting
+mod Agreeing
+mod Gathering
+mod Listed
+mod Rooting
+mod Owning
+mod Concluding
+mod Stepping
+mod Running
+mod Keeping
+mod Proving

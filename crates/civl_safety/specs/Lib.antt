@@ -1,0 +1,3 @@
+pub mod Outlined
+pub mod Stands
+pub mod Safe

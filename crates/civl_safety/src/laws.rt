@@ -1,0 +1,21 @@
+//! The laws. Each function computes nothing; its clauses are theorems.
+ghost use Rattle.civl_safety.specs.Safe.{TopIsSafe, LowestIsSafe};
+
+use civl_checked::laws::checked;
+use civl_simulation::laws::accepted_programs_preserve;
+
+/// Where an outline fits and all its goals hold, no run of the topmost program fails.
+pub fn top_is_safe()
+    ensures { TopIsSafe }
+{
+    checked();
+}
+
+/// And where all conditions hold too, no interleaving of the lowest program does.
+pub fn lowest_is_safe()
+    ensures { LowestIsSafe }
+{
+    checked();
+    top_is_safe();
+    accepted_programs_preserve();
+}
