@@ -2,7 +2,7 @@
 use Rattle.std.proofs.Common.{◌≡◌, ℕ, zero, suc, ◌+◌, ◌-◌, ◌<◌, ◌≤◌, Bool, true, false, not, ◌&&◌, ◌||◌, List, [], ◌∷◌, ◌++◌, map, Option, Some, None, refl, sym, ap, ap₂, ◌∙◌, subst, inl, inr, ◌⊎◌, arith, append-nil}
 use Rattle.std.specs.Prelude.{slice_get, nat_eq, flat_map, ◌==◌, if◌then◌else◌}
 use Rattle.std.specs.List.{list_any, list_all}
-use Rattle.std.proofs.lemmas.Bool.{or_parts, and_parts, and_from, eq-eqb, cases_lt, false≢true}
+use Rattle.std.proofs.lemmas.Bool.{or_parts, or_left, or_right, and_parts, and_from, eq-eqb, cases_lt, false≢true}
 use Rattle.std.proofs.lemmas.Option.{same_Some, none-some}
 use Rattle.civl_bits.specs.declared.value.Value.{Value}
 use Rattle.civl_values.specs.Values.{HaveSorts}
@@ -33,13 +33,11 @@ use Rattle.civl_conditions.specs.Violated.{Holds}
 use Rattle.civl_condition_laws.proofs.Carrying.{LinearPass, same_linear}
 use Rattle.civl_condition_laws.proofs.Meeting.{actions_of_states}
 use Rattle.civl_permissions.specs.Stay.{KeepsPermissions}
-use Rattle.civl_permissions.proofs.Counting.{all_by, has}
 use Rattle.civl_goals.specs.declared.goal.Goal.TheVariants as goal
 use Rattle.civl_goals.specs.Variables.{variables}
 use Rattle.civl_goals.specs.Listed.{moves_permissions}
 use Rattle.civl_goals.specs.Failed.{failed}
-use Rattle.civl_safety.specs.Outlined.{IsOutlined}
-use Rattle.civl_safety.specs.Safe.{LowerKeepPermissions}
+use Rattle.civl_safety.specs.Outlined.{IsOutlined, LowerKeepPermissions}
 use Rattle.civl_safety.proofs.Listing.{none_at}
 use Rattle.civl_safety.proofs.Listed.{linear_listed}
 
@@ -66,8 +64,14 @@ none_linear (p ∷ ps) (v ∷ vs) h =
     ap₂ (λ (b : Bool) (l : List (List ℕ)). (if b then permissions_of_word v ∷ [] else []) ++ l) q.0 (none_linear ps vs q.1)
 
 -- what is among these is included in them
+all_among : (xs ys : List ℕ) → ((p : ℕ) → list_any (nat_eq p) xs ≡ true → list_any (nat_eq p) ys ≡ true) → list_all (λ p. list_any (nat_eq p) ys) xs ≡ true
+all_among [] ys h = refl
+all_among (x ∷ xs) ys h =
+    and_from (list_any (nat_eq x) ys) (list_all (λ p. list_any (nat_eq p) ys) xs) (h x (or_left (nat_eq x x) (list_any (nat_eq x) xs) (eq-eqb x x refl)))
+    (all_among xs ys (λ p k. h p (or_right (nat_eq p x) (list_any (nat_eq p) xs) k)))
+
 included_self : (ps : List (List ℕ)) → included ps ps ≡ true
-included_self ps = all_by (λ p. list_any (nat_eq p) (flat_map (λ qs. qs) ps)) (flat_map (λ qs. qs) ps) (λ p h. h)
+included_self ps = all_among (flat_map (λ qs. qs) ps) (flat_map (λ qs. qs) ps) (λ p h. h)
 
 -- outputs that the grammar can write
 outs_linear : (m : Mode) → is_out_mode m ≡ true → is_linear m ≡ is_given m
@@ -91,7 +95,7 @@ and_false true b e = e
 and_false false b e = refl
 
 first_false : (a b : Bool) → a ≡ false → (a && b) ≡ false
-first_false true b e = e
+first_false true b e = absurd (false≢true (sym e))
 first_false false b e = refl
 
 second_false : (a b : Bool) → a ≡ true → (a && b) ≡ false → b ≡ false
@@ -157,18 +161,18 @@ module _ (program : Program) (written : allows_program program ≡ true) (layere
       let this = all_get (allows_action (program.version == 2)) program.actions number a four.0 at in
       (and_parts (list_all allows_out a.outs) _ (and_parts (list_all allows_param a.params) _ (and_parts (allows_name a.name) _ this).1).1).0
 
+  keep_holds : (number : ℕ) (a : Action) → slice_get program.actions number ≡ Some a → a.first ≡ program.layers → moves_permissions program a ≡ true → Holds program (Keep (program.layers + 1) number)
+  unfolding failed variables
+  keep_holds number a at first m = o.hold (goal.Linear number) (linear_listed program outline number a at (eq-eqb a.first program.layers first) m)
+
   top_keeps : (number : ℕ) (a : Action) → slice_get program.actions number ≡ Some a → a.first ≡ program.layers → KeepsPermissions program a
   top_keeps number a at first store inputs chosen fit sorted also = by_moves (moves_permissions program a) refl
     where
       begins : begins_below (program.layers + 1) a ≡ true
       begins = eq-eqb (a.first + 1) (program.layers + 1) (ap (λ (n : ℕ). n + 1) first)
 
-      holds : moves_permissions program a ≡ true → Holds program (Keep (program.layers + 1) number)
-      unfolding failed variables
-      holds m = o.hold (goal.Linear number) (linear_listed program outline number a at (eq-eqb a.first program.layers first) m)
-
       by_moves : (b : Bool) → moves_permissions program a ≡ b → loses program store (record { action = a; inputs = inputs; chosen = chosen }) ≡ false
-      by_moves true m = (actions_of_states program layered).keeps (program.layers + 1) number store (record { action = a; inputs = inputs; chosen = chosen }) (holds m) fit (record { action = at; inputs = sorted; chosen = also }) begins
+      by_moves true m = (actions_of_states program layered).keeps (program.layers + 1) number store (record { action = a; inputs = inputs; chosen = chosen }) (keep_holds number a at first m) fit (record { action = at; inputs = sorted; chosen = also }) begins
       by_moves false m = still_keeps program a (outs_written number a at) m store fit inputs chosen
 
   pub all_keep : (number : ℕ) (a : Action) → slice_get program.actions number ≡ Some a → a.first ≤ program.layers → KeepsPermissions program a

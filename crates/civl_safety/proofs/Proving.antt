@@ -1,20 +1,24 @@
 -- Where an outline fits and all its goals hold, the topmost program doesn't fail, and where all conditions hold too, the lowest doesn't.
-use Rattle.std.proofs.Common.{◌≡◌, ℕ, sym}
-use Rattle.civl_tree.specs.declared.program.Program.{Program}
-use Rattle.civl_firing.specs.declared.store.Store.{Store}
 use Rattle.civl_permissions.proofs.Reaching.{are_writable, meant_begins}
 use Rattle.civl_checked.specs.Checked.{SpawnsAreInRoots, ActionsKeepPermissions}
 use Rattle.civl_simulation.specs.Preserved.{AcceptedProgramsPreserve}
+use Rattle.civl_safety.specs.Stands.{OutlineStays}
 use Rattle.civl_safety.specs.Safe.{TopIsSafe, LowestIsSafe}
 use Rattle.civl_safety.proofs.Keeping.{all_keep}
-use Rattle.civl_safety.proofs.Running.{cannot_fail}
+use Rattle.civl_safety.proofs.Running.{what_stands, cannot_fail}
+
+pub outline_stays : SpawnsAreInRoots → OutlineStays
+outline_stays roots program outline store moves config h fits runs =
+    what_stands program outline h.layered h.linear h.yields (are_writable program h.written) (roots program h.yields)
+    (λ action meant. let m = meant_begins program h.layered program.layers action meant in all_keep program h.written h.layered outline h.outlined h.permissions m.0 action m.1 m.2) h.outlined store h.initial moves config fits runs
 
 pub top_is_safe : SpawnsAreInRoots → TopIsSafe
-top_is_safe roots program outline store written layered linear yields lower o initial =
-    cannot_fail program outline layered linear yields (are_writable program written) (roots program yields)
-    (λ action meant. let m = meant_begins program layered program.layers action meant in all_keep program written layered outline o lower m.0 action m.1 m.2) o store initial
+top_is_safe roots program outline store h =
+    cannot_fail program outline h.layered h.linear h.yields (are_writable program h.written) (roots program h.yields)
+    (λ action meant. let m = meant_begins program h.layered program.layers action meant in all_keep program h.written h.layered outline h.outlined h.permissions m.0 action m.1 m.2) h.outlined store h.initial
 
 pub lowest_is_safe : TopIsSafe → ActionsKeepPermissions → AcceptedProgramsPreserve → LowestIsSafe
 lowest_is_safe top keep preserve program outline store a o initial fails =
-    top program outline store a.written a.layered a.linear a.yields (λ number action at low. keep program number action a.layered a.hold at low) o initial
+    top program outline store
+    (record { written = a.written; layered = a.layered; linear = a.linear; yields = a.yields; permissions = λ number action at low. keep program number action a.layered a.hold at low; outlined = o; initial = initial })
     ((preserve program a (store, initial)).preserved store initial fails)

@@ -71,7 +71,7 @@ use Rattle.civl_goals.specs.Listed.{is_root, has_statement, begins}
 use Rattle.civl_goals.specs.Failed as failing
 use Rattle.civl_goals.specs.Failed.{owned_in, does, failed}
 use Rattle.civl_safety.specs.Outlined.{IsOutlined}
-use Rattle.civl_safety.specs.Stands.{StateStands, ThreadStands}
+use Rattle.civl_safety.specs.Stands.{StateStands, ThreadStands, Stands}
 use Rattle.civl_safety.proofs.Listing.{set_all}
 use Rattle.civl_safety.proofs.Fitting.{written}
 use Rattle.civl_safety.proofs.Listed.{invariant_listed, thread_listed}
@@ -340,6 +340,13 @@ module _ (program : Program) (outline : Outline) (layered : IsLayered program) (
       invariant = start_invariant;
       stand = All-map (ThreadStands program outline store) (begun program store) program.threads (all_by_get (λ (t : Thread). ThreadStands program outline store (begun program store t)) program.threads begun_stands);
     }
+
+  -- ---- runs
+
+  pub what_stands : (store : Store) → IsInitial program store → (moves : List Move) (config : Config) → All IsMove moves → RunsTo plain moves (start plain store) config → Stands program outline config
+  what_stands store initial moves config fits runs =
+      let h = run_holds moves (start plain store) config fits runs (start_holds store initial) in
+      record { invariant = h.invariant; parted = h.kept.parted; threads = h.stand }
 
   pub cannot_fail : (store : Store) → IsInitial program store → CanFail plain store → ⊥
   cannot_fail store initial f =

@@ -5,15 +5,22 @@ use Rattle.civl_tree.specs.declared.program.Proc.{Proc}
 use Rattle.civl_tree.specs.declared.program.Program.{Program}
 use Rattle.civl_outlines.specs.declared.outline.Outline.{Outline}
 use Rattle.civl_firing.specs.declared.store.Store.{Store}
+use Rattle.civl_meaning.specs.declared.config.Move.{Move}
 use Rattle.civl_meaning.specs.declared.config.State.{State}
 use Rattle.civl_meaning.specs.declared.config.State.TheVariants.{Before, Inside, After}
 use Rattle.civl_meaning.specs.declared.config.Running.{Running}
 use Rattle.civl_meaning.specs.declared.config.Config.{Config}
 use Rattle.civl_meaning.specs.Change.{new_frame}
+use Rattle.civl_meaning.specs.Failing.{IsMove}
+use Rattle.civl_meaning.specs.Layers.{topmost}
+use Rattle.civl_meaning.specs.Run.{RunsTo}
+use Rattle.civl_meaning.specs.Step.{start}
 use Rattle.civl_permissions.specs.Owned.{IsParted}
 use Rattle.civl_goals.specs.Outlines.{invariant_holds, note_holds}
+use Rattle.civl_safety.specs.Outlined.{IsProved}
 
--- before its first step a thread stands at the first place of its procedure, and then in one frame alone
+-- before its first step a thread stands before the first statement of its procedure, where it will have its arguments and zeros; then
+-- it has one frame alone
 abbrev pub StateStands : Program → Outline → Store → Running → State → Type 0
 StateStands program outline store thread Before =
     (proc : Proc) → slice_get program.procs thread.callee ≡ Some proc → IsTrue (note_holds program outline store (new_frame thread.callee proc thread.args))
@@ -27,3 +34,9 @@ pub record Stands (program : Program) (outline : Outline) (config : Config) : Ty
   pub invariant : IsTrue (invariant_holds program outline config.store)
   pub parted : IsParted program config
   pub threads : All (ThreadStands program outline config.store) config.threads
+
+-- it holds of every configuration that a run of the topmost program reaches from an initial store
+abbrev pub OutlineStays : Type 0
+OutlineStays =
+    (program : Program) (outline : Outline) (store : Store) (moves : List Move) (config : Config)
+    → IsProved program outline store → All IsMove moves → RunsTo (topmost program) moves (start (topmost program) store) config → Stands program outline config
