@@ -10,4 +10,6 @@ mod Concluding
 mod Stepping
 mod Running
 mod Keeping
+mod Gated
+mod Accepting
 mod Proving

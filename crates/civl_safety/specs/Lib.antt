@@ -1,3 +1,4 @@
 pub mod Outlined
 pub mod Stands
 pub mod Safe
+pub mod examples

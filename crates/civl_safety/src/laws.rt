@@ -5,6 +5,8 @@ ghost use Rattle.civl_safety.specs.Safe.{TopIsSafe, LowestIsSafe};
 use civl_checked::laws::checked;
 use civl_simulation::laws::accepted_programs_preserve;
 
+pub mod examples;
+
 /// Where an outline fits and all its goals hold, what it says holds of each configuration that a run of the topmost program reaches.
 pub fn outline_stays()
     ensures { OutlineStays }
