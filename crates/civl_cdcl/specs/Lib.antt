@@ -2,5 +2,6 @@ pub mod Levels
 pub mod Propagation
 pub mod Analysis
 pub mod Outcome
+pub mod Order
 pub mod Turn
 pub mod Laws

@@ -1,18 +1,40 @@
-// The choice of the next decision.
-ghost use Rattle.std.specs.Prelude.{◌≤◌, ◌^◌, length};
-ghost use Rattle.civl_cdcl.specs.Propagation.{ChoiceSays};
+// Variables without a value.
+ghost use Rattle.std.specs.Prelude.{◌≤◌, length, IsTrue};
+ghost use Rattle.civl_cdcl.specs.Order.{IsFree, ScanSays, OpenSays};
 
-use civl_cnf::Lit;
-
-/// The literal that is decided next, if a variable has no value: the negation of the first such variable.
-pub fn choose(marks: &[Option<bool>]) -> Option<Lit>
-    requires { length marks.now ≤ 2 ^ 31 }
-    ensures { ChoiceSays marks.now result }
+/// Whether a number is that of a variable without a value.
+pub fn is_open(marks: &[Option<bool>], variable: usize) -> bool
+    ensures { IsTrue result → IsFree marks.now variable }
 {
-    for variable in 0..marks.len() {
+    if variable >= marks.len() {
+        return false;
+    }
+    match marks[variable] {
+        None => true,
+        Some(_) => false,
+    }
+}
+
+/// A variable without a value, from one number to another.
+fn scan(marks: &[Option<bool>], from: usize, to: usize) -> Option<usize>
+    requires { to ≤ length marks.now }
+    ensures { ScanSays marks.now from to result }
+{
+    for variable in from..to {
         if marks[variable].is_none() {
-            return Some(Lit::new(variable as u32, false));
+            return Some(variable);
         }
     }
     None
+}
+
+/// A variable without a value, if there is one. Those from a number on are looked at first.
+pub fn next_open(marks: &[Option<bool>], from: usize) -> Option<usize>
+    ensures { OpenSays marks.now result }
+{
+    let middle = from.min(marks.len());
+    match scan(marks, middle, marks.len()) {
+        Some(variable) => Some(variable),
+        None => scan(marks, 0, middle),
+    }
 }

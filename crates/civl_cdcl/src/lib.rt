@@ -6,11 +6,11 @@ mod choice;
 mod laws;
 mod levels;
 mod memory;
+mod order;
 mod outcome;
 mod solving;
 mod turn;
 
-pub use choice::choose;
 pub use laws::{
     half_has_models, model_excludes_refutation, spent_budget_is_small, square_is_refuted,
 };

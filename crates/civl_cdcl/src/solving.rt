@@ -5,6 +5,7 @@ ghost use Rattle.civl_rup.specs.Standing.{IsAtRoot, Stands};
 ghost use Rattle.civl_cdcl.specs.Turn.{AreBits};
 ghost use Rattle.civl_cdcl.specs.Outcome.{OutcomeSays, IsModel, RefutesWithin, SpendsWhole};
 
+use crate::order::Order;
 use crate::turn::{Turn, take_turn};
 use crate::{Memory, Outcome};
 use civl_cnf::{Bits, Clause, Cnf, Log};
@@ -48,7 +49,13 @@ fn load(engine: &mut Engine, cnf: &Cnf) -> Result<bool, Memory>
 }
 
 /// Goes from conflict to conflict until an outcome is found, over an engine with the clauses of the set.
-fn search(alloc: Global, engine: &mut Engine, cnf: &Cnf, budget: u32) -> Result<Outcome, Memory>
+fn search(
+    alloc: Global,
+    engine: &mut Engine,
+    order: &mut Order,
+    cnf: &Cnf,
+    budget: u32,
+) -> Result<Outcome, Memory>
     requires { IsAtRoot engine.old cnf.now.variables cnf.now.clauses }
     ensures { IfOk result (OutcomeSays cnf.now budget) }
 {
@@ -56,7 +63,7 @@ fn search(alloc: Global, engine: &mut Engine, cnf: &Cnf, budget: u32) -> Result<
     let mut ended = Ended::Quiet;
     'turns: loop {
         let may_learn = log.len() < budget as usize;
-        let turned = take_turn(alloc, engine, ended, may_learn)?;
+        let turned = take_turn(alloc, engine, order, ended, may_learn)?;
         match turned {
             Turn::Marked => {
                 let bits = bits_of(alloc, engine.trail().marks())?;
@@ -95,7 +102,8 @@ fn run(alloc: Global, cnf: &Cnf, budget: u32) -> Result<Outcome, Memory>
         let log = empty_log(alloc)?;
         return Ok(Outcome::Unsat(log));
     }
-    let outcome = search(alloc, &mut engine, cnf, budget)?;
+    let mut order = Order::new(alloc, cnf.variables())?;
+    let outcome = search(alloc, &mut engine, &mut order, cnf, budget)?;
     Ok(outcome)
 }
 

@@ -6,8 +6,8 @@ ghost use Rattle.civl_cdcl.specs.Turn.{TurnSays};
 
 use crate::Memory;
 use crate::analysis::learn;
-use crate::choice::choose;
 use crate::levels::last_start;
+use crate::order::Order;
 use civl_cnf::Clause;
 use civl_propagation::{Ended, Engine};
 use std::alloc::Global;
@@ -21,8 +21,8 @@ pub enum Turn {
     Learns(Clause),
 }
 
-/// Decides and propagates by turns, from where propagation ended so.
-fn descend(engine: &mut Engine, begun: Ended) -> Result<Ended, Memory>
+/// Decides and propagates by turns, from where propagation ended so, in this order.
+fn descend(engine: &mut Engine, order: &mut Order, begun: Ended) -> Result<Ended, Memory>
     requires { EndsBy engine.old begun }
     ensures clauses { OnOk result (engine.new.clauses ≡ engine.old.clauses) }
     ensures size { OnOk result (length engine.new.trail.marks ≡ length engine.old.trail.marks) }
@@ -32,7 +32,7 @@ fn descend(engine: &mut Engine, begun: Ended) -> Result<Ended, Memory>
     loop {
         match ended {
             Ended::Conflict(falsified) => return Ok(Ended::Conflict(falsified)),
-            Ended::Quiet => match choose(engine.trail().marks()) {
+            Ended::Quiet => match order.choose(engine.trail().marks()) {
                 None => return Ok(Ended::Quiet),
                 Some(lit) => ended = engine.decide(lit)?,
             },
@@ -44,24 +44,27 @@ fn descend(engine: &mut Engine, begun: Ended) -> Result<Ended, Memory>
 pub fn take_turn(
     alloc: Global,
     engine: &mut Engine,
+    order: &mut Order,
     begun: Ended,
     may_learn: bool,
 ) -> Result<Turn, Memory>
     requires { EndsBy engine.old begun }
     ensures { IfOk result (TurnSays may_learn engine.old engine.new) }
 {
-    let ended = descend(engine, begun)?;
+    let ended = descend(engine, order, begun)?;
     match ended {
         Ended::Quiet => Ok(Turn::Marked),
         Ended::Conflict(conflict) => match last_start(engine.trail().starts()) {
             None => Ok(Turn::Refuted),
             Some(start) => {
                 let learned = learn(alloc, engine.trail(), engine.clauses(), conflict, start)?;
-                if !may_learn {
-                    return Ok(Turn::Full);
+                if may_learn {
+                    order.note(learned.clause.lits())?;
+                    order.take_back(engine.trail(), learned.levels)?;
+                    engine.cut(learned.levels);
+                    return Ok(Turn::Learns(learned.clause));
                 }
-                engine.cut(learned.levels);
-                Ok(Turn::Learns(learned.clause))
+                Ok(Turn::Full)
             }
         },
     }

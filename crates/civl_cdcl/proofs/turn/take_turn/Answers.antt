@@ -63,14 +63,14 @@ learn-requires-clause-conflict c =
     subst (λ (t : TrailState). IsAt c.clauses.result.now r (IsFalsified (marked t.marks))) (sym c.trail-in-Some.ensures)
     (subst (λ (cs : List (List Literal)). IsAt cs r (IsFalsified (marked e.trail.marks))) (sym c.clauses.ensures) found.1)
 
-pub returns-then-not-may_learn : goal.returns-then-not-may_learn
-returns-then-not-may_learn c =
+pub returns-else-may_learn : goal.returns-else-may_learn
+returns-else-may_learn c =
     let e = c.descend.new.engine in
     let says = c.in_ok-ended.ensures in
     let found = subst (DescentSays e) c.in-Conflict.is says.ended in
     let last = subst (λ (s : List ℕ). LastSays s (Some c.in-Some.start)) (c.starts.ensures ∙ ap (λ (t : TrailState). t.starts) c.trail.ensures) c.in-Some.ensures in
     let learned = learned_as _ _ _ _ _ _ c.trail-in-Some.ensures c.clauses.ensures c.in_ok-learned-in-Some.ensures in
-    full_as c.args.engine.now e _ _ _ c.in-Some.start says.size says.clauses c.if-not-may_learn.true found.0.trail last learned
+    full_as c.args.engine.now e _ _ _ c.in-Some.start says.size says.clauses c.if-may_learn.false found.0.trail last learned
 
 pub cut-requires-clause-engine : goal.cut-requires-clause-engine
 cut-requires-clause-engine c =
@@ -82,11 +82,11 @@ cut-requires-clause-levels c =
     let learned = learned_as _ _ _ _ _ _ c.trail-in-Some.ensures c.clauses.ensures c.in_ok-learned-in-Some.ensures in
     learned.fewer
 
-pub returns-else-not-may_learn : goal.returns-else-not-may_learn
-returns-else-not-may_learn c =
+pub returns-then-may_learn : goal.returns-then-may_learn
+returns-then-may_learn c =
     let e = c.descend.new.engine in
     let says = c.in_ok-ended.ensures in
     let found = subst (DescentSays e) c.in-Conflict.is says.ended in
     let learned = learned_as _ _ _ _ _ _ c.trail-in-Some.ensures c.clauses.ensures c.in_ok-learned-in-Some.ensures in
     let back = c.cut.ensures in
-    learned_by_cut c.args.engine.now e c.cut.new.self _ _ _ says.size says.clauses c.if-not-may_learn.false found.0.trail learned back.rest back.clauses back.cut
+    learned_by_cut c.args.engine.now e c.cut.new.self _ _ _ says.size says.clauses c.if-may_learn.true found.0.trail learned back.rest back.clauses back.cut
