@@ -12,9 +12,13 @@ use Rattle.civl_units.proofs.MarkLemmas.{same_self, below_or_not, lt_or_eq}
 use Rattle.civl_propagation.specs.Trail.{TrailState, before, IsAt, IsStep, ReasonSays, IsTrail, IsTrailOver}
 use Rattle.civl_propagation.specs.declared.trail.Step.{Step}
 use Rattle.civl_propagation.proofs.Trails.{some_lit, some_step, those_test, those_marked, those_by, before_place, before_by, before_marked}
-use Rattle.civl_propagation.proofs.Serving.{at_same, mark_is}
+use Rattle.civl_propagation.proofs.Serving.{mark_is}
 use Rattle.civl_cdcl.specs.Levels.{LastSays}
 use Rattle.civl_cdcl.specs.Analysis.{sees, HasVariable, Sees, Resolves, Analyses, HasOne, IsUnseen}
+
+-- an element read with another default
+at_same : {X : Type 0} (xs : List X) (n k : ℕ) (x d : X) → n < length xs → k ≡ n → get_or xs n x ≡ get_or xs k d
+at_same xs n k x d below same = get_or_default xs n x d below ∙ ap (λ i. get_or xs i d) (sym same)
 
 -- a clause that is falsified, by its number
 pub conflict_at : (s : ℕ → Bool → Bool) (clauses : List (List Literal)) (i : ℕ) → IsAt clauses i (IsFalsified s) → HasConflict s clauses
