@@ -104,8 +104,8 @@ fn block_from(
     ensures lengthens { Lengthens terms.old terms.new }
     ensures weighs { OnOk result (graph_weight terms.new ≤ graph_weight terms.old + bits_of_variables (path_variables start.now.program.now start.now.step start.now.proc.now start.now.cut) + 4 * passed_weight start.now.program.now start.now.step start.now.proc.now start.now.cut + 4 * base_weight start.now.program.now start.now.step start.now.proc.now start.now.number start.now.cut + kept_weight start.now.program.now start.now.step kept.now + 4 * summed (map (end_weight start.now (kept_weight start.now.program.now start.now.step kept.now)) (ends_from start.now.proc.now start.now.cut)) + together_weight start.now kept.now + (if is_rank_loop start.now.cut.kind then 2 else 0)) }
 {
-    let walked = walk_from(alloc, terms, sorts, start, body)?;
     let cuts = body.cuts.as_slice();
+    let walked = walk_from(alloc, terms, sorts, start, body)?;
     let id = block_loses(alloc, terms, start, kept, &walked, cuts)?;
     Ok(id)
 }

@@ -1,5 +1,5 @@
 use Rattle.std.specs.Prelude.{length, map}
-use Rattle.std.proofs.Common.{arith}
+use Rattle.std.proofs.Common.{◌∙◌, arith}
 use Rattle.civl_terms.proofs.Growing.{lengthens_trans, lengthened}
 use Rattle.civl_conditions.specs.Values.{Begun, begun}
 use Rattle.civl_formulas.specs.Said.{Env}
@@ -16,6 +16,9 @@ use Rattle.civl_steady.proofs.violations.block_from.Goals as goal
 
 pub block_loses-requires-clause-kept : goal.block_loses-requires-clause-kept
 block_loses-requires-clause-kept c = frame_after _ _ c.args.start.now.program.now c.args.kept.now c.in_ok-walked.ensures.lengthens c.requires.kept
+
+pub block_loses-requires-clause-cuts : goal.block_loses-requires-clause-cuts
+block_loses-requires-clause-cuts c = c.as_slice-cuts.ensures ∙ c.requires.body.cuts
 
 pub returns-in_err-id-clause-lengthens : goal.returns-in_err-id-clause-lengthens
 returns-in_err-id-clause-lengthens c = lengthens_trans _ _ _ c.in_ok-walked.ensures.lengthens (lengthened _ _ c.in_err-id.ensures.grows)
