@@ -1,5 +1,5 @@
 pub mod Analysing
-mod Teaching
+mod Lessons
 mod Turning
 pub mod Outcomes
 pub mod Examples

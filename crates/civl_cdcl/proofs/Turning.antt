@@ -1,5 +1,5 @@
 -- The search up to its next conflict.
-use Rattle.std.proofs.Common.{◌≡◌, ℕ, ◌<◌, List, [], length, get_or, sym, ◌∙◌, ap, subst, arith, Bool, true, false}
+use Rattle.std.proofs.Common.{◌≡◌, ℕ, ◌<◌, ◌≤◌, List, [], length, get_or, sym, ◌∙◌, ap, subst, arith, Bool, true, false}
 use Rattle.std.specs.Prelude.{Some}
 use Rattle.std.proofs.lemmas.List.{get_or-take, length-take-le}
 use Rattle.std.proofs.lemmas.List.Elements.{All-nil}
@@ -7,16 +7,15 @@ use Rattle.civl_cnf.specs.Literal.{Literal}
 use Rattle.civl_units.specs.Propagation.{Holds, IsFalsified}
 use Rattle.civl_units.specs.Marks.{marked, IsQuiet}
 use Rattle.civl_propagation.specs.Trail.{TrailState, before, IsAt, IsTrailOver, IsCut}
-use Rattle.civl_propagation.specs.Engine.{EngineState, IsAtRest, IsQuietBelow}
+use Rattle.civl_propagation.specs.Engine.{EngineState, IsQuietBelow}
 use Rattle.civl_propagation.proofs.Engines.{decided_none, conflict_by}
 use Rattle.civl_rup.specs.Rup.{HasRup}
 use Rattle.civl_cdcl.specs.Levels.{LastSays}
 use Rattle.civl_cdcl.specs.Outcome.{IsLearned}
 use Rattle.civl_cdcl.specs.Analysis.{LearnSays}
-use Rattle.civl_cdcl.specs.Turn.{IsFull, IsLearnedBy, TurnSays}
+use Rattle.civl_cdcl.specs.Turn.{IsFull, IsLearnedBy, IsBack, TurnSays}
 use Rattle.civl_cdcl.specs.declared.turn.Turn.{Turn}
-use Rattle.civl_cdcl.proofs.Analysing.{quiet_unfalsified}
-use Rattle.civl_cdcl.proofs.Teaching.{start_quiet}
+use Rattle.civl_cdcl.proofs.Analysing.{quiet_unfalsified, start_quiet}
 
 -- a conflict with no decision: the empty clause has RUP
 pub refuted_by : (t : TrailState) (clauses : List (List Literal)) (variables r : ℕ) → IsTrailOver t clauses → t.starts ≡ [] → IsAt clauses r (IsFalsified (marked t.marks)) → HasRup variables clauses []
@@ -30,7 +29,7 @@ refuted_by t clauses variables r h none at = record {
 pub full_by : (t : TrailState) (clauses : List (List Literal)) (variables start : ℕ) → IsTrailOver t clauses → LastSays t.starts (Some start) → HasRup variables clauses [] → ⊥
 full_by t clauses variables start h last rup =
     let set = before t.marks t.places start in
-    let quiet = start_quiet t.marks t.places t.steps t.starts clauses start h last in
+    let quiet = start_quiet t clauses start h last in
     quiet_unfalsified set clauses quiet (rup.conflict set (λ k d low. absurd (omega arith)) (λ k d low. (quiet k d low).0))
 
 -- once levels are taken back, the clause that was learned can be added
@@ -44,6 +43,12 @@ learned_quiet t new clauses clause levels h says cut k low =
     let rise = h.rise k levels (omega arith) fewer in
     let same : before new.marks new.places (get_or new.starts k 0) ≡ before t.marks t.places (get_or t.starts k 0) = ap (before new.marks new.places) older ∙ cut.same (get_or t.starts k 0) (omega arith) in
     subst (λ f. IsQuiet f clause) (sym same) (says.quiet k few)
+
+-- what was learned can be added where fewer levels stay
+learned_less : (t : TrailState) (clauses : List (List Literal)) (clause : List Literal) (levels kept : ℕ) → kept ≤ levels → LearnSays t clauses clause levels → LearnSays t clauses clause kept
+learned_less t clauses clause levels kept few says =
+    let fewer = says.fewer in
+    record { learned = says.learned; fewer = omega arith; quiet = λ k low. says.quiet k (omega arith) }
 
 -- what was learned, read at other lists that are equal
 pub learned_as : (t u : TrailState) (clauses others : List (List Literal)) (clause : List Literal) (levels : ℕ) → t ≡ u → clauses ≡ others → LearnSays t clauses clause levels → LearnSays u others clause levels
@@ -65,14 +70,14 @@ full_as old e may clause levels start size same limit h last says = record {
 }
 
 -- a clause was learned, and levels were taken back
-pub learned_by_cut : (old e new : EngineState) (may : Bool) (clause : List Literal) (levels : ℕ) → length e.trail.marks ≡ length old.trail.marks → e.clauses ≡ old.clauses → may ≡ true → IsTrailOver e.trail e.clauses → LearnSays e.trail e.clauses clause levels → IsAtRest new → new.clauses ≡ e.clauses → IsCut e.trail new.trail levels → IsLearnedBy may old new clause
-learned_by_cut old e new may clause levels size same limit h says rest kept cut = record {
+pub learned_by_cut : (old e new : EngineState) (may : Bool) (clause : List Literal) (levels : ℕ) → length e.trail.marks ≡ length old.trail.marks → e.clauses ≡ old.clauses → may ≡ true → IsTrailOver e.trail e.clauses → LearnSays e.trail e.clauses clause levels → IsBack e new levels → IsLearnedBy may old new clause
+learned_by_cut old e new may clause levels size same limit h says back = record {
   limit = limit;
-  size = cut.size ∙ size;
-  clauses = kept ∙ same;
+  size = back.cut.size ∙ size;
+  clauses = back.clauses ∙ same;
   learned = learned_first old e clause size same says.learned;
-  rest = rest;
-  levels = learned_quiet e.trail new.trail e.clauses clause levels h says cut;
+  rest = back.rest;
+  levels = learned_quiet e.trail new.trail e.clauses clause back.kept h (learned_less e.trail e.clauses clause levels back.kept back.few says) back.cut;
 }
 
 pub turned_as : (may : Bool) (old new : EngineState) (turned is : Turn) → turned ≡ is → TurnSays may old new turned → TurnSays may old new is

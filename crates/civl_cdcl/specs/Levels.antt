@@ -1,6 +1,10 @@
 -- The levels of a trail, by the places at which they start.
 use Rattle.std.specs.Prelude.{◌≡◌, ◌⊎◌, ◌<◌, ◌≤◌, ◌-◌, ℕ, List, [], length, slice_index_or, Option, None, Some}
 
+-- the first start
+abbrev pub FirstSays : List ℕ → ℕ → Type 0
+FirstSays starts s = (0 < length starts) × (slice_index_or starts 0 0 ≡ s)
+
 -- the last start, if there is one
 abbrev pub LastSays : List ℕ → Option ℕ → Type 0
 LastSays starts None = starts ≡ []

@@ -3,5 +3,6 @@ pub mod Propagation
 pub mod Analysis
 pub mod Outcome
 pub mod Order
+pub mod Notes
 pub mod Turn
 pub mod Laws

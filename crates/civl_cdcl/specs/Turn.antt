@@ -1,7 +1,8 @@
 -- The search up to its next conflict.
-use Rattle.std.specs.Prelude.{◌≡◌, ◌<◌, [], ℕ, List, Bool, true, false, All, length, slice_index_or, Option, None, unwrap_or}
+use Rattle.std.specs.Prelude.{◌≡◌, ◌<◌, ◌≤◌, [], ℕ, List, Bool, true, false, All, length, slice_index_or, Option, None, unwrap_or}
 use Rattle.civl_cnf.specs.Literal.{Literal}
 use Rattle.civl_units.specs.Marks.{marked, IsQuiet}
+use Rattle.civl_propagation.specs.Trail.{IsCut}
 use Rattle.civl_propagation.specs.Engine.{EngineState, IsAtRest, IsQuietBelow}
 use Rattle.civl_rup.specs.Rup.{HasRup}
 use Rattle.civl_cdcl.specs.Propagation.{ChoiceSays}
@@ -30,6 +31,14 @@ pub record IsLearnedBy (may : Bool) (old new : EngineState) (clause : List Liter
   pub learned : IsLearned (length old.trail.marks) old.clauses clause
   pub rest : IsAtRest new
   pub levels : IsQuietBelow new.trail clause
+
+-- levels were taken back, one at least, until there are at most so many
+pub record IsBack (old new : EngineState) (levels : ℕ) : Type 0 where
+  pub rest : IsAtRest new
+  pub clauses : new.clauses ≡ old.clauses
+  pub kept : ℕ
+  pub few : kept ≤ levels
+  pub cut : IsCut old.trail new.trail kept
 
 abbrev pub TurnSays : Bool → EngineState → EngineState → Turn → Type 0
 TurnSays may old new Marked = IsMarked old new

@@ -1,45 +1,77 @@
-// What a conflict teaches.
-ghost use Rattle.std.specs.Prelude.{◌≡◌, ◌<◌, ◌≤◌, ◌^◌, [], Some, false, length, slice_index_or, All, IfOk, IsFalse};
+// What leads to a conflict.
+ghost use Rattle.std.specs.Prelude.{◌≡◌, ◌⊎◌, ◌<◌, ◌≤◌, [], Some, length, slice_index_or, All, IfOk, OnOk, IsTrue, IsFalse};
 ghost use Rattle.civl_cnf.specs.ClauseSet.{IsBelow, AreBelow};
 ghost use Rattle.civl_units.specs.Propagation.{IsFalsified};
 ghost use Rattle.civl_units.specs.Marks.{marked};
 ghost use Rattle.civl_propagation.specs.declared.trail.Step.{Step as StepOf};
 ghost use Rattle.civl_propagation.specs.Trail.{IsAt, IsTrailOver};
-ghost use Rattle.civl_cdcl.specs.Levels.{LastSays};
-ghost use Rattle.civl_cdcl.specs.Analysis.{Sees, Resolves, Analyses, HasOne, IsUnseen, Negates, ReachSays, LearnSays};
+ghost use Rattle.civl_cdcl.specs.Levels.{FirstSays, LastSays};
+ghost use Rattle.civl_cdcl.specs.Analysis.{AreFound, SeesOne, Sees, Analyses, HasOne, IsUnseen};
 
 use crate::Memory;
-use crate::levels::levels_below;
 use civl_cnf::{Clause, Lit};
 use civl_propagation::{Step, Trail};
-use std::alloc::Global;
 
 /// The literals of the clause with a number.
-fn lits_of(clauses: &[Clause], number: usize) -> &[Lit]
+pub fn lits_of(clauses: &[Clause], number: usize) -> &[Lit]
     requires { number < length clauses.now }
     ensures { result.now ≡ slice_index_or clauses.now number [] }
 {
     clauses[number].lits()
 }
 
-/// Sees the variables of a clause.
-fn see(seen: &mut [bool], clause: &[Lit])
-    requires { IsBelow (length seen.old) clause.now }
-    ensures { Sees seen.old seen.new clause.now }
+/// The place of a variable that has a value.
+pub fn place_in(places: &[usize], variable: u32) -> usize
+    requires { variable < length places.now }
+    ensures { result ≡ slice_index_or places.now variable 0 }
 {
-    for lit in clause {
-        seen[lit.variable() as usize] = true;
-    }
+    places[variable as usize]
 }
 
-/// Sees the variables of a clause in place of one.
-fn resolve(seen: &mut [bool], clause: &[Lit], variable: u32)
-    requires clause { IsBelow (length seen.old) clause.now }
+/// Sees a variable that got its value at or behind a place, and lists it if it wasn't seen.
+fn see_one(
+    seen: &mut [bool],
+    found: &mut Vec<u32>,
+    variable: u32,
+    place: usize,
+    root: usize,
+) -> Result<(), Memory>
     requires variable { variable < length seen.old }
-    ensures { Resolves seen.old seen.new clause.now variable }
+    requires found { AreFound seen.old found.old.items }
+    ensures sees { OnOk result (SeesOne place root seen.old seen.new variable) }
+    ensures found { OnOk result (AreFound seen.new found.new.items) }
 {
-    see(seen, clause);
-    seen[variable as usize] = false;
+    if place < root {
+        return Ok(());
+    }
+    if seen[variable as usize] {
+        return Ok(());
+    }
+    found.push(variable)?;
+    seen[variable as usize] = true;
+    Ok(())
+}
+
+/// Sees the variables of a clause that got their values at or behind a place.
+fn see(
+    seen: &mut [bool],
+    found: &mut Vec<u32>,
+    clause: &[Lit],
+    places: &[usize],
+    root: usize,
+) -> Result<(), Memory>
+    requires clause { IsBelow (length seen.old) clause.now }
+    requires places { length places.now ≡ length seen.old }
+    requires found { AreFound seen.old found.old.items }
+    ensures sees { OnOk result (Sees places.now root seen.old seen.new clause.now) }
+    ensures found { OnOk result (AreFound seen.new found.new.items) }
+{
+    for lit in clause {
+        let variable = lit.variable();
+        let place = place_in(places, variable);
+        see_one(seen, found, variable, place, root)?;
+    }
+    Ok(())
 }
 
 /// Whether one of these steps is seen, looking from the last.
@@ -59,13 +91,23 @@ fn any_seen(steps: &[Step], seen: &[bool], from: usize, to: usize) -> bool
     false
 }
 
-/// Resolves along the reasons, from the end of the trail down, until one literal of the level is left: the first unique implication point.
-fn walk(trail: &Trail, clauses: &[Clause], start: usize, seen: &mut [bool])
+/// Goes from the end of the trail down, and sees the reason of each literal that is seen, until one literal of the level is left: the first unique implication point, which is answered.
+fn walk(
+    trail: &Trail,
+    clauses: &[Clause],
+    start: usize,
+    root: usize,
+    seen: &mut [bool],
+    found: &mut Vec<u32>,
+) -> Result<Lit, Memory>
     requires below { AreBelow (length trail.now.marks) clauses.now }
     requires trail { IsTrailOver trail.now clauses.now }
     requires start { LastSays trail.now.starts (Some start) }
+    requires root { FirstSays trail.now.starts root }
     requires seen { Analyses trail.now.marks trail.now.places clauses.now (length trail.now.steps) seen.old }
-    ensures { HasOne trail.now.marks trail.now.places clauses.now start seen.new }
+    requires found { AreFound seen.old found.old.items }
+    ensures one { IfOk result (λ one. HasOne trail.now.marks trail.now.places clauses.now start one seen.new) }
+    ensures found { OnOk result (AreFound seen.new found.new.items) }
 {
     let mut at = trail.len();
     loop {
@@ -74,112 +116,43 @@ fn walk(trail: &Trail, clauses: &[Clause], start: usize, seen: &mut [bool])
         let variable = step.lit.variable();
         if seen[variable as usize] {
             if !any_seen(trail.steps(), seen, start, at) {
-                return;
+                return Ok(step.lit);
             }
             match step.reason {
-                None => return,
-                Some(reason) => resolve(seen, lits_of(clauses, reason), variable),
+                None => return Ok(step.lit),
+                Some(reason) => see(seen, found, lits_of(clauses, reason), trail.places(), root)?,
             }
         }
     }
 }
 
-/// Sees what leads to a conflict, with one literal of the level.
-fn analyse(trail: &Trail, clauses: &[Clause], conflict: usize, start: usize, seen: &mut [bool])
-    requires below { AreBelow (length trail.now.marks) clauses.now }
-    requires trail { IsTrailOver trail.now clauses.now }
-    requires start { LastSays trail.now.starts (Some start) }
-    requires conflict { IsAt clauses.now conflict (IsFalsified (marked trail.now.marks)) }
-    requires seen { length seen.old ≡ length trail.now.marks }
-    requires none { All (λ b. b ≡ false) seen.old }
-    ensures { HasOne trail.now.marks trail.now.places clauses.now start seen.new }
-{
-    see(seen, lits_of(clauses, conflict));
-    walk(trail, clauses, start, seen);
-}
-
-/// The opposite of each literal that is seen, by rising variables.
-fn negate(alloc: Global, marks: &[Option<bool>], seen: &[bool]) -> Result<Vec<Lit>, Memory>
-    requires size { length seen.now ≡ length marks.now }
-    requires few { length marks.now ≤ 2 ^ 31 }
-    ensures { IfOk result (λ lits. Negates marks.now seen.now (length marks.now) lits.items) }
-{
-    let mut lits: Vec<Lit> = Vec::new(alloc);
-    for variable in 0..marks.len() {
-        if seen[variable] {
-            match marks[variable] {
-                Some(value) => lits.push(Lit::new(variable as u32, !value))?,
-                None => {}
-            }
-        }
-    }
-    Ok(lits)
-}
-
-/// How much of the trail is to stay, so that the clause forces one of its literals: the place behind the last of the others.
-fn reach(places: &[usize], clause: &[Lit], start: usize) -> usize
-    requires { IsBelow (length places.now) clause.now }
-    ensures { ReachSays places.now clause.now start result }
-{
-    let mut reach = 0;
-    for lit in clause {
-        let place = places[lit.variable() as usize];
-        if place < start && reach <= place {
-            reach = place + 1;
-        }
-    }
-    reach
-}
-
-/// A clause that was learned, and how many levels are to stay.
-#[derive(Drop)]
-pub struct Learned {
-    pub clause: Clause,
-    pub levels: usize,
-}
-
-/// The clause that a conflict above the first level teaches, where nothing is seen yet.
-fn teach(
-    alloc: Global,
+/// Sees what leads to a conflict, with one literal of the last level, which is answered.
+pub fn analyse(
     trail: &Trail,
     clauses: &[Clause],
     conflict: usize,
     start: usize,
+    root: usize,
     seen: &mut [bool],
-) -> Result<Learned, Memory>
-    requires few { length trail.now.marks ≤ 2 ^ 31 }
+    found: &mut Vec<u32>,
+) -> Result<Lit, Memory>
     requires below { AreBelow (length trail.now.marks) clauses.now }
     requires trail { IsTrailOver trail.now clauses.now }
     requires start { LastSays trail.now.starts (Some start) }
+    requires root { FirstSays trail.now.starts root }
     requires conflict { IsAt clauses.now conflict (IsFalsified (marked trail.now.marks)) }
     requires seen { length seen.old ≡ length trail.now.marks }
-    requires none { All (λ b. b ≡ false) seen.old }
-    ensures { IfOk result (λ learned. LearnSays trail.now clauses.now learned.clause learned.levels) }
+    requires found { AreFound seen.old found.old.items }
+    ensures one { IfOk result (λ one. HasOne trail.now.marks trail.now.places clauses.now start one seen.new) }
+    ensures found { OnOk result (AreFound seen.new found.new.items) }
 {
-    analyse(trail, clauses, conflict, start, seen);
-    let lits = negate(alloc, trail.marks(), seen)?;
-    let limit = reach(trail.places(), lits.as_slice(), start);
-    let levels = levels_below(trail.starts(), limit);
-    let clause = Clause::from_slice(alloc, lits.as_slice())?;
-    Ok(Learned { clause, levels })
-}
-
-/// The clause that a conflict above the first level teaches.
-pub fn learn(
-    alloc: Global,
-    trail: &Trail,
-    clauses: &[Clause],
-    conflict: usize,
-    start: usize,
-) -> Result<Learned, Memory>
-    requires few { length trail.now.marks ≤ 2 ^ 31 }
-    requires below { AreBelow (length trail.now.marks) clauses.now }
-    requires trail { IsTrailOver trail.now clauses.now }
-    requires start { LastSays trail.now.starts (Some start) }
-    requires conflict { IsAt clauses.now conflict (IsFalsified (marked trail.now.marks)) }
-    ensures { IfOk result (λ learned. LearnSays trail.now clauses.now learned.clause learned.levels) }
-{
-    let mut seen: Vec<bool> = Vec::from_elem(alloc, false, trail.marks().len())?;
-    let learned = teach(alloc, trail, clauses, conflict, start, &mut seen)?;
-    Ok(learned)
+    see(
+        seen,
+        found,
+        lits_of(clauses, conflict),
+        trail.places(),
+        root,
+    )?;
+    let one = walk(trail, clauses, start, root, seen, found)?;
+    Ok(one)
 }

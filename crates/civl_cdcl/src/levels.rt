@@ -1,6 +1,14 @@
 // The levels of a trail.
 ghost use Rattle.std.specs.Prelude.{◌≤◌, ◌<◌, ◌-◌, length, slice_index_or};
-ghost use Rattle.civl_cdcl.specs.Levels.{LastSays, AreBefore};
+ghost use Rattle.civl_cdcl.specs.Levels.{FirstSays, LastSays, AreBefore};
+
+/// The first start of a level.
+pub fn first_start(starts: &[usize]) -> usize
+    requires { 0 < length starts.now }
+    ensures { FirstSays starts.now result }
+{
+    starts[0]
+}
 
 /// The last start of a level, if there is one.
 pub fn last_start(starts: &[usize]) -> Option<usize>

@@ -6,9 +6,12 @@ mod choice;
 mod laws;
 mod levels;
 mod memory;
+mod notes;
 mod order;
 mod outcome;
+mod restarts;
 mod solving;
+mod teaching;
 mod turn;
 
 pub use laws::{

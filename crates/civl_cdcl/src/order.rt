@@ -55,10 +55,10 @@ fn put(values: &mut [u64], place: usize, value: u64) {
     }
 }
 
-/// Gives the variables of a clause more activity.
-fn bump(activities: &mut [u64], clause: &[Lit], increment: u64) {
-    for lit in clause {
-        let place = lit.variable() as usize;
+/// Gives these variables more activity.
+fn bump(activities: &mut [u64], found: &[u32], increment: u64) {
+    for variable in found {
+        let place = *variable as usize;
         let sum = at(activities, place).saturating_add(increment);
         put(activities, place, sum);
     }
@@ -141,9 +141,14 @@ impl Order {
         Ok(())
     }
 
-    /// Notes a conflict, which taught this clause.
-    pub fn note(&mut self, clause: &[Lit]) -> Result<(), Memory> {
-        bump(&mut self.activities, clause, self.increment);
+    /// Whether decisions go by the fixed order still.
+    pub fn is_fixed(&self) -> bool {
+        self.conflicts < FIXED
+    }
+
+    /// Notes a conflict, in which these variables play a part.
+    pub fn note(&mut self, found: &[u32]) -> Result<(), Memory> {
+        bump(&mut self.activities, found, self.increment);
         self.conflicts = self.conflicts.saturating_add(1);
         self.increment = self.increment.saturating_add(self.increment / 20);
         if LIMIT < self.increment {

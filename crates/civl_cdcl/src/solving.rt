@@ -2,10 +2,11 @@
 ghost use Rattle.std.specs.Prelude.{◌≡◌, ◌≤◌, ◌++◌, ◌∷◌, [], ◌^◌, ℕ, List, Bool, length, IfOk, OnOk};
 ghost use Rattle.civl_cnf.specs.Literal.{Literal};
 ghost use Rattle.civl_rup.specs.Standing.{IsAtRoot, Stands};
+ghost use Rattle.civl_cdcl.specs.Notes.{IsClear};
 ghost use Rattle.civl_cdcl.specs.Turn.{AreBits};
 ghost use Rattle.civl_cdcl.specs.Outcome.{OutcomeSays, IsModel, RefutesWithin, SpendsWhole};
 
-use crate::order::Order;
+use crate::notes::Notes;
 use crate::turn::{Turn, take_turn};
 use crate::{Memory, Outcome};
 use civl_cnf::{Bits, Clause, Cnf, Log};
@@ -52,18 +53,19 @@ fn load(engine: &mut Engine, cnf: &Cnf) -> Result<bool, Memory>
 fn search(
     alloc: Global,
     engine: &mut Engine,
-    order: &mut Order,
+    notes: &mut Notes,
     cnf: &Cnf,
     budget: u32,
 ) -> Result<Outcome, Memory>
-    requires { IsAtRoot engine.old cnf.now.variables cnf.now.clauses }
+    requires root { IsAtRoot engine.old cnf.now.variables cnf.now.clauses }
+    requires clear { IsClear notes.old.seen.items cnf.now.variables }
     ensures { IfOk result (OutcomeSays cnf.now budget) }
 {
     let mut log = Log::new(alloc);
     let mut ended = Ended::Quiet;
     'turns: loop {
         let may_learn = log.len() < budget as usize;
-        let turned = take_turn(alloc, engine, order, ended, may_learn)?;
+        let turned = take_turn(alloc, engine, notes, ended, may_learn)?;
         match turned {
             Turn::Marked => {
                 let bits = bits_of(alloc, engine.trail().marks())?;
@@ -96,14 +98,15 @@ fn empty_log(alloc: Global) -> Result<Log, Memory>
 fn run(alloc: Global, cnf: &Cnf, budget: u32) -> Result<Outcome, Memory>
     ensures { IfOk result (OutcomeSays cnf.now budget) }
 {
-    let mut engine = Engine::new(alloc, cnf.variables())?;
+    let count = cnf.variables();
+    let mut engine = Engine::new(alloc, count)?;
     let refuted = load(&mut engine, cnf)?;
     if refuted {
         let log = empty_log(alloc)?;
         return Ok(Outcome::Unsat(log));
     }
-    let mut order = Order::new(alloc, cnf.variables())?;
-    let outcome = search(alloc, &mut engine, &mut order, cnf, budget)?;
+    let mut notes = Notes::new(alloc, count)?;
+    let outcome = search(alloc, &mut engine, &mut notes, cnf, budget)?;
     Ok(outcome)
 }
 

@@ -1,6 +1,7 @@
 use Rattle.std.proofs.Common.{◌≡◌, ◌≤◌, ◌-◌, ◌++◌, length}
 use Rattle.civl_cnf.specs.ClauseSet.{AreBelow}
 use Rattle.civl_propagation.specs.Engine.{EndsBy}
+use Rattle.civl_cdcl.specs.Notes.{IsClear}
 use Rattle.civl_cdcl.specs.Outcome.{HaveLearned}
 use Rattle.civl_cdcl.proofs.solving.search.Given as goal
 
@@ -12,6 +13,7 @@ invariant-turns l = record {
   ends : EndsBy l.engine l.ended;
   learned : HaveLearned l.cnf l.log (length l.log);
   few : length l.log ≤ l.budget;
+  clear : IsClear l.notes.seen.items l.cnf.variables;
 }
 
 abbrev pub decreases-turns : goal.decreases-turns

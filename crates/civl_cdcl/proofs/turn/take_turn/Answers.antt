@@ -1,4 +1,4 @@
-use Rattle.std.proofs.Common.{◌≡◌, ◌∙◌, ◌≤◌, ◌^◌, [], ap, sym, subst, length, ℕ, List}
+use Rattle.std.proofs.Common.{◌≡◌, ◌∙◌, ◌≤◌, ◌^◌, [], ap, sym, subst, length, ℕ, List, Bool, false}
 use Rattle.std.specs.Prelude.{All, Some}
 use Rattle.civl_cnf.specs.Literal.{Literal}
 use Rattle.civl_cnf.specs.ClauseSet.{AreBelow}
@@ -11,8 +11,8 @@ use Rattle.civl_cdcl.specs.Propagation.{DescentSays}
 use Rattle.civl_cdcl.proofs.Turning.{refuted_by, full_as, learned_as, learned_by_cut}
 use Rattle.civl_cdcl.proofs.turn.take_turn.Goals as goal
 
-pub returns-in-Quiet : goal.returns-in-Quiet
-returns-in-Quiet c =
+pub returns-in-Quiet-clause-says : goal.returns-in-Quiet-clause-says
+returns-in-Quiet-clause-says c =
     let e = c.descend.new.engine in
     let says = c.in_ok-ended.ensures in
     let found = subst (DescentSays e) c.in-Quiet.is says.ended in
@@ -22,8 +22,8 @@ returns-in-Quiet c =
       whole = found.1;
     }
 
-pub returns-in-None : goal.returns-in-None
-returns-in-None c =
+pub returns-in-None-clause-says : goal.returns-in-None-clause-says
+returns-in-None-clause-says c =
     let n = length c.args.engine.now.trail.marks in
     let e = c.descend.new.engine in
     let says = c.in_ok-ended.ensures in
@@ -63,30 +63,36 @@ learn-requires-clause-conflict c =
     subst (λ (t : TrailState). IsAt c.clauses.result.now r (IsFalsified (marked t.marks))) (sym c.trail-in-Some.ensures)
     (subst (λ (cs : List (List Literal)). IsAt cs r (IsFalsified (marked e.trail.marks))) (sym c.clauses.ensures) found.1)
 
-pub returns-else-may_learn : goal.returns-else-may_learn
-returns-else-may_learn c =
+pub returns-else-may_learn-clause-says : goal.returns-else-may_learn-clause-says
+returns-else-may_learn-clause-says c =
     let e = c.descend.new.engine in
     let says = c.in_ok-ended.ensures in
     let found = subst (DescentSays e) c.in-Conflict.is says.ended in
     let last = subst (λ (s : List ℕ). LastSays s (Some c.in-Some.start)) (c.starts.ensures ∙ ap (λ (t : TrailState). t.starts) c.trail.ensures) c.in-Some.ensures in
-    let learned = learned_as _ _ _ _ _ _ c.trail-in-Some.ensures c.clauses.ensures c.in_ok-learned-in-Some.ensures in
+    let learned = learned_as _ _ _ _ _ _ c.trail-in-Some.ensures c.clauses.ensures c.in_ok-learned-in-Some.ensures.says in
     full_as c.args.engine.now e _ _ _ c.in-Some.start says.size says.clauses c.if-may_learn.false found.0.trail last learned
 
-pub cut-requires-clause-engine : goal.cut-requires-clause-engine
-cut-requires-clause-engine c =
+pub go_back-requires-clause-engine : goal.go_back-requires-clause-engine
+go_back-requires-clause-engine c =
     let found = subst (DescentSays c.descend.new.engine) c.in-Conflict.is c.in_ok-ended.ensures.ended in
     found.0
 
-pub cut-requires-clause-levels : goal.cut-requires-clause-levels
-cut-requires-clause-levels c =
-    let learned = learned_as _ _ _ _ _ _ c.trail-in-Some.ensures c.clauses.ensures c.in_ok-learned-in-Some.ensures in
+pub go_back-requires-clause-levels : goal.go_back-requires-clause-levels
+go_back-requires-clause-levels c =
+    let learned = learned_as _ _ _ _ _ _ c.trail-in-Some.ensures c.clauses.ensures c.in_ok-learned-in-Some.ensures.says in
     learned.fewer
 
-pub returns-then-may_learn : goal.returns-then-may_learn
-returns-then-may_learn c =
+pub learn-requires-clause-seen : goal.learn-requires-clause-seen
+learn-requires-clause-seen c =
+    subst (λ (t : TrailState). length c.deref_mut.result.now ≡ length t.marks) (sym c.trail-in-Some.ensures) (ap length c.deref_mut.ensures.value ∙ c.requires.clear.size ∙ sym c.in_ok-ended.ensures.size)
+
+pub learn-requires-clause-none : goal.learn-requires-clause-none
+learn-requires-clause-none c = subst (All (λ (b : Bool). b ≡ false)) (sym c.deref_mut.ensures.value) c.requires.clear.none
+
+pub returns-then-may_learn-clause-says : goal.returns-then-may_learn-clause-says
+returns-then-may_learn-clause-says c =
     let e = c.descend.new.engine in
     let says = c.in_ok-ended.ensures in
     let found = subst (DescentSays e) c.in-Conflict.is says.ended in
-    let learned = learned_as _ _ _ _ _ _ c.trail-in-Some.ensures c.clauses.ensures c.in_ok-learned-in-Some.ensures in
-    let back = c.cut.ensures in
-    learned_by_cut c.args.engine.now e c.cut.new.self _ _ _ says.size says.clauses c.if-may_learn.true found.0.trail learned back.rest back.clauses back.cut
+    let learned = learned_as _ _ _ _ _ _ c.trail-in-Some.ensures c.clauses.ensures c.in_ok-learned-in-Some.ensures.says in
+    learned_by_cut c.args.engine.now e c.go_back.new.engine _ _ _ says.size says.clauses c.if-may_learn.true found.0.trail learned c.in_ok-go_back-in-Some.ensures.back

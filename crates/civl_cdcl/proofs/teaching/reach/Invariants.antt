@@ -1,5 +1,5 @@
 use Rattle.civl_cdcl.specs.Analysis.{ReachSays}
-use Rattle.civl_cdcl.proofs.analysis.reach.Given as goal
+use Rattle.civl_cdcl.proofs.teaching.reach.Given as goal
 
 abbrev pub invariant-loop-lit : goal.invariant-loop-lit
 invariant-loop-lit l = ReachSays l.places l.clause l.start l.reach

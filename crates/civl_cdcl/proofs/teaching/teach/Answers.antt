@@ -1,18 +1,17 @@
-use Rattle.std.proofs.Common.{◌∙◌, ◌-◌, ◌≤◌, sym, subst, length, get_or, ◌<◌, List, Bool, ℕ}
-use Rattle.std.specs.Prelude.{All, Option}
+use Rattle.std.proofs.Common.{◌∙◌, ◌-◌, ◌≤◌, sym, subst, length, get_or, ◌<◌, List, ℕ}
+use Rattle.std.specs.Prelude.{All}
 use Rattle.civl_cnf.specs.Literal.{Literal}
 use Rattle.civl_cdcl.specs.Levels.{AreBefore}
-use Rattle.civl_cdcl.specs.Analysis.{Negates, ReachSays, LearnSays}
-use Rattle.civl_cdcl.proofs.Teaching.{learned_by, clause_placed, reach_low}
-use Rattle.civl_cdcl.proofs.analysis.teach.Goals as goal
+use Rattle.civl_cdcl.specs.Analysis.{ReachSays, LearnSays}
+use Rattle.civl_cdcl.proofs.Lessons.{learned_by, clause_placed, reach_low}
+use Rattle.civl_cdcl.proofs.teaching.teach.Goals as goal
 
 pub reach-limit-requires : goal.reach-limit-requires
 reach-limit-requires c =
     let t = c.args.trail.now in
     let lits = c.in_ok-lits.lits.items in
-    let negates = subst (λ (m : List (Option Bool)). Negates m c.analyse.new.seen (length m) lits) c.marks.ensures c.in_ok-lits.ensures in
     subst (λ (p : List ℕ). All (λ (l : Literal). l.variable < length p) c.as_slice.result.now) (sym c.places.ensures)
-    (subst (All (λ (l : Literal). l.variable < length t.places)) (sym c.as_slice.ensures.value) (clause_placed t c.args.clauses.now c.analyse.new.seen lits c.requires.trail negates))
+    (subst (All (λ (l : Literal). l.variable < length t.places)) (sym c.as_slice.ensures.value) (clause_placed t c.args.clauses.now c.args.start c.args.one c.args.seen.now lits c.requires.trail c.in_ok-lits.ensures))
 
 pub levels_below-levels-requires-clause-some : goal.levels_below-levels-requires-clause-some
 levels_below-levels-requires-clause-some c = subst (λ (s : List ℕ). 0 < length s) (sym c.starts.ensures) c.requires.start.0
@@ -29,10 +28,9 @@ returns c =
     let clauses = c.args.clauses.now in
     let lits = c.in_ok-lits.lits.items in
     let levels = c.levels_below-levels.result in
-    let negates = subst (λ (m : List (Option Bool)). Negates m c.analyse.new.seen (length m) lits) c.marks.ensures c.in_ok-lits.ensures in
     let r : ReachSays t.places lits c.args.start c.reach-limit.result
     = subst (λ (p : List ℕ). ReachSays p lits c.args.start c.reach-limit.result) c.places.ensures
     (subst (λ (x : List Literal). ReachSays c.places.result.now x c.args.start c.reach-limit.result) c.as_slice.ensures.value c.reach-limit.ensures) in
     let cuts : AreBefore t.starts c.reach-limit.result levels = subst (λ (s : List ℕ). AreBefore s c.reach-limit.result levels) c.starts.ensures c.levels_below-levels.ensures in
     subst (λ (x : List Literal). LearnSays t clauses x levels) (sym (c.in_ok-clause.ensures ∙ c.as_slice-2.ensures.value))
-    (learned_by t clauses c.args.start c.analyse.new.seen lits c.reach-limit.result levels c.requires.trail c.requires.start c.analyse.ensures negates r cuts)
+    (learned_by t clauses c.args.start c.args.one c.args.seen.now lits c.reach-limit.result levels c.requires.trail c.requires.start c.requires.one c.in_ok-lits.ensures r cuts)
