@@ -3,7 +3,6 @@ use Rattle.std.proofs.Common.{◌≡◌, ℕ, ◌<◌, Bool, true, false, List, 
 use Rattle.std.specs.Prelude.{All, ◌^◌}
 use Rattle.std.specs.List.{Contains}
 use Rattle.std.proofs.lemmas.List.Elements.{All-nil, All-cons, All-contains}
-use Rattle.civl_bits.specs.declared.value.Value.{Value}
 use Rattle.civl_bits.specs.declared.value.Value.TheVariants as value
 use Rattle.civl_values.specs.Values.{HaveSorts}
 use Rattle.civl_tree.specs.declared.expr.Expr.{the_lemmas as of_expr}
@@ -29,7 +28,6 @@ use Rattle.civl_paths.specs.Paths.{path_from}
 use Rattle.civl_paths.specs.Flows.{flow_from}
 use Rattle.civl_yields.specs.YieldRules.{yield_rules}
 use Rattle.civl_yields.proofs.Examples as yields
-use Rattle.civl_conditions.specs.declared.condition.Condition.{Condition}
 use Rattle.civl_conditions.specs.Listed.{conditions}
 use Rattle.civl_conditions.specs.Variables.{variables}
 use Rattle.civl_conditions.specs.Violated.{violated}

@@ -1,17 +1,13 @@
 -- What the goals on a statement conclude of a state in which what they assume holds.
-use Rattle.std.proofs.Common.{◌≡◌, ℕ, ◌+◌, ◌≤◌, Bool, true, false, not, ◌&&◌, List, [], ◌∷◌, ◌++◌, map, Option, Some, None, refl, sym, ap, ap₂, ◌∙◌, subst, inl, inr, ◌⊎◌, arith, append-nil}
-use Rattle.std.specs.Prelude.{slice_get, nat_le, if◌then◌else◌}
-use Rattle.std.specs.List.{Contains}
-use Rattle.std.specs.Option.{option_map, option_map_or}
-use Rattle.std.proofs.lemmas.Bool.{and_from, and_parts, not-false, le-leb}
+use Rattle.std.proofs.Common.{◌≡◌, ℕ, Bool, true, false, not, ◌&&◌, List, [], ◌++◌, map, Some, None, refl, sym, ap, ◌∙◌, subst, inl, arith, append-nil}
+use Rattle.std.specs.Prelude.{slice_get, nat_le}
+use Rattle.std.proofs.lemmas.Bool.{and_from, not-false, le-leb}
 use Rattle.civl_bits.specs.declared.value.Value.{Value}
 use Rattle.civl_values.specs.Values.{HaveSorts}
 use Rattle.civl_tree.specs.declared.name.Name.{Name}
 use Rattle.civl_tree.specs.declared.expr.Expr.{Expr}
-use Rattle.civl_tree.specs.declared.action.Action.{Action}
 use Rattle.civl_tree.specs.declared.stmt.Stmt.{Stmt, out-Stmt}
 use Rattle.civl_tree.specs.declared.stmt.Stmt.TheOpen.{Stmt-F, Call}
-use Rattle.civl_tree.specs.declared.program.Global.{Global}
 use Rattle.civl_tree.specs.declared.program.Proc.{Proc}
 use Rattle.civl_tree.specs.declared.program.Program.{Program}
 use Rattle.civl_tree.specs.Numbering.{statement_at}
@@ -43,14 +39,12 @@ use Rattle.civl_condition_laws.proofs.Carrying.{LinearPass, same_linear}
 use Rattle.civl_condition_laws.proofs.Meeting.{not_second}
 use Rattle.civl_permissions.proofs.Lasting.{call_exists}
 use Rattle.civl_permissions.proofs.Reaching.{meant_begins}
-use Rattle.civl_goals.specs.declared.goal.Goal.{Goal}
-use Rattle.civl_goals.specs.declared.goal.Goal.TheVariants as goal
 use Rattle.civl_goals.specs.Outlines.{exists_on_top, invariant_holds, note_holds}
-use Rattle.civl_goals.specs.Variables.{variables, choices_at, of_statement}
-use Rattle.civl_goals.specs.Listed.{is_root, goals}
-use Rattle.civl_goals.specs.Failed.{owned_in, assumed, does, store_in, frame_of, chosen_of, step_fails, failed}
-use Rattle.civl_safety.specs.Outlined.{GoalHolds, IsOutlined}
-use Rattle.civl_safety.proofs.Agreeing.{OnTop, invariant_same, note_same}
+use Rattle.civl_goals.specs.Variables.{choices_at, of_statement}
+use Rattle.civl_goals.specs.Listed.{is_root}
+use Rattle.civl_goals.specs.Failed.{owned_in, assumed, does, store_in, chosen_of, step_fails}
+use Rattle.civl_safety.specs.Outlined.{IsOutlined}
+use Rattle.civl_safety.proofs.Agreeing.{invariant_same, note_same}
 use Rattle.civl_safety.proofs.Gathering.{values, values_fit, store_agrees, frame_there, chosen_there}
 use Rattle.civl_safety.proofs.Rooting.{root_refines}
 
@@ -70,10 +64,7 @@ module _ (program : Program) (layered : IsLayered program) (outline : Outline) (
   abbrev pub frame : Activation
   frame = record { procedure = r; place = s; locals = locals }
 
-  -- a step of the frame, in another store
-  abbrev does_in : Store → List Value → Change
-  does_in h chosen = does program h frame chosen
-
+  -- what it does, by its statement
   pub does_is : (h : Store) (chosen : List Value) → does program h frame chosen ≡ layer_change plain h chosen proc locals spot.number spot.next (out-Stmt spot.stmt)
   does_is h chosen = ap (proc_change plain h chosen None frame) at ∙ ap (spot_change plain h chosen None frame proc) found
 

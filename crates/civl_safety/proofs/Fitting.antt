@@ -1,6 +1,6 @@
 -- Where an outline fits: each hold says something of the topmost program's globals, and each note stands before a statement of a
 -- root and says something of that place.
-use Rattle.std.proofs.Common.{◌≡◌, ℕ, zero, suc, ◌+◌, ◌<◌, Bool, true, false, not, ◌&&◌, List, [], ◌∷◌, ◌++◌, length, find, Option, Some, None, refl, sym, ap, ◌∙◌, subst, arith}
+use Rattle.std.proofs.Common.{◌≡◌, ℕ, zero, suc, ◌+◌, ◌<◌, Bool, true, false, ◌&&◌, List, [], ◌∷◌, ◌++◌, length, find, Option, Some, None, refl, sym, ap, ◌∙◌, subst, arith}
 use Rattle.std.specs.Prelude.{slice_get, nat_eq, nat_lt, if◌then◌else◌}
 use Rattle.std.specs.Option.{option_map, option_map_or}
 use Rattle.std.proofs.lemmas.Bool.{and_parts, false≢true, eqb-true, ltb-true}
@@ -30,10 +30,7 @@ module _ (program : Program) where
       go true t k later = let same = same_Some n note k in (earlier, subst (λ (x : Note). note_fits program earlier x ≡ true) same here, subst (λ (x : Note). test x ≡ true) same t)
       go false t k later = later k
 
-  -- a root that is an item
-  abbrev Numbered : ℕ × Proc → Type 0
-  Numbered q = slice_get program.procs q.0 ≡ Some q.1
-
+  -- what has a number among the procedures
   numbered : (procs : List Proc) (at i : ℕ) (q : ℕ × Proc) → slice_get (each_at (λ r proc. (r, proc) ∷ []) at procs) i ≡ Some q → (k : ℕ) × (slice_get procs k ≡ Some q.1) × (q.0 ≡ at + k)
   numbered [] at i q e = absurd (none-some q e)
   numbered (p ∷ ps) at zero q e =
@@ -52,8 +49,7 @@ module _ (program : Program) where
           let test = and_parts (nat_eq (proc_item program q.0) item) (is_root q.1) one.2 in
           let there = numbered program.procs 0 one.0 q one.1 in
           let same : q.1 ≡ proc = same_Some q.1 proc h in
-          let n : there.0 ≡ q.0 = let m = there.2 in omega (arith, m) in
-          (
+          let n : there.0 ≡ q.0 = let m = there.2 in omega (arith, m) in (
             q.0,
             subst (λ (k : ℕ). slice_get program.procs k ≡ Some proc) n (there.1 ∙ ap (λ (p : Proc). Some p) same),
             eqb-true (proc_item program q.0) item test.0,

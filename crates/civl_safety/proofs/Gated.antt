@@ -1,18 +1,15 @@
 -- The goals of the flag program whose root calls an action with the flag as its gate.
-use Rattle.std.proofs.Common.{◌≡◌, ℕ, ◌+◌, Bool, true, false, List, [], ◌∷◌, map, refl, sym, ap, ◌∙◌, subst, inl, inr, arith}
-use Rattle.std.specs.Prelude.{codes}
+use Rattle.std.proofs.Common.{◌≡◌, Bool, true, false, List, [], ◌∷◌, map, refl, sym, ap, ◌∙◌, subst, inl, inr}
 use Rattle.std.specs.List.{Contains}
 use Rattle.std.proofs.lemmas.Bool.{false≢true, true≢false}
 use Rattle.civl_bits.specs.declared.value.Value.{Value}
 use Rattle.civl_bits.specs.declared.value.Value.TheVariants as value
 use Rattle.civl_values.specs.Values.{HaveSorts}
 use Rattle.civl_tree.specs.declared.expr.Expr.{the_lemmas as of_expr}
-use Rattle.civl_tree.specs.declared.expr.Sort.{Sort}
 use Rattle.civl_tree.specs.declared.expr.Sort.TheVariants as sort
 use Rattle.civl_tree.specs.rules.Rules.{each_place, numbers_where}
 use Rattle.civl_tree.proofs.Layers.{layers}
 use Rattle.civl_tree.proofs.Pairs.{contains_nil, contains_here, contains_there, contains_cons}
-use Rattle.civl_outlines.specs.declared.outline.Outline.{Outline}
 use Rattle.civl_firing.specs.Fired.{gate_holds, fires, fired}
 use Rattle.civl_firing.proofs.Having.{no_sorts, more_sorts}
 use Rattle.civl_goals.specs.declared.goal.Goal.{Goal}

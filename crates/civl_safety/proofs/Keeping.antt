@@ -1,11 +1,10 @@
 -- Which actions keep permissions: those whose first layer is below the top by K2, and the others by a goal, or because they move none.
-use Rattle.std.proofs.Common.{◌≡◌, ℕ, zero, suc, ◌+◌, ◌-◌, ◌<◌, ◌≤◌, Bool, true, false, not, ◌&&◌, ◌||◌, List, [], ◌∷◌, ◌++◌, map, Option, Some, None, refl, sym, ap, ap₂, ◌∙◌, subst, inl, inr, ◌⊎◌, arith, append-nil}
+use Rattle.std.proofs.Common.{◌≡◌, ℕ, zero, suc, ◌+◌, ◌<◌, ◌≤◌, Bool, true, false, not, ◌&&◌, List, [], ◌∷◌, ◌++◌, Option, Some, None, refl, sym, ap, ap₂, ◌∙◌, inl, inr, ◌⊎◌, arith}
 use Rattle.std.specs.Prelude.{slice_get, nat_eq, flat_map, ◌==◌, if◌then◌else◌}
 use Rattle.std.specs.List.{list_any, list_all}
 use Rattle.std.proofs.lemmas.Bool.{or_parts, or_left, or_right, and_parts, and_from, eq-eqb, cases_lt, false≢true}
 use Rattle.std.proofs.lemmas.Option.{same_Some, none-some}
 use Rattle.civl_bits.specs.declared.value.Value.{Value}
-use Rattle.civl_values.specs.Values.{HaveSorts}
 use Rattle.civl_tree.specs.declared.action.Action.{Action}
 use Rattle.civl_tree.specs.declared.action.Mode.{Mode}
 use Rattle.civl_tree.specs.declared.action.Mode.TheVariants.{Val, Lend, Take, Give}
@@ -15,7 +14,6 @@ use Rattle.civl_tree.specs.declared.program.Program.{Program}
 use Rattle.civl_tree.specs.SpellingDomain.{is_out_mode, allows_name, allows_param, allows_out, allows_global, allows_expr, allows_invariant, allows_action, allows_program}
 use Rattle.civl_tree.specs.rules.Names.{has_name, targets_of}
 use Rattle.civl_tree.specs.rules.Width.{is_linear}
-use Rattle.civl_tree.specs.rules.Uses.{param_sorts}
 use Rattle.civl_outlines.specs.declared.outline.Outline.{Outline}
 use Rattle.civl_firing.specs.declared.store.Store.{Store}
 use Rattle.civl_firing.specs.Stores.{IsStore}
@@ -27,7 +25,7 @@ use Rattle.civl_footprints.proofs.Keeping.{keeps_others}
 use Rattle.civl_conditions.specs.declared.condition.Condition.TheVariants.{Keep}
 use Rattle.civl_conditions.specs.Steps.{begins_below}
 use Rattle.civl_conditions.specs.Values.{Invoked}
-use Rattle.civl_conditions.specs.Permissions.{in_store, of_inputs, of_modes, included}
+use Rattle.civl_conditions.specs.Permissions.{in_store, of_modes, included}
 use Rattle.civl_conditions.specs.Movers.{on_some, gate_of, fires_of, loses}
 use Rattle.civl_conditions.specs.Violated.{Holds}
 use Rattle.civl_condition_laws.proofs.Carrying.{LinearPass, same_linear}

@@ -1,23 +1,19 @@
 -- Elements of lists of lists, and what is said of each item where nothing is.
-use Rattle.std.proofs.Common.{◌≡◌, ℕ, zero, suc, ◌+◌, ◌<◌, Bool, true, false, ◌||◌, List, [], ◌∷◌, ◌++◌, Some, None, refl, sym, ap, ◌∙◌, subst, arith}
-use Rattle.std.specs.Prelude.{slice_get, slice_set, take, map, Option, All, if◌then◌else◌}
-use Rattle.std.specs.List.{Contains, list_any, list_all, find}
-use Rattle.std.proofs.lemmas.Bool.{false≢true, true≢false, or_parts, and_parts}
+use Rattle.std.proofs.Common.{◌≡◌, ℕ, zero, suc, ◌+◌, Bool, true, false, not, ◌||◌, List, [], ◌∷◌, ◌++◌, Some, refl, sym, ap, ◌∙◌, subst, arith}
+use Rattle.std.specs.Prelude.{slice_get, slice_set, All, if◌then◌else◌}
+use Rattle.std.specs.List.{Contains, list_any, find}
+use Rattle.std.proofs.lemmas.Bool.{false≢true, or_parts}
 use Rattle.std.proofs.lemmas.Option.{same_Some, none-some}
 use Rattle.std.proofs.lemmas.List.Elements.{All-nil, All-cons, Contains-append_left, Contains-append_right}
 use Rattle.civl_tree.specs.declared.stmt.Stmt.{Stmt}
-use Rattle.civl_tree.specs.rules.Rules.{Place, item_place, statement_places, numbers_where, each_place}
+use Rattle.civl_tree.specs.rules.Rules.{Place, statement_places, numbers_where, each_place}
 use Rattle.civl_conditions.specs.Steps.{each_at}
 
 -- ---- bools
 
-pub false_of : (b : Bool) → (b ≡ true → ⊥) → b ≡ false
-false_of true n = absurd (n refl)
-false_of false n = refl
-
-pub true_of : (b : Bool) → (b ≡ false → ⊥) → b ≡ true
-true_of true n = refl
-true_of false n = absurd (n refl)
+pub not_not : (b : Bool) → not b ≡ false → b ≡ true
+not_not true e = refl
+not_not false e = absurd (false≢true (sym e))
 
 -- ---- lists
 

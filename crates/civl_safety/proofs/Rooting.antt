@@ -1,44 +1,42 @@
 -- The topmost program runs roots, which call actions.
-use Rattle.std.proofs.Common.{◌≡◌, ℕ, zero, suc, ◌+◌, ◌<◌, ◌≤◌, Bool, true, false, not, ◌&&◌, ◌||◌, List, [], ◌∷◌, ◌++◌, length, map, Option, Some, None, refl, sym, ap, ap₂, ◌∙◌, subst, inl, inr, ◌⊎◌, arith}
-use Rattle.std.specs.Prelude.{slice_get, nat_eq, nat_lt, is_none, is_some, IsTrue, if◌then◌else◌}
+use Rattle.std.proofs.Common.{◌≡◌, ℕ, zero, suc, ◌<◌, ◌≤◌, Bool, true, false, not, ◌&&◌, ◌||◌, List, [], ◌∷◌, length, map, Option, Some, None, refl, sym, ap, ◌∙◌, subst, inl, inr, ◌⊎◌, arith}
+use Rattle.std.specs.Prelude.{slice_get, nat_eq, is_none, is_some, IsTrue, if◌then◌else◌}
 use Rattle.std.specs.List.{list_any}
 use Rattle.std.specs.Option.{option_map_or}
-use Rattle.std.proofs.lemmas.Bool.{not-false, false≢true, eqb-true, cases_lt, le-ltb}
+use Rattle.std.proofs.lemmas.Bool.{false≢true, eqb-true, cases_lt, le-ltb}
 use Rattle.std.proofs.lemmas.Option.{same_Some, none-some}
 use Rattle.civl_tree.specs.declared.name.Name.{Name}
-use Rattle.civl_tree.specs.declared.expr.Expr.{Expr}
 use Rattle.civl_tree.specs.declared.action.Action.{Action}
 use Rattle.civl_tree.specs.declared.stmt.Stmt.{Stmt, out-Stmt}
-use Rattle.civl_tree.specs.declared.stmt.Stmt.TheOpen.{Stmt-F, Call, Spawn, Yield, Commit, Intro}
+use Rattle.civl_tree.specs.declared.stmt.Stmt.TheOpen.{Stmt-F, Spawn, Yield, Commit, Intro}
 use Rattle.civl_tree.specs.declared.program.Proc.{Proc}
 use Rattle.civl_tree.specs.declared.program.Refines.{Refines}
 use Rattle.civl_tree.specs.declared.program.Thread.{Thread}
 use Rattle.civl_tree.specs.declared.program.Program.{Program}
-use Rattle.civl_tree.specs.Numbering.{proc_item, thread_item, sizes_of, statements_of, statement_at}
+use Rattle.civl_tree.specs.Numbering.{proc_item, sizes_of, statements_of, statement_at}
 use Rattle.civl_tree.specs.rules.Names.{action_named, proc_named}
-use Rattle.civl_tree.specs.rules.Rules.{Keeps, statements_where, each_place, item_place, statement_places}
+use Rattle.civl_tree.specs.rules.Rules.{Keeps, statements_where, each_place}
 use Rattle.civl_tree.proofs.Numbers.{sizes_are_counts}
 use Rattle.civl_tree.proofs.Kept.{statement_kept}
 use Rattle.civl_meaning.specs.declared.config.Plain.{Plain}
-use Rattle.civl_meaning.specs.Meaning.{Meaning, Does, Runs, Missing, proc_number, meaning_of_action, refined, meaning_by, meaning_of, meaning_else, called}
+use Rattle.civl_meaning.specs.Meaning.{Runs, proc_number, meaning_of_action, refined, meaning_by, meaning_of, meaning_else, called}
 use Rattle.civl_meaning.specs.Layers.{means_body, topmost}
 use Rattle.civl_meaning.specs.Places.{Spot, is_skipped, skip_layer, spot_at}
-use Rattle.civl_meaning.specs.Rest.{Rest, rest_at, place_in, head_of}
+use Rattle.civl_meaning.specs.Rest.{Rest, place_in, head_of}
 use Rattle.civl_meaning.specs.Config.{begins_threads, spawns, layer_spawns}
 use Rattle.civl_meaning.proofs.Begun.{proc_is}
 use Rattle.civl_meaning.proofs.Rests.{spot_of_rest}
 use Rattle.civl_layers.specs.Layered.{IsLayered}
 use Rattle.civl_layers.proofs.PlainPrograms.{layered_is_plain}
-use Rattle.civl_paths.specs.Seen.{IsProcOf}
 use Rattle.civl_paths.proofs.Belonging.{exit_is}
 use Rattle.civl_paths.proofs.Heading.{number_begins}
-use Rattle.civl_yields.specs.Places.{form_misplaced, is_layered, stmt_misplaced}
+use Rattle.civl_yields.specs.Places.{form_misplaced, stmt_misplaced}
 use Rattle.civl_yields.specs.YieldRules.{commit_rule, yield_rules}
 use Rattle.civl_condition_laws.proofs.Nearby.{layer_within}
 use Rattle.civl_permissions.specs.Apart.{SpawnsStandInRoots}
 use Rattle.civl_goals.specs.Listed.{is_root}
 use Rattle.civl_goals.specs.Rules.{names_layered, names_root, form_descends, descending_in, descending_thread, descending}
-use Rattle.civl_safety.proofs.Listing.{none_left, none_right, none_shown, places_none, numbers_none, statements_none, any_one}
+use Rattle.civl_safety.proofs.Listing.{not_not, none_left, none_right, none_shown, places_none, numbers_none, statements_none, any_one}
 
 pub root_refines : (proc : Proc) → is_root proc ≡ true → proc.refines ≡ None
 root_refines proc = go proc.refines
@@ -149,10 +147,6 @@ module _ (program : Program) (layered : IsLayered program) where
     pub named_root : (name : Name) (proc : Proc) → names_layered program name ≡ false → slice_get program.procs (proc_number program name) ≡ Some proc → is_root proc ≡ true
     named_root name proc h at =
         not_not (is_root proc) (sym (ap (λ (o : Option Proc). option_map_or (λ p. not (is_root p)) o false) (sym (proc_is program name) ∙ at)) ∙ h)
-      where
-        not_not : (b : Bool) → not b ≡ false → b ≡ true
-        not_not true e = refl
-        not_not false e = absurd (false≢true (sym e))
 
     -- threads run roots
     pub callee_root : SpawnsStandInRoots program → (k : ℕ) → IsTrue (begins_threads program k) → (proc : Proc) → slice_get program.procs k ≡ Some proc → is_root proc ≡ true

@@ -1,15 +1,14 @@
 -- What an outline says stays along runs of the topmost program, and where it holds nothing fails.
-use Rattle.std.proofs.Common.{◌≡◌, ℕ, zero, suc, ◌+◌, ◌-◌, ◌<◌, ◌≤◌, Bool, true, false, not, ◌&&◌, ◌||◌, List, [], ◌∷◌, ◌++◌, map, length, Option, Some, None, refl, sym, ap, ap₂, ◌∙◌, subst, inl, inr, ◌⊎◌, arith}
+use Rattle.std.proofs.Common.{◌≡◌, ℕ, zero, suc, ◌≤◌, Bool, true, false, not, ◌||◌, List, [], ◌∷◌, ◌++◌, map, Option, Some, None, refl, sym, ap, ◌∙◌, subst, inl, inr, arith}
 use Rattle.std.specs.Prelude.{slice_get, slice_set, All, flat_map}
 use Rattle.std.specs.List.{list_any}
 use Rattle.std.specs.Option.{option_map, option_map_or}
 use Rattle.std.proofs.lemmas.Bool.{and_from, lt-ltb, false≢true, true≢false}
-use Rattle.std.proofs.lemmas.Option.{same_Some, none-some}
+use Rattle.std.proofs.lemmas.Option.{same_Some}
 use Rattle.std.proofs.lemmas.List.Elements.{All-nil, All-cons, All-head, All-tail, All-push, All-map}
 use Rattle.civl_bits.specs.Value.{IsValue}
 use Rattle.civl_bits.specs.declared.value.Value.{Value}
 use Rattle.civl_values.specs.Values.{HaveSorts}
-use Rattle.civl_tree.specs.declared.name.Name.{Name}
 use Rattle.civl_tree.specs.declared.action.Action.{Action}
 use Rattle.civl_tree.specs.declared.program.Proc.{Proc}
 use Rattle.civl_tree.specs.declared.program.Program.{Program}
@@ -22,7 +21,7 @@ use Rattle.civl_outlines.specs.declared.outline.Outline.{Outline}
 use Rattle.civl_firing.specs.declared.store.Store.{Store}
 use Rattle.civl_firing.specs.Stores.{IsStore}
 use Rattle.civl_firing.specs.Eval.{values_of}
-use Rattle.civl_firing.specs.Scope.{zeros_of_params, zeros_of_locals, global_values}
+use Rattle.civl_firing.specs.Scope.{global_values}
 use Rattle.civl_meaning.specs.declared.config.Move.{Move}
 use Rattle.civl_meaning.specs.declared.config.Plain.{Plain}
 use Rattle.civl_meaning.specs.declared.config.Activation.{Activation}
@@ -36,10 +35,10 @@ use Rattle.civl_meaning.specs.declared.config.Change.TheVariants.{Stays, Goes, A
 use Rattle.civl_meaning.specs.Initial.{IsInitial}
 use Rattle.civl_meaning.specs.Permissions.{pairwise_disjoint}
 use Rattle.civl_meaning.specs.Places.{Spot, spot_at}
-use Rattle.civl_meaning.specs.Meaning.{Meaning, Does, Runs, proc_number, meaning_of}
+use Rattle.civl_meaning.specs.Meaning.{Meaning, Runs, proc_number, meaning_of}
 use Rattle.civl_meaning.specs.Layers.{topmost}
-use Rattle.civl_meaning.specs.Change.{new_frame, call_change, outs_in, spot_change, proc_change, state_change, change_of}
-use Rattle.civl_meaning.specs.Step.{begun, start, goes_on, enters, left, moves_on, state_after, thread_after, store_with, with_spawned, step_with, step_in, step_of}
+use Rattle.civl_meaning.specs.Change.{new_frame, call_change, spot_change, proc_change, state_change, change_of}
+use Rattle.civl_meaning.specs.Step.{begun, start, goes_on, enters, left, moves_on, thread_after, step_with, step_in, step_of}
 use Rattle.civl_meaning.specs.Run.{RunsTo}
 use Rattle.civl_meaning.specs.Failing.{IsMove, CanFail, call_fails, spot_fails, proc_fails, state_fails, thread_fails, is_failing}
 use Rattle.civl_meaning.specs.Config.{IsPlain, IsBegun, HasLocals, IsPlaced, IsBodyOf, StateIsSorted, StateIsStacked, ThreadIsSorted, IsStacked, frame_sorts}
@@ -59,9 +58,8 @@ use Rattle.civl_permissions.specs.Apart.{SpawnsStandInRoots}
 use Rattle.civl_permissions.specs.Owned as owned
 use Rattle.civl_permissions.specs.Stay.{KeepsPermissions}
 use Rattle.civl_permissions.proofs.Counting.{carriers}
-use Rattle.civl_permissions.proofs.Lending.{StateIsLent}
 use Rattle.civl_permissions.proofs.Changing.{Meant, AreWritable, owns, Kept}
-use Rattle.civl_permissions.proofs.Threads.{placed_in, thread_kept}
+use Rattle.civl_permissions.proofs.Threads.{thread_kept}
 use Rattle.civl_permissions.proofs.Staying.{IsKept, step_kept}
 use Rattle.civl_permissions.proofs.Reaching.{start_kept}
 use Rattle.civl_goals.specs.declared.goal.Goal.TheVariants as goal
@@ -72,17 +70,13 @@ use Rattle.civl_goals.specs.Failed as failing
 use Rattle.civl_goals.specs.Failed.{owned_in, does, failed}
 use Rattle.civl_safety.specs.Outlined.{IsOutlined}
 use Rattle.civl_safety.specs.Stands.{StateStands, ThreadStands, Stands}
-use Rattle.civl_safety.proofs.Listing.{set_all}
+use Rattle.civl_safety.proofs.Listing.{not_not, set_all}
 use Rattle.civl_safety.proofs.Fitting.{written}
 use Rattle.civl_safety.proofs.Listed.{invariant_listed, thread_listed}
 use Rattle.civl_safety.proofs.Rooting.{root_runs, root_spot, callee_root}
 use Rattle.civl_safety.proofs.Owning.{owned_less, frame_apart, frames_apart}
 use Rattle.civl_safety.proofs.Concluding.{IsAssumed}
 use Rattle.civl_safety.proofs.Stepping.{by_note, offered, stays, Here, LedTo, led, safe}
-
-not_not : (b : Bool) → not b ≡ false → b ≡ true
-not_not true e = refl
-not_not false e = absurd (false≢true (sym e))
 
 none_any : {A : Type 0} (test : A → Bool) (xs : List A) → ((i : ℕ) (x : A) → slice_get xs i ≡ Some x → test x ≡ false) → list_any test xs ≡ false
 none_any test [] h = refl
@@ -122,7 +116,7 @@ module _ (program : Program) (outline : Outline) (layered : IsLayered program) (
       let sorts = new_locals program layered.rules thread.callee proc at thread.args (subst (λ (q : Proc). HaveSorts thread.args (param_sorts q.params)) same b.args) in
       let less = owned_less program (new_frame thread.callee proc thread.args) proc at sorts p in
       let enters = subst (λ (m : Meaning). Kept program store waiting Before (call_change plain store [] [] [] [] 0 0 m thread.args)) (begins_body thread b ∙ ap (Runs thread.callee) same)
-          (thread_kept plain ok linear writable keeps store fit [] (All-nil IsValue) waiting (record { proc = b.proc; there = b.there; args = b.args; begins = b.begins }) tt tt) in
+      (thread_kept plain ok linear writable keeps store fit [] (All-nil IsValue) waiting (record { proc = b.proc; there = b.there; args = b.args; begins = b.begins }) tt tt) in
       let more = enters.0 p in
       omega (arith, less, more)
     where
@@ -160,8 +154,8 @@ module _ (program : Program) (outline : Outline) (layered : IsLayered program) (
           let l = b.2 in (
             refl,
             kept beside.procedure beside.place l.proc beside.locals l.there l.locals h.1
-            (frames_apart program store threads parted t u thread other frame beside (λ q. n (sym q)) at there own
-            (λ p. let one = owned_less program beside l.proc l.there l.locals p in let two = less p in omega (arith, one, two))),
+                (frames_apart program store threads parted t u thread other frame beside (λ q. n (sym q)) at there own
+                (λ p. let one = owned_less program beside l.proc l.there l.locals p in let two = less p in omega (arith, one, two))),
           )
       other_state u other n there (Inside (x ∷ xs) beside) less b h = absurd (let e = h.0 in cc)
       other_state u other n there After less b h = tt

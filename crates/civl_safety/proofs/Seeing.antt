@@ -1,7 +1,7 @@
 -- What an outline says sees the globals of the topmost program alone.
-use Rattle.std.proofs.Common.{◌≡◌, ℕ, zero, suc, ◌<◌, Bool, true, false, not, ◌||◌, ◌&&◌, List, [], ◌∷◌, ◌++◌, find, filter, map, Option, Some, None, refl, sym, ap, ◌∙◌, subst, inl, inr, arith, append-nil}
+use Rattle.std.proofs.Common.{◌≡◌, ℕ, zero, suc, ◌<◌, Bool, true, false, not, ◌||◌, ◌&&◌, List, [], ◌∷◌, ◌++◌, find, filter, Option, Some, None, refl, sym, ap, ◌∙◌, inl, inr, arith}
 use Rattle.std.specs.Prelude.{slice_get, take, is_some, if◌then◌else◌}
-use Rattle.std.specs.List.{list_any, list_all}
+use Rattle.std.specs.List.{list_any}
 use Rattle.std.proofs.lemmas.Bool.{or_parts, or_from, and_parts, false≢true, true≢false}
 use Rattle.std.proofs.lemmas.Option.{same_Some, none-some}
 use Rattle.std.proofs.lemmas.Slice.Eq.{bytes_eq-Decides}
@@ -13,8 +13,8 @@ use Rattle.civl_tree.specs.declared.expr.Sort.{Sort}
 use Rattle.civl_tree.specs.declared.program.Global.{Global}
 use Rattle.civl_tree.specs.declared.program.Proc.{Proc}
 use Rattle.civl_tree.specs.declared.program.Program.{Program}
-use Rattle.civl_tree.specs.rules.Names.{same_name, has_name, global_names, names_in_proc}
-use Rattle.civl_tree.specs.rules.Scopes.{Scope, Binding, sort_in, bind_globals, bind_proc}
+use Rattle.civl_tree.specs.rules.Names.{same_name, global_names}
+use Rattle.civl_tree.specs.rules.Scopes.{Scope, sort_in, bind_globals, bind_proc}
 use Rattle.civl_tree.specs.rules.Exprs.{names_known, known_step}
 use Rattle.civl_tree.specs.rules.Rules.{Keeps}
 use Rattle.civl_tree.specs.rules.Typing.{typing_rules, twice_rule}
@@ -24,7 +24,6 @@ use Rattle.civl_layers.specs.Names.{uses, use_step}
 use Rattle.civl_footprints.specs.Agreement.{fails_test, names_other}
 use Rattle.civl_soundness.proofs.Bindings.{in_either, no_global}
 use Rattle.civl_soundness.proofs.Scopes.{proc_declares}
-use Rattle.civl_safety.proofs.Listing.{none_at}
 
 -- ---- names that are in scope
 

@@ -1,9 +1,9 @@
 -- A step of a frame that stands at a place whose note holds leads to what the outline says, and doesn't fail.
-use Rattle.std.proofs.Common.{◌≡◌, ℕ, ◌+◌, ◌<◌, Bool, true, false, not, ◌&&◌, List, [], ◌∷◌, ◌++◌, map, Option, Some, None, refl, sym, ap, ap₂, ◌∙◌, subst, inl, inr, ◌⊎◌, arith}
-use Rattle.std.specs.Prelude.{slice_get, slice_set, is_some, nat_lt, All, codes, if◌then◌else◌}
+use Rattle.std.proofs.Common.{◌≡◌, ℕ, ◌+◌, Bool, true, false, not, List, [], ◌++◌, map, Option, Some, None, refl, sym, ap, ap₂, ◌∙◌, subst, inl, inr, ◌⊎◌, arith}
+use Rattle.std.specs.Prelude.{slice_get, slice_set, is_some, All, if◌then◌else◌}
 use Rattle.std.specs.List.{Contains, list_any}
 use Rattle.std.specs.Option.{option_map, option_map_or}
-use Rattle.std.proofs.lemmas.Bool.{and_from, or_parts, not-false, lt-ltb, false≢true}
+use Rattle.std.proofs.lemmas.Bool.{and_from, or_parts, not-false, lt-ltb}
 use Rattle.civl_bits.specs.Value.{IsValue}
 use Rattle.civl_bits.specs.declared.value.Value.{Value}
 use Rattle.civl_values.specs.Values.{HaveSorts, is_true, zero_of}
@@ -12,7 +12,6 @@ use Rattle.civl_tree.specs.declared.expr.Expr.{Expr}
 use Rattle.civl_tree.specs.declared.action.Action.{Action}
 use Rattle.civl_tree.specs.declared.action.Choice.{Choice}
 use Rattle.civl_tree.specs.declared.stmt.Stmt.{Stmt, out-Stmt}
-use Rattle.civl_tree.specs.declared.stmt.Stmt.TheOpen as stmt
 use Rattle.civl_tree.specs.declared.stmt.Stmt.TheOpen.{Stmt-F, Assign, Assert, If, While, YieldLoop, RankLoop, Call, Yield, Commit, Intro, Spawn}
 use Rattle.civl_tree.specs.declared.program.Proc.{Proc}
 use Rattle.civl_tree.specs.declared.program.Program.{Program}
@@ -47,7 +46,7 @@ use Rattle.civl_meaning.specs.Permissions.{pairwise_disjoint}
 use Rattle.civl_meaning.specs.Places.{Spot, spot_at, start_of}
 use Rattle.civl_meaning.specs.Meaning.{Meaning, Does, Runs, Missing, called, proc_number}
 use Rattle.civl_meaning.specs.Layers.{topmost}
-use Rattle.civl_meaning.specs.Change.{new_frame, with_results, acted, call_change, layer_change}
+use Rattle.civl_meaning.specs.Change.{new_frame, acted, call_change, layer_change}
 use Rattle.civl_meaning.specs.Failing.{answers_failing, layer_fails, spot_fails, proc_fails}
 use Rattle.civl_meaning.specs.Config.{frame_sorts}
 use Rattle.civl_meaning.proofs.Begun.{proc_is}
@@ -64,24 +63,20 @@ use Rattle.civl_condition_laws.proofs.Carrying.{same_linear}
 use Rattle.civl_condition_laws.proofs.Meeting.{not_second}
 use Rattle.civl_soundness.proofs.Sorted.{sort_fits, zeros_fit, none_at}
 use Rattle.civl_permissions.proofs.Reaching.{meant_begins}
-use Rattle.civl_goals.specs.declared.goal.Goal.{Goal}
 use Rattle.civl_goals.specs.declared.goal.Goal.TheVariants as goal
 use Rattle.civl_goals.specs.Outlines.{exists_on_top, invariant_holds, written_before, note_holds}
 use Rattle.civl_goals.specs.Variables.{variables, choices_at}
 use Rattle.civl_goals.specs.Listed.{is_root, has_statement, begins, goals}
-use Rattle.civl_goals.specs.Rules.{descending, names_root, form_descends}
-use Rattle.civl_goals.specs.Failed.{owned_in, beside, does, fired_store, first_frame, frame_at, led_to, other_of, loses_invariant, begins_badly, leads_astray, interferes, failed}
+use Rattle.civl_goals.specs.Rules.{descending, form_descends}
+use Rattle.civl_goals.specs.Failed.{owned_in, beside, does, frame_at, other_of, loses_invariant, begins_badly, leads_astray, interferes, failed}
 use Rattle.civl_safety.specs.Outlined.{IsOutlined}
+use Rattle.civl_safety.proofs.Listing.{not_not}
 use Rattle.civl_safety.proofs.Agreeing.{invariant_same, note_same}
 use Rattle.civl_safety.proofs.Fitting.{written}
 use Rattle.civl_safety.proofs.Gathering.{other_there, other_fit}
 use Rattle.civl_safety.proofs.Listed.{next_listed, assert_listed, safe_listed, keep_listed, other_listed, spawn_listed, noted_listed}
 use Rattle.civl_safety.proofs.Rooting.{get_there, statement_descends, call_acts}
 use Rattle.civl_safety.proofs.Concluding.{linear_on_top, does_is, does_alike, IsAssumed, given, store_given, agrees, concluded, given_fit}
-
-not_not : (b : Bool) → not b ≡ false → b ≡ true
-not_not true e = refl
-not_not false e = absurd (false≢true (sym e))
 
 -- ---- steps that do alike
 
@@ -227,13 +222,17 @@ module _ (program : Program) (layered : IsLayered program) (outline : Outline) (
               ∙ (ap (λ (b : Bool). stays (if gate_holds program.globals g action (values_of (frame_values program.globals proc locals) es) then (if b then acted (names_in_proc proc) locals rs spot.next (fired program.globals g action (values_of (frame_values program.globals proc locals) es) chosen) else Stays answer.BadChoices) else Stays answer.Failing)) h
               ∙ bad (gate_holds program.globals g action (values_of (frame_values program.globals proc locals) es)) (acted (names_in_proc proc) locals rs spot.next (fired program.globals g action (values_of (frame_values program.globals proc locals) es) chosen))))
       by_call f es rs q (Runs n p) e =
-          inr (([], chosen_form (Call f es rs) q [] (subst (λ (m : Meaning). HaveSorts [] (map (λ c. c.sort) (choices_of m))) (sym e) no_sorts)),
-          does_form chosen (Call f es rs) q ∙ (ap (λ (m : Meaning). call_change plain g chosen (names_in_proc proc) locals rs spot.number spot.next m (values_of (frame_values program.globals proc locals) es)) e
-          ∙ (sym (ap (λ (m : Meaning). call_change plain g [] (names_in_proc proc) locals rs spot.number spot.next m (values_of (frame_values program.globals proc locals) es)) e) ∙ sym (does_form [] (Call f es rs) q))))
+          inr (
+            ([], chosen_form (Call f es rs) q [] (subst (λ (m : Meaning). HaveSorts [] (map (λ c. c.sort) (choices_of m))) (sym e) no_sorts)),
+            does_form chosen (Call f es rs) q ∙ (ap (λ (m : Meaning). call_change plain g chosen (names_in_proc proc) locals rs spot.number spot.next m (values_of (frame_values program.globals proc locals) es)) e
+                ∙ (sym (ap (λ (m : Meaning). call_change plain g [] (names_in_proc proc) locals rs spot.number spot.next m (values_of (frame_values program.globals proc locals) es)) e) ∙ sym (does_form [] (Call f es rs) q))),
+          )
       by_call f es rs q Missing e =
-          inr (([], chosen_form (Call f es rs) q [] (subst (λ (m : Meaning). HaveSorts [] (map (λ c. c.sort) (choices_of m))) (sym e) no_sorts)),
-          does_form chosen (Call f es rs) q ∙ (ap (λ (m : Meaning). call_change plain g chosen (names_in_proc proc) locals rs spot.number spot.next m (values_of (frame_values program.globals proc locals) es)) e
-          ∙ (sym (ap (λ (m : Meaning). call_change plain g [] (names_in_proc proc) locals rs spot.number spot.next m (values_of (frame_values program.globals proc locals) es)) e) ∙ sym (does_form [] (Call f es rs) q))))
+          inr (
+            ([], chosen_form (Call f es rs) q [] (subst (λ (m : Meaning). HaveSorts [] (map (λ c. c.sort) (choices_of m))) (sym e) no_sorts)),
+            does_form chosen (Call f es rs) q ∙ (ap (λ (m : Meaning). call_change plain g chosen (names_in_proc proc) locals rs spot.number spot.next m (values_of (frame_values program.globals proc locals) es)) e
+                ∙ (sym (ap (λ (m : Meaning). call_change plain g [] (names_in_proc proc) locals rs spot.number spot.next m (values_of (frame_values program.globals proc locals) es)) e) ∙ sym (does_form [] (Call f es rs) q))),
+          )
 
       by_form : (d : Stmt-F Stmt) → out-Stmt spot.stmt ≡ d → Here chosen
       by_form (Call f es rs) q = by_call f es rs q (called plain f) refl

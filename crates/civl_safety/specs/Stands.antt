@@ -1,6 +1,6 @@
 -- What an outline says of a configuration: the store meets the invariant, no thread holds a permission of another's, and each thread
 -- stands at a place whose note holds. (Owicki and Gries, 1976.)
-use Rattle.std.specs.Prelude.{ℕ, ◌≡◌, List, [], Some, slice_get, IsTrue, All}
+use Rattle.std.specs.Prelude.{◌≡◌, List, [], Some, slice_get, IsTrue, All}
 use Rattle.civl_tree.specs.declared.program.Proc.{Proc}
 use Rattle.civl_tree.specs.declared.program.Program.{Program}
 use Rattle.civl_outlines.specs.declared.outline.Outline.{Outline}

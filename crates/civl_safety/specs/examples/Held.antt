@@ -1,7 +1,7 @@
 -- The flag program whose root calls an action with the flag as its gate (civl_goals, examples): with the flag as invariant an outline
 -- proves that the call doesn't fail, and the outline that says nothing doesn't. All conditions of the program hold; so no
 -- interleaving of its lowest program, where the root runs the procedure's body, fails.
-use Rattle.std.specs.Prelude.{List, [], ◌∷◌, codes}
+use Rattle.std.specs.Prelude.{[], ◌∷◌, codes}
 use Rattle.civl_tree.specs.declared.program.Program.{Program}
 use Rattle.civl_firing.specs.examples.Written.{name}
 use Rattle.civl_firing.specs.declared.store.Store.{Store}
