@@ -42,7 +42,7 @@ NO_ONE_WAITS = re.search(r"// Between.*?(?=action)", example(TICKET), re.DOTALL)
 # What is put in the place of what, and lines of the report of `conditions`, which follow one another from each name on.
 MISTAKES = [
     (SPINLOCK, [("invariant 1 (b == (lock != 0:2));\n", "")],
-     "K9 perform step 1 Acquire from 1: fails;  b = false;  lock = 2:2;  x = 0:8;  t = 1:2;  ok = false;  done = false"),
+     "K9 perform step 1 Acquire from 1: fails;  b = false;  lock = 2:2;  x = 0:8;  t = 2:2;  ok = false;  done = false"),
     (SPINLOCK, [(" intro lock := t;", "")],
      "K9 perform step 1 Acquire from 1: fails;  b = false;  lock = 0:2;  x = 0:8;  t = 1:2;  ok = false;  done = false;"
      "K10 step 1 Acquire from 1 invariant 0: fails;  b = false;  lock = 0:2;  x = 0:8;  t = 1:2;  ok = false;  done = false"),
@@ -51,7 +51,7 @@ MISTAKES = [
     (SPINLOCK, [("thread Main(2:2)", "thread Main(1:2)")], "refused E70 at item 3"),
     (SPINLOCK, [(f" {mover}\n", " atomic\n") for mover in ("right", "left", "both")], "refused E50 at item 18 statement 1"),
     (SPINLOCK, [("1 to 1 left", "1 to 1 right")],
-     "K3 step 2 AtomRelease AtomAcquire: fails;  lock = 3:2;  x = 0:8;  X.t = 3:2;  Y.t = 1:2;106 hold, 1 fail, 0 undecided"),
+     "K3 step 2 AtomRelease AtomAcquire: fails;  lock = 2:2;  x = 0:8;  X.t = 2:2;  Y.t = 1:2;106 hold, 1 fail, 0 undecided"),
     (SPINLOCK, [("1 to 1 right", "1 to 1 left")],
      "K5 step 2 AtomAcquire AtomRelease: fails;K8 step 2 AtomAcquire: fails;  lock = 1:2;  x = 0:8;  X.t = 1:2"),
     (SPINLOCK, [(FREE_GATE, "gate (t != 0:2) guard true { v := x; }")],
@@ -85,7 +85,7 @@ MISTAKES = [
      "K10 step 1 Take from 0 invariant 0: fails;  next = 0:2;  serving = 1:2;  owner = [0:2, 1:2, 1:2, 1:2];  t = 2:2;76 hold, 4 fail, 0 undecided"),
     (TICKET, [("layers 1 to 1 right", "layers 1 to 1 atomic")], "refused E50 at item 24 statement 1"),
     (TICKET, [("layers 1 to 1 right", "layers 1 to 1 both")],
-     "K5 step 2 AtomTake AtomPass: fails;K8 step 2 AtomTake: fails;  serving = 0:2;  owner = [1:2, 3:2, 3:2, 3:2];  X.t = 2:2;106 hold, 2 fail, 0 undecided"),
+     "K5 step 2 AtomTake AtomPass: fails;K8 step 2 AtomTake: fails;  serving = 0:2;  owner = [2:2, 2:2, 2:2, 2:2];  X.t = 3:2;106 hold, 2 fail, 0 undecided"),
     (TICKET, [("action AtomPass(lend t : word(2)) -> () choose () layers 1 to 1 atomic",
                "action AtomPass(lend t : word(2)) -> () choose () layers 1 to 1 left")],
      "K7 step 2 AtomPass AtomPass: fails;  serving = 0:2;  owner = [2:2, 1:2, 0:2, 0:2];  X.t = 2:2;  Y.t = 1:2;107 hold, 1 fail, 0 undecided"),
