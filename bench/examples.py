@@ -100,6 +100,20 @@ MISTAKES = [
     (TICKETS, [(INVARIANT_2, ""), ("  layers 1 to 1 right", "  layers 1 to 1 atomic")], "refused E50 at item 23 statement 1"),
 ]
 
+# The same of outlines, and lines of the report of `prove`.
+OUTLINE = "lock_outline.civl"
+HELD = "((t != 0:2) && (lock == t))"
+UNPROVED = [
+    ([(f"assert 17 1 {HELD};\n", "")], "unproved O2 safe Add at 1;lock = 0:2;x = 0:8;t = 1:2;v = 0:8"),
+    ([(f"assert 18 3 ({HELD} && (v == w));", "assert 18 3 (v == w);")],
+     "unproved O2 next Audit at 3;lock = 0:2;x = 0:8;t = 0:2;v = 0:8;w = 0:8"),
+    ([(f"assert 18 2 ({HELD} && (v == x));", f"assert 18 2 ({HELD.replace('lock == t', 'lock == 2:2')} && (v == x));")],
+     "unproved O3 Add at 2 keeps Audit at 2;lock = 2:2;x = 0:8;t = 2:2;v = 0:8;other.t = 1:2;other.v = 0:8;other.w = 0:8"),
+    ([("assert 18 4", "assert 18 5")], "refused E90 at note 8"),
+    ([("proc Read(", "proc Idle() -> () root { }\nproc Read(")], "refused E90 at note 0"),
+    ([("thread Audit(2:2)", "thread Acquire(2:2)")], "refused E91 at item 20 statement 0"),
+]
+
 
 def run(binary, words, text):
     done = subprocess.run([binary, *words], input=text.encode(), capture_output=True)
@@ -127,6 +141,9 @@ def other_reports(binary):
     for name, changes, wanted in MISTAKES:
         lines = run(binary, ["conditions"], with_changes(example(name), changes))
         yield None if has(lines, wanted.split(";")) else f"{name} with {changes}: {[line for line in lines if not line.endswith(': holds')]}"
+    for changes, wanted in UNPROVED:
+        lines = run(binary, ["prove"], with_changes(example(OUTLINE), changes))
+        yield None if lines == wanted.split(";") else f"{OUTLINE} with {changes}: {lines}"
 
 
 def main():

@@ -36,6 +36,8 @@ ADD = "call Add(1:2) -> ();"
 SCRIPT = "thread Main(1:2);\nschedule x = 0:2; pool = 0:4;\nmove 0 (); move 0 (1:2);\n"
 
 TWO = "action Two(lend a : word(2), lend b : word(2)) -> () choose () layers 0 to 1 atomic gate true guard true { }\n"
+GRAB = "action Grab() -> (give a : word(2)) choose () layers 1 to 1 atomic gate true guard true { a := 0:2; }\n"
+THREAD = "thread Main(1:2);\n"
 
 
 def products(count):
@@ -85,6 +87,16 @@ TRIES = [
     ("check", ("call Add(1:2) -> (); commit;", "call Add(2:2) -> (); commit;"), "rejected K9 perform step 1 Do from 0", ["12:1"]),
     ("check", (ADD + " commit;", ADD + " commit; yield (x == 1:2);"), "rejected K9 invariant step 1 Do from 0", ["12:1"]),
     ("conditions", (ADD + " commit;", ADD + " commit; yield (done && (x == 1:2));"), "K10 step 1 Do from 0 yield Do 1: fails", ["12:1", "15:32"]),
+    ("prove", (THREAD, THREAD + "schedule inv x;\n"), "refused E90 at note 0", ["19:10"]),
+    ("prove", (THREAD, THREAD + "schedule inv true;\nassert 8 2 true;\n"), "refused E90 at note 1", ["20:1"]),
+    ("prove", (THREAD, "thread Do();\nschedule\n", "Main(take t : word(2)) -> () root { call Do() -> (); call Put(t) -> (); }", "Main() -> () root { }"),
+     "refused E91 at item 9 statement 0", ["18:1"]),
+    ("prove", (THREAD, THREAD + "schedule inv true; inv (x == 0:2);\n"), "unproved O1 invariant", ["5:1", "19:10", "19:20"]),
+    ("prove", (THREAD, THREAD + "schedule assert 8 0 (x == 0:2);\n"), "unproved O1 thread 0", ["18:1"]),
+    ("prove", ("proc Do()", GRAB + "proc Do()", THREAD, THREAD + "schedule\n"), "unproved O1 linear Grab", ["12:1"]),
+    ("prove", ("atomic gate true guard true { x := (x + 1:2); }", "atomic gate (x == 0:2) guard true { x := (x + 1:2); }", THREAD, THREAD + "schedule\n"),
+     "unproved O2 safe Main at 0", ["17:1", "17:42"]),
+    ("prove", (THREAD, THREAD + "schedule assert 8 1 (x == 1:2);\n"), "unproved O2 next Main at 0", ["17:1", "17:42"]),
 ]
 
 

@@ -67,7 +67,7 @@ fn number_refined(program: &Program, layer: u32, refines: &Option<Refines>) -> O
 }
 
 /// The number of the action that a call of this name means in the program of a layer, if it means one.
-fn number_meant(program: &Program, layer: u32, name: &Name) -> Option<u32>
+pub fn number_meant(program: &Program, layer: u32, name: &Name) -> Option<u32>
     requires { length program.now.actions < 2 ^ 32 }
     ensures is { action_at program.now result ≡ action_meant (called (program_at program.now layer) name.now) }
     ensures within { IfSome result (λ n. n < length program.now.actions) }

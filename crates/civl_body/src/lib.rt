@@ -4,11 +4,13 @@
 mod begin;
 mod calls;
 mod rests;
-mod sizes;
+pub mod sizes;
 mod statements;
 mod way;
 mod ways;
 
 pub use begin::pass_from;
+pub use calls::number_meant;
+pub use rests::{Numbered, push_among};
 pub use way::{Walk, Way};
 pub use ways::walk;

@@ -40,7 +40,12 @@ pub fn push_one<'a>(rest: &mut Vec<Numbered<'a>>, stmt: &'a Stmt, number: u32) -
     Ok(())
 }
 
-/// Puts what is still to run from a place among these statements behind others.
+/// Puts what is still to run from a place among these statements, the first of which has the number `at`, behind others. Behind the
+/// body of a loop the loop comes again.
+///
+/// # Errors
+///
+/// For want of memory.
 #[cycle(rest)]
 pub fn push_among<'a>(
     rest: &mut Vec<Numbered<'a>>,

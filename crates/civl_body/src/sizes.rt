@@ -1,4 +1,4 @@
-// How many statements there are.
+//! How many statements there are.
 ghost use Rattle.std.specs.Prelude.{◌≡◌, ◌<◌, ◌^◌};
 ghost use Rattle.civl_tree.specs.Numbering.{size_of, sizes_of};
 

@@ -89,3 +89,30 @@ fn outcomes(rt: HostRuntime) -> Result<(), Fail> {
     }
     Ok(())
 }
+
+/// Gates that nothing else names: each variable from 13 to 1000 is the sum, without carry, of the two before it.
+fn idle_gates(alloc: Global) -> Result<String, AllocError> {
+    let mut text = String::new(alloc);
+    for first in 11..999u32 {
+        let second = first + 1;
+        let gate = first + 2;
+        let clauses = format!(in alloc;
+            " -{gate} {first} {second} 0 -{gate} -{first} -{second} 0 {gate} -{first} {second} 0 {gate} {first} -{second} 0"
+        )?;
+        text.push_str(&clauses)?;
+    }
+    Ok(text)
+}
+
+/// A search doesn't spend its budget over gates that have no part in what is asked: there are clauses to be learned of them, more
+/// than the budget allows.
+#[test]
+fn idle_gates_spend_no_budget(rt: HostRuntime) -> Result<(), Fail> {
+    let alloc = rt.alloc();
+    let gates = idle_gates(alloc)?;
+    let text = format!(in alloc; "{PIGEONS}{gates}")?;
+    let cnf = cnf_of(&rt, alloc, 1000, &text)?;
+    let found = outcome_of(&rt, alloc, &cnf, 200_000)?;
+    assert_eq!(rt; found, Found::Unsat);
+    Ok(())
+}

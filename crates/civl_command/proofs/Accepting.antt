@@ -1,7 +1,9 @@
 -- A program that is taken and all of whose conditions hold preserves failures.
-use Rattle.std.specs.Prelude.{Contains}
+use Rattle.std.specs.Prelude.{Contains, IsTrue}
 use Rattle.std.proofs.Common.{ℕ, ◌≤◌, List, ◌++◌, length, refl, sym}
 use Rattle.std.proofs.lemmas.Option.{slice_get_read}
+use Rattle.civl_tree.specs.SpellingDomain.{allows_program}
+use Rattle.civl_tree.specs.Numbered.{IsNumbered}
 use Rattle.civl_tree.specs.declared.program.Program.{Program}
 use Rattle.civl_tree.specs.rules.Rules.{Keeps}
 use Rattle.civl_tree.specs.rules.Typing.{typing_rules}
@@ -15,6 +17,7 @@ use Rattle.civl_conditions.specs.declared.condition.Condition.{Condition}
 use Rattle.civl_conditions.specs.Listed.{conditions}
 use Rattle.civl_conditions.specs.Violated.{Holds}
 use Rattle.civl_verdicts.specs.Verdicts.{HasInitial, AllHold}
+use Rattle.civl_simulation.specs.Followed.{IsAccepted}
 use Rattle.civl_simulation.specs.Preserved.{AcceptedProgramsPreserve}
 use Rattle.civl_command.specs.Rules.{IsLawful}
 use Rattle.civl_command.specs.Texts.{SpellsProgram}
@@ -24,18 +27,23 @@ use Rattle.civl_command.proofs.Lawful.{text_numbered, text_written}
 holds_of : (program : Program) → AllHold program → (condition : Condition) → Contains (conditions program) condition → Holds program condition
 holds_of program hold condition listed = hold listed.0 condition (slice_get_read (conditions program) (length (conditions program)) listed.0 condition refl listed.1 (sym listed.2))
 
-pub preserved : AcceptedProgramsPreserve → (input : List ℕ) (program : Program) → length input ≤ limit → SpellsProgram input program → IsLawful program → AllHold program → HasInitial program → Preserves program
-preserved law input program short spells rules hold initial =
+-- what a lawful program is of which a text can spell each part, and all of whose conditions hold
+pub accepted_by : (program : Program) → IsTrue (allows_program program) → IsNumbered program → IsLawful program → AllHold program → IsAccepted program
+accepted_by program written numbered rules hold =
     let later = keeps_second typing_rules (layer_rules ++ admission_rules) program rules in
     let admission : Keeps admission_rules program = keeps_second layer_rules admission_rules program later in
-    law program (record {
-      written = text_written input program spells;
+    record {
+      written = written;
       layered = record {
         rules = keeps_first typing_rules (layer_rules ++ admission_rules) program rules;
         layers = keeps_first layer_rules admission_rules program later;
-        numbered = text_numbered input program spells short;
+        numbered = numbered;
       };
       linear = keeps_first linear_rules yield_rules program admission;
       yields = keeps_second linear_rules yield_rules program admission;
       hold = holds_of program hold;
-    }) initial
+    }
+
+pub preserved : AcceptedProgramsPreserve → (input : List ℕ) (program : Program) → length input ≤ limit → SpellsProgram input program → IsLawful program → AllHold program → HasInitial program → Preserves program
+preserved law input program short spells rules hold initial =
+    law program (accepted_by program (text_written input program spells) (text_numbered input program spells short) rules hold) initial

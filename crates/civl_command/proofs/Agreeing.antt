@@ -19,17 +19,19 @@ use Rattle.civl_verdicts.specs.declared.survey.Survey.{Survey}
 use Rattle.civl_verdicts.specs.declared.verdict.Verdict.{Verdict}
 use Rattle.civl_findings.proofs.Surveying.{surveys_of_one_agree}
 use Rattle.civl_judgements.proofs.Judging.{verdicts_on_one_agree}
+use Rattle.civl_outlines.specs.declared.outline.Outline.{Outline}
+use Rattle.civl_outline_reports.proofs.Agreeing.{provings_agree}
 use Rattle.civl_proof_reports.proofs.Agreeing.{makings_agree, one_replaying}
 use Rattle.civl_command.specs.declared.task.Task.{Task}
-use Rattle.civl_command.specs.declared.task.Task.TheVariants.{Check, Conditions, Fmt, RunLow, RunTop, Make, Replay}
+use Rattle.civl_command.specs.declared.task.Task.TheVariants.{Check, Conditions, Fmt, RunLow, RunTop, Prove, Make, Replay}
 use Rattle.civl_command.specs.Rules.{static_refusal, IsLawful}
-use Rattle.civl_command.specs.Texts.{IsReading, IsScriptReading}
-use Rattle.civl_command.specs.Outcome.{Outcome, TooLong, Unread, Broken, Judged, Heavy, Surveyed, Printed, Misfit, Ran, Asked, Replayed, Checks, Surveys, Asks, Prints, Runs, RunsBy, OfRead, Finds, FindsReplayed, FindsBy, limit_of}
+use Rattle.civl_command.specs.Texts.{IsReading, IsScriptReading, IsOutlineReading}
+use Rattle.civl_command.specs.Outcome.{Outcome, TooLong, Unread, Broken, Judged, Heavy, Surveyed, Printed, Misfit, Ran, Proven, Asked, Replayed, Checks, Surveys, Proves, Asks, Prints, Runs, RunsBy, OfRead, Finds, FindsReplayed, FindsBy, limit_of}
 use Rattle.civl_command.specs.Alike.{AreAlike}
 use Rattle.civl_command.specs.Laws.{EachInputIsAnsweredOnce}
 use Rattle.civl_command.specs.declared.reader.Fault.{Fault}
-use Rattle.civl_command.proofs.Reading.{one_reading, one_script_reading}
-use Rattle.civl_command.proofs.Ways.{Ways, check_way, survey_way, AskWays, ask_way, RunWays, run_way}
+use Rattle.civl_command.proofs.Reading.{one_reading, one_script_reading, one_outline_reading}
+use Rattle.civl_command.proofs.Ways.{Ways, check_way, survey_way, ProveWays, prove_way, AskWays, ask_way, RunWays, run_way}
 
 -- two outcomes are as alike as those that they are
 alike_by : (first second one other : Outcome) → first ≡ one → second ≡ other → AreAlike one other → AreAlike first second
@@ -92,6 +94,18 @@ one_survey : (budget : ℕ) (program : Program) (first second : Outcome) → Sur
 one_survey budget program first second a b =
     one_way (Surveyed program budget) _ program (λ (x y : Survey) p q. surveys_of_one_agree program budget budget x y p q) first second (survey_way budget program first a) (survey_way budget program second b)
 
+module _ (budget : ℕ) (outline : Outline) where
+  one_prove_way : (first second : Outcome) → ProveWays budget outline first → ProveWays budget outline second → AreAlike first second
+  one_prove_way first second (inl a) (inl b) =
+      alike_by first second (Broken a.refusal) (Broken b.refusal) a.is b.is (ap Broken (one_refusal outline.program a.refusal b.refusal a.broken b.broken))
+  one_prove_way first second (inl a) (inr b) = absurd (not_broken outline.program a.refusal b.rules a.broken)
+  one_prove_way first second (inr a) (inl b) = absurd (not_broken outline.program b.refusal a.rules b.broken)
+  one_prove_way first second (inr a) (inr b) =
+      alike_by first second (Proven outline budget a.found) (Proven outline budget b.found) a.is b.is (provings_agree outline.program outline budget budget a.found b.found a.right b.right)
+
+  one_prove : (first second : Outcome) → Proves budget outline first → Proves budget outline second → AreAlike first second
+  one_prove first second a b = one_prove_way first second (prove_way budget outline first a) (prove_way budget outline second b)
+
 module _ (at budget : ℕ) (program : Program) where
   one_ask_way : (first second : Outcome) → AskWays at budget program first → AskWays at budget program second → AreAlike first second
   one_ask_way first second (inl a) (inl b) = alike_by first second (Broken a.refusal) (Broken b.refusal) a.is b.is (ap Broken (one_refusal program a.refusal b.refusal a.broken b.broken))
@@ -149,6 +163,7 @@ one_found (Conditions budget) input first second a b = one_find IsReading (Surve
 one_found Fmt input first second a b = one_find IsReading Prints one_reading one_print input first second a b
 one_found RunLow input first second a b = one_find IsScriptReading (Runs lowest) one_script_reading (one_run lowest) input first second a b
 one_found RunTop input first second a b = one_find IsScriptReading (Runs topmost) one_script_reading (one_run topmost) input first second a b
+one_found (Prove budget) input first second a b = one_find IsOutlineReading (Proves budget) one_outline_reading (one_prove budget) input first second a b
 one_found (Make at budget) input first second a b = one_find IsReading (Asks at budget) one_reading (one_ask at budget) input first second a b
 one_found Replay input first second a b = one_replayed input first second a b
 
@@ -158,6 +173,7 @@ found_short (Conditions budget) input outcome h = h.short
 found_short Fmt input outcome h = h.short
 found_short RunLow input outcome h = h.short
 found_short RunTop input outcome h = h.short
+found_short (Prove budget) input outcome h = h.short
 found_short (Make at budget) input outcome h = h.short
 found_short Replay input outcome h = h.short
 

@@ -1,25 +1,29 @@
--- No other status of `check` than Done, but for WriteFault, has a report that begins with `accepted`.
+-- No other status of `check` than Done, but for WriteFault, has a report that begins with `accepted`; nor one of `prove` a report that
+-- begins with `safe`.
 use Rattle.std.specs.Prelude.{Option, Some, codes}
-use Rattle.std.proofs.Common.{◌≡◌, ℕ, inl, inr, List, [], ◌∷◌, ◌++◌, sym, ap, ◌∙◌, subst, arith, Result, Ok, Err}
+use Rattle.std.proofs.Common.{◌≡◌, ℕ, ◌⊎◌, inl, inr, List, [], ◌∷◌, ◌++◌, sym, ap, ◌∙◌, subst, arith, Result, Ok, Err}
 use Rattle.std.proofs.lemmas.List.{append_cancel_left}
 use Rattle.std.specs.Io.KnownBytes.{Appends}
 use Rattle.civl_tree.specs.declared.program.Program.{Program}
 use Rattle.civl_verdicts.specs.Verdicts.{IsVerdict}
 use Rattle.civl_verdict_reports.proofs.Beginning.{only_accepted_accepts}
+use Rattle.civl_outlines.specs.declared.outline.Outline.{Outline}
+use Rattle.civl_outline_reports.specs.declared.proving.Proving.{Proving}
+use Rattle.civl_outline_reports.proofs.Beginning.{only_safe_is_safe}
 use Rattle.civl_words.specs.Words.{usual_budget}
 use Rattle.civl_command.specs.Tasks.{AskFor, AskForTrial, AreTaken}
 use Rattle.civl_command.specs.Report.{fault_text, trial_line}
-use Rattle.civl_command.specs.Outcome.{Outcome, TooLong, Unread, Broken, Judged, Heavy, Checks, OfRead, TrialCallsFor, status_of, report_of, limit}
+use Rattle.civl_command.specs.Outcome.{Outcome, TooLong, Unread, Broken, Judged, Heavy, Proven, Checks, Proves, OfRead, TrialCallsFor, status_of, report_of, limit}
 use Rattle.civl_command.specs.Judge.{ReadState, WriteState, Reads, JudgesInput, JudgesTrial, Fails, Explains}
-use Rattle.civl_command.specs.Promises.{AcceptsAlone}
+use Rattle.civl_command.specs.Promises.{AcceptsAlone, IsSafeAlone}
 use Rattle.civl_command.specs.declared.reader.Fault.{Fault}
 use Rattle.civl_command.specs.declared.reader.Fault.TheVariants.{NoToken, NotHere, Deep}
 use Rattle.civl_command.specs.declared.status.Status.{Status}
 use Rattle.civl_command.specs.declared.status.Status.TheVariants.{Done, Rejected, Undecided, Refused, ReadFault, WriteFault, Usage, Memory}
 use Rattle.civl_command.specs.declared.task.Task.{Task}
-use Rattle.civl_command.specs.declared.task.Task.TheVariants.{Check}
+use Rattle.civl_command.specs.declared.task.Task.TheVariants.{Check, Prove}
 use Rattle.civl_command.proofs.Asking.{same_task, same_trial, task_or_trial}
-use Rattle.civl_command.proofs.Ways.{Ways, check_way}
+use Rattle.civl_command.proofs.Ways.{Ways, check_way, ProveWays, prove_way}
 
 -- a text begins with `accepted`
 abbrev Accepted : List ℕ → Type 0
@@ -58,33 +62,33 @@ read_alone : (budget : ℕ) (reading : Result Program Fault) (outcome : Outcome)
 read_alone budget (Ok program) outcome says h = way_alone budget program outcome (check_way budget program outcome says) h
 read_alone budget (Err fault) outcome says h = absurd (fault_first fault (accepted_of outcome (Unread fault) says h))
 
-module _ (words : List (List ℕ)) (before after : ReadState) (sink sink_after : WriteState) (lines : List ℕ) (taken_by : AreTaken words) where
-  -- the report begins with these lines, and goes on with `accepted`
+module _ (words : List (List ℕ)) (before after : ReadState) (sink sink_after : WriteState) (text : List ℕ → List ℕ) (never : (rest : List ℕ) → [] ≡ text rest → ⊥) (taken_by : AreTaken words) where
+  -- the report goes on as some text does
   abbrev GoesOn : List ℕ → Type 0
-  GoesOn report = (rest : List ℕ) × (report ≡ lines ++ (codes "accepted" ++ rest))
+  GoesOn report = (rest : List ℕ) × (report ≡ text rest)
 
   failed_alone : (status : Status) (report : List ℕ) → Fails words before after status report → GoesOn report → ⊥
   failed_alone Done report f h = f
   failed_alone Rejected report f h = f
   failed_alone Undecided report f h = f
   failed_alone Refused report f h = f
-  failed_alone ReadFault report f h = nothing lines h.0 (sym f.2 ∙ h.1)
+  failed_alone ReadFault report f h = never h.0 (sym f.2 ∙ h.1)
   failed_alone WriteFault report f h = f
   failed_alone Usage report f h = f.0 taken_by
-  failed_alone Memory report f h = nothing lines h.0 (sym f.1 ∙ h.1)
+  failed_alone Memory report f h = never h.0 (sym f.1 ∙ h.1)
 
   -- what was written, where it grew by the report
-  grown_by : (taken report rest : List ℕ) → Appends sink.bytes sink_after.bytes report → sink.bytes ≡ Some taken → sink_after.bytes ≡ Some (taken ++ (lines ++ (codes "accepted" ++ rest)))
-      → report ≡ lines ++ (codes "accepted" ++ rest)
+  grown_by : (taken report rest : List ℕ) → Appends sink.bytes sink_after.bytes report → sink.bytes ≡ Some taken → sink_after.bytes ≡ Some (taken ++ text rest) → report ≡ text rest
   grown_by taken report rest grown was is =
       let told_ = subst (λ (b : Option (List ℕ)). Appends b sink_after.bytes report) was grown in
       let same = subst (λ (b : Option (List ℕ)). Appends (Some taken) b report) is told_ in
-      append_cancel_left taken report (lines ++ (codes "accepted" ++ rest)) (sym same)
+      append_cancel_left taken report (text rest) (sym same)
 
   -- so it is enough to look at the answers that are no failures
   alone_if : ((status : Status) (report : List ℕ) → JudgesInput words before after status report → GoesOn report → status ≡ Done)
       → ((status : Status) (report : List ℕ) → JudgesTrial words before after status report → GoesOn report → status ≡ Done)
-      → (status : Status) → Explains words before after sink sink_after status → AcceptsAlone lines sink sink_after status
+      → (status : Status) → Explains words before after sink sink_after status
+      → (taken rest : List ℕ) → sink.bytes ≡ Some taken → sink_after.bytes ≡ Some (taken ++ text rest) → (status ≡ Done) ⊎ (status ≡ WriteFault)
   alone_if on_input on_trial status (inl (report, inl h, grown)) taken rest was is = inl (on_input status report h (rest, grown_by taken report rest grown was is))
   alone_if on_input on_trial status (inl (report, inr (inl t), grown)) taken rest was is = inl (on_trial status report t (rest, grown_by taken report rest grown was is))
   alone_if on_input on_trial status (inl (report, inr (inr f), grown)) taken rest was is = absurd (failed_alone status report f (rest, grown_by taken report rest grown was is))
@@ -101,7 +105,7 @@ module _ (words : List (List ℕ)) (before after : ReadState) (sink sink_after :
       h.status_is ∙ sym (found_alone h.outcome reads (subst Accepted h.report_is begins))
 
   pub alone_by : (status : Status) → Explains words before after sink sink_after status → AcceptsAlone [] sink sink_after status
-  alone_by = alone_if words before after sink sink_after [] (inl (Check budget, ask)) judged_alone
+  alone_by = alone_if words before after sink sink_after (λ rest. codes "accepted" ++ rest) (nothing []) (inl (Check budget, ask)) judged_alone
       (λ status report t begins. absurd (task_or_trial words (Check budget) t.number ask t.words_are))
 
 module _ (words : List (List ℕ)) (before after : ReadState) (sink sink_after : WriteState) (number : ℕ) (trial : AskForTrial number words) where
@@ -118,5 +122,47 @@ module _ (words : List (List ℕ)) (before after : ReadState) (sink sink_after :
       t.answers.status_is ∙ sym (tried_alone t.answers.outcome calls (h.0, begins))
 
   pub tried_alone_by : (status : Status) → Explains words before after sink sink_after status → AcceptsAlone (trial_line number) sink sink_after status
-  tried_alone_by = alone_if words before after sink sink_after (trial_line number) (inr (number, trial))
+  tried_alone_by = alone_if words before after sink sink_after (λ rest. trial_line number ++ (codes "accepted" ++ rest)) (nothing (trial_line number)) (inr (number, trial))
       (λ status report h begins. absurd (task_or_trial words h.task number h.words_are trial)) under_line
+
+-- ---- what is found under `prove`
+
+-- a text begins with `safe`
+abbrev Safe : List ℕ → Type 0
+Safe text = (rest : List ℕ) × (text ≡ codes "safe" ++ rest)
+
+never_safe : (xs : List ℕ) → Safe (114 ∷ xs) → ⊥
+never_safe xs h = let bytes : 114 ≡ 115 = one_first 114 115 _ _ h.1 in omega (arith, bytes)
+
+fault_safe : (fault : Fault) → Safe (fault_text fault) → ⊥
+fault_safe (NoToken place) h = never_safe _ h
+fault_safe (NotHere place) h = never_safe _ h
+fault_safe (Deep place) h = never_safe _ h
+
+safe_of : (outcome one : Outcome) → outcome ≡ one → Safe (report_of outcome) → Safe (report_of one)
+safe_of outcome one is h = subst (λ (o : Outcome). Safe (report_of o)) is h
+
+way_safe : (budget : ℕ) (outline : Outline) (outcome : Outcome) → ProveWays budget outline outcome → Safe (report_of outcome) → Done ≡ status_of outcome
+way_safe budget outline outcome (inl a) h = absurd (never_safe _ (safe_of outcome (Broken a.refusal) a.is h))
+way_safe budget outline outcome (inr a) h =
+    let text = safe_of outcome (Proven outline budget a.found) a.is h in
+    let safe = only_safe_is_safe outline.program budget a.found text.0 text.1 in
+    sym (ap status_of (a.is ∙ ap (λ (f : Proving). Proven outline budget f) safe.2))
+
+read_safe : (budget : ℕ) (reading : Result Outline Fault) (outcome : Outcome) → OfRead (Proves budget) reading outcome → Safe (report_of outcome) → Done ≡ status_of outcome
+read_safe budget (Ok outline) outcome says h = way_safe budget outline outcome (prove_way budget outline outcome says) h
+read_safe budget (Err fault) outcome says h = absurd (fault_safe fault (safe_of outcome (Unread fault) says h))
+
+module _ (words : List (List ℕ)) (before after : ReadState) (sink sink_after : WriteState) (budget : ℕ) (ask : AskFor (Prove budget) words) where
+  found_safe : (outcome : Outcome) → Reads (Prove budget) before after outcome → Safe (report_of outcome) → Done ≡ status_of outcome
+  found_safe outcome (inl past) h = absurd (never_safe _ (safe_of outcome (TooLong limit) past.0 h))
+  found_safe outcome (inr all) h = read_safe budget all.2.reading outcome all.2.says h
+
+  judged_safe : (status : Status) (report : List ℕ) → JudgesInput words before after status report → Safe report → status ≡ Done
+  judged_safe status report h begins =
+      let reads = subst (λ (t : Task). Reads t before after h.outcome) (same_task words h.task (Prove budget) h.words_are ask) h.reads in
+      h.status_is ∙ sym (found_safe h.outcome reads (subst Safe h.report_is begins))
+
+  pub safe_alone_by : (status : Status) → Explains words before after sink sink_after status → IsSafeAlone sink sink_after status
+  safe_alone_by = alone_if words before after sink sink_after (λ rest. codes "safe" ++ rest) (λ rest is. cc) (inl (Prove budget, ask)) judged_safe
+      (λ status report t begins. absurd (task_or_trial words (Prove budget) t.number ask t.words_are))

@@ -22,14 +22,16 @@ use Rattle.civl_conditions.specs.declared.condition.Condition.{Condition}
 use Rattle.civl_conditions.specs.Weights.{heavy}
 use Rattle.civl_findings.proofs.Surveying.{each_program_has_a_survey}
 use Rattle.civl_judgements.proofs.Judging.{each_program_has_a_verdict}
+use Rattle.civl_outlines.specs.declared.outline.Outline.{Outline}
+use Rattle.civl_outline_reports.proofs.Existing.{each_outline_is_answered}
 use Rattle.civl_command.specs.declared.task.Task.{Task}
-use Rattle.civl_command.specs.declared.task.Task.TheVariants.{Check, Conditions, Fmt, RunLow, RunTop, Make, Replay}
+use Rattle.civl_command.specs.declared.task.Task.TheVariants.{Check, Conditions, Fmt, RunLow, RunTop, Prove, Make, Replay}
 use Rattle.civl_command.specs.Rules.{static_refusal, IsLawful}
-use Rattle.civl_command.specs.Texts.{IsReading, IsScriptReading}
-use Rattle.civl_command.specs.Outcome.{Outcome, TooLong, Unread, Broken, Judged, Heavy, Surveyed, Printed, Misfit, Ran, Checks, Surveys, Prints, Runs, OfRead, Finds, FindsBy, CallsFor, limit, limit_of}
+use Rattle.civl_command.specs.Texts.{IsReading, IsScriptReading, IsOutlineReading}
+use Rattle.civl_command.specs.Outcome.{Outcome, TooLong, Unread, Broken, Judged, Heavy, Surveyed, Printed, Misfit, Ran, Proven, Checks, Surveys, Prints, Proves, Runs, OfRead, Finds, FindsBy, CallsFor, limit, limit_of}
 use Rattle.civl_command.specs.Laws.{NeedsNoCertificate, EachInputIsAnswered}
 use Rattle.civl_command.specs.declared.reader.Fault.{Fault}
-use Rattle.civl_command.proofs.Reading.{some_reading, some_script_reading}
+use Rattle.civl_command.proofs.Reading.{some_reading, some_script_reading, some_outline_reading}
 
 -- an outcome of which this is so
 abbrev Has : (Outcome → Type 0) → Type 0
@@ -69,6 +71,19 @@ module _ (budget : ℕ) (program : Program) where
 
   some_survey : Has (Surveys budget program)
   some_survey = survey_by (static_refusal program) refl
+
+-- ---- an outline
+
+module _ (budget : ℕ) (outline : Outline) where
+  prove_by : (refusal : Option Refusal) → static_refusal outline.program ≡ refusal → Has (Proves budget outline)
+  prove_by (Some refusal) e = (Broken refusal, e)
+  prove_by None e =
+      let rules = lawful outline.program e in
+      let found = each_outline_is_answered outline.program outline budget (typed outline.program rules) in
+      (Proven outline budget found.0, (refl, refl, rules, found.1))
+
+  some_prove : Has (Proves budget outline)
+  some_prove = prove_by (static_refusal outline.program) refl
 
 some_print : (program : Program) → Has (Prints program)
 some_print program = (Printed program, refl)
@@ -112,6 +127,7 @@ some_found (Conditions budget) input plain short = some_find IsReading (Surveys 
 some_found Fmt input plain short = some_find IsReading Prints some_reading some_print input short
 some_found RunLow input plain short = some_find IsScriptReading (Runs lowest) some_script_reading (some_run lowest) input short
 some_found RunTop input plain short = some_find IsScriptReading (Runs topmost) some_script_reading (some_run topmost) input short
+some_found (Prove budget) input plain short = some_find IsOutlineReading (Proves budget) some_outline_reading (some_prove budget) input short
 some_found (Make at budget) input plain short = absurd plain
 some_found Replay input plain short = absurd plain
 

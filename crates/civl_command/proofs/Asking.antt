@@ -6,7 +6,7 @@ use Rattle.civl_words.specs.declared.words.Command.TheVariants as word
 use Rattle.civl_words.proofs.Once.{one_command}
 use Rattle.civl_command.specs.Tasks.{command_for, AskFor, AskForTrial, AreTaken}
 use Rattle.civl_command.specs.declared.task.Task.{Task}
-use Rattle.civl_command.specs.declared.task.Task.TheVariants.{Check, Conditions, Fmt, RunLow, RunTop, Make, Replay}
+use Rattle.civl_command.specs.declared.task.Task.TheVariants.{Check, Conditions, Fmt, RunLow, RunTop, Prove, Make, Replay}
 
 -- the task of a command, or this one
 abbrev task_or : Task → Command → Task
@@ -16,6 +16,7 @@ task_or task word.Fmt = Fmt
 task_or task word.RunLow = RunLow
 task_or task word.RunTop = RunTop
 task_or task (word.Trial number) = task
+task_or task (word.Prove budget) = Prove budget
 task_or task (word.ProofMake at budget) = Make at budget
 task_or task word.ProofReplay = Replay
 
@@ -25,6 +26,7 @@ back other (Conditions budget) = refl
 back other Fmt = refl
 back other RunLow = refl
 back other RunTop = refl
+back other (Prove budget) = refl
 back other (Make at budget) = refl
 back other Replay = refl
 
@@ -45,6 +47,7 @@ not_trial (Conditions budget) number is = cc
 not_trial Fmt number is = cc
 not_trial RunLow number is = cc
 not_trial RunTop number is = cc
+not_trial (Prove budget) number is = cc
 not_trial (Make at budget) number is = cc
 not_trial Replay number is = cc
 

@@ -8,10 +8,13 @@ use Rattle.civl_verdicts.specs.declared.survey.Survey.{Survey}
 use Rattle.civl_verdicts.specs.declared.verdict.Verdict.{Verdict}
 use Rattle.civl_verdicts.specs.Surveys.{IsSurvey}
 use Rattle.civl_verdicts.specs.Verdicts.{IsVerdict}
+use Rattle.civl_outlines.specs.declared.outline.Outline.{Outline}
+use Rattle.civl_outline_reports.specs.declared.proving.Proving.{Proving}
+use Rattle.civl_outline_reports.specs.Proving.{IsProving}
 use Rattle.civl_proof_reports.specs.declared.making.Making.{Making}
 use Rattle.civl_proof_reports.specs.Making.{IsMaking}
 use Rattle.civl_command.specs.Rules.{IsLawful, IsTaken}
-use Rattle.civl_command.specs.Outcome.{Outcome, TooLong, Unread, Broken, Heavy, Judged, Surveyed, Printed, Misfit, Ran, Asked, Replayed, Breaks, Checks, Surveys, Asks}
+use Rattle.civl_command.specs.Outcome.{Outcome, TooLong, Unread, Broken, Heavy, Judged, Surveyed, Printed, Misfit, Ran, Proven, Asked, Replayed, Breaks, Checks, Surveys, Proves, Asks}
 
 module _ (program src : Program) (budget : ℕ) (same : src ≡ program) (rules : IsLawful program) where
   light_of : heavy src ≡ None → IsTaken program
@@ -29,6 +32,11 @@ module _ (program src : Program) (budget : ℕ) (same : src ≡ program) (rules 
   pub asked_of : (at : ℕ) (making : Making) → IsMaking src budget at making → Asks at budget program (Asked src at budget making)
   asked_of at making right = (same, refl, refl, rules, subst (λ (p : Program). IsMaking p budget at making) same right)
 
+-- what is found of an admitted program and an outline is found of the outline, where the program is its own
+pub proven_of : (outline : Outline) (src : Program) (budget : ℕ) → src ≡ outline.program → IsLawful outline.program → (found : Proving) → IsProving src outline budget found
+    → Proves budget outline (Proven outline budget found)
+proven_of outline src budget same rules found right = (refl, refl, rules, subst (λ (p : Program). IsProving p outline budget found) same right)
+
 -- a program that breaks a rule is told so under each command
 module _ (budget : ℕ) (program : Program) where
   pub breaks_check : (outcome : Outcome) → Breaks program outcome → Checks budget program outcome
@@ -41,6 +49,7 @@ module _ (budget : ℕ) (program : Program) where
   breaks_check (Printed printed) b = absurd b
   breaks_check (Misfit number) b = absurd b
   breaks_check (Ran ran trace) b = absurd b
+  breaks_check (Proven proven told found) b = absurd b
   breaks_check (Asked asked at told making) b = absurd b
   breaks_check (Replayed replaying) b = absurd b
 
@@ -54,6 +63,7 @@ module _ (budget : ℕ) (program : Program) where
   breaks_survey (Printed printed) b = absurd b
   breaks_survey (Misfit number) b = absurd b
   breaks_survey (Ran ran trace) b = absurd b
+  breaks_survey (Proven proven told found) b = absurd b
   breaks_survey (Asked asked at told making) b = absurd b
   breaks_survey (Replayed replaying) b = absurd b
 
@@ -67,5 +77,6 @@ breaks_ask at budget program (Surveyed surveyed told survey) b = absurd b
 breaks_ask at budget program (Printed printed) b = absurd b
 breaks_ask at budget program (Misfit number) b = absurd b
 breaks_ask at budget program (Ran ran trace) b = absurd b
+breaks_ask at budget program (Proven proven told found) b = absurd b
 breaks_ask at budget program (Asked asked place told making) b = absurd b
 breaks_ask at budget program (Replayed replaying) b = absurd b

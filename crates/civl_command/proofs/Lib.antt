@@ -8,6 +8,8 @@ pub mod Ways
 pub mod Agreeing
 pub mod Answering
 pub mod Accepting
+pub mod Outlining
+pub mod Showing
 pub mod Certifying
 pub mod Promising
 pub mod Alone

@@ -21,6 +21,13 @@ use Rattle.civl_verdicts.specs.Verdicts.{IsVerdict}
 use Rattle.civl_reports.proofs.Quiet.{never_accepts}
 use Rattle.civl_verdict_reports.specs.Verdicts.{accepted_text, rejected_text, undecided_text}
 use Rattle.civl_simulation.specs.Preserved.{AcceptedProgramsPreserve}
+use Rattle.civl_safety.specs.Safe.{LowestIsSafe}
+use Rattle.civl_outlines.specs.declared.outline.Outline.{Outline}
+use Rattle.civl_prove.specs.declared.proved.Proved.{Proved}
+use Rattle.civl_prove.specs.declared.proved.Proved.TheVariants as proved
+use Rattle.civl_outline_reports.specs.declared.proving.Proving.{Proving}
+use Rattle.civl_outline_reports.specs.declared.proving.Proving.TheVariants as proving
+use Rattle.civl_outline_reports.specs.Reports.{safe_text, unproved_text, open_text}
 use Rattle.civl_certify.specs.declared.certified.Certified.TheVariants as certified
 use Rattle.civl_proof_reports.specs.declared.making.Making.{Making}
 use Rattle.civl_proof_reports.specs.declared.making.Making.TheVariants as making
@@ -28,15 +35,15 @@ use Rattle.civl_proof_reports.specs.declared.replaying.Replaying.{Replaying}
 use Rattle.civl_proof_reports.specs.declared.replaying.Replaying.TheVariants as replaying
 use Rattle.civl_words.specs.Words.{usual_budget}
 use Rattle.civl_command.specs.Tasks.{AskFor, AskForSome, AskForTrial}
-use Rattle.civl_command.specs.Texts.{IsReading, IsScriptReading}
-use Rattle.civl_command.specs.Outcome.{Outcome, TooLong, Unread, Broken, Judged, Heavy, Surveyed, Printed, Misfit, Ran, Asked, Replayed, Checks, Surveys, Asks, Prints, Runs, OfRead, Finds, FindsBy, CallsFor, TrialCallsFor, verdict_status, survey_status, making_status, replaying_status, status_of, report_of, trial_text, trial_report, limit}
+use Rattle.civl_command.specs.Texts.{SpellsOutline, IsReading, IsScriptReading, IsOutlineReading}
+use Rattle.civl_command.specs.Outcome.{Outcome, TooLong, Unread, Broken, Judged, Heavy, Surveyed, Printed, Misfit, Ran, Proven, Asked, Replayed, Checks, Surveys, Proves, Asks, Prints, Runs, OfRead, Finds, FindsBy, CallsFor, TrialCallsFor, verdict_status, survey_status, proved_status, proving_status, making_status, replaying_status, status_of, report_of, trial_text, trial_report, limit}
 use Rattle.civl_command.specs.Status.{code_of}
 use Rattle.civl_command.specs.Judge.{ReadState, WriteState, Reads, ReadsAll, JudgesInput, JudgesTrial, Fails, Judges, Explains}
 use Rattle.civl_command.specs.Report.{run_text, trial_line}
-use Rattle.civl_command.specs.Promises.{Writes, ReadsAndWrites, SpellsTaken, Accepts, AcceptsRightly, TrialAcceptsRightly, Rejects, RejectsRightly, LeavesOpen, LeavesOpenRightly, Tells, SurveysRightly, PrintsRightly, Replays, ReplaysRightly, CertifiesRightly, RefutesRightly, RefusesRightly, Carries, AnswersAs, IsComplete, TrialAnswersAs, IsTrialComplete}
+use Rattle.civl_command.specs.Promises.{Writes, ReadsAndWrites, SpellsTaken, Accepts, AcceptsRightly, TrialAcceptsRightly, IsSafeRightly, Rejects, RejectsProving, RejectsRightly, LeavesOpen, LeavesProvingOpen, LeavesOpenRightly, Tells, SurveysRightly, PrintsRightly, Replays, ReplaysRightly, CertifiesRightly, RefutesRightly, RefusesRightly, Carries, AnswersAs, IsComplete, TrialAnswersAs, IsTrialComplete}
 use Rattle.civl_command.specs.declared.reader.Fault.{Fault}
 use Rattle.civl_command.specs.declared.task.Task.{Task}
-use Rattle.civl_command.specs.declared.task.Task.TheVariants.{Check, Conditions, Fmt, RunLow, RunTop, Make, Replay}
+use Rattle.civl_command.specs.declared.task.Task.TheVariants.{Check, Conditions, Fmt, RunLow, RunTop, Prove, Make, Replay}
 use Rattle.civl_command.specs.declared.status.Status.{Status}
 use Rattle.civl_command.specs.declared.status.Status.TheVariants.{Done, Rejected, Undecided, Refused, ReadFault, WriteFault, Usage, Memory}
 use Rattle.civl_command.proofs.Asking.{same_task, same_trial, task_or_trial}
@@ -44,7 +51,8 @@ use Rattle.civl_command.proofs.Agreeing.{one_outcome}
 use Rattle.civl_command.proofs.Certifying.{certifying, replayed_as}
 use Rattle.civl_command.proofs.Lawful.{text_written}
 use Rattle.civl_command.proofs.Accepting.{preserved}
-use Rattle.civl_command.proofs.Ways.{Ways, IsDecided, check_way, survey_way, AskWays, IsAsked, ask_way, RunWays, IsRun, run_way}
+use Rattle.civl_command.proofs.Showing.{ShowsRejected, ShowsUnproved, ShowsUndecided, ShowsOpen, shown_safe, shown_rejected, shown_undecided}
+use Rattle.civl_command.proofs.Ways.{Ways, IsDecided, check_way, survey_way, ProveWays, IsProven, prove_way, AskWays, IsAsked, ask_way, RunWays, IsRun, run_way}
 
 -- ---- the bytes that are told
 
@@ -89,6 +97,19 @@ survey_code : (s : Survey) → code_of (survey_status s) ≤ 3
 survey_code survey.NoInitial = omega arith
 survey_code (survey.Findings initial findings) = omega arith
 
+proved_code : (f : Proved) → code_of (proved_status f) ≤ 3
+proved_code (proved.All count) = omega arith
+proved_code (proved.Fails goal values) = omega arith
+proved_code (proved.Undecided goal log) = omega arith
+
+proving_code : (f : Proving) → code_of (proving_status f) ≤ 3
+proving_code (proving.Note number) = omega arith
+proving_code (proving.Roots item statement) = omega arith
+proving_code (proving.Heavy first) = omega arith
+proving_code (proving.HeavyGoal goal) = omega arith
+proving_code (proving.Judged v) = verdict_code v
+proving_code (proving.Decided count found) = proved_code found
+
 making_code : (m : Making) → code_of (making_status m) ≤ 3
 making_code (making.Heavy first) = omega arith
 making_code (making.Beyond count) = omega arith
@@ -110,6 +131,7 @@ outcome_code (Surveyed program budget s) = survey_code s
 outcome_code (Printed program) = omega arith
 outcome_code (Misfit number) = omega arith
 outcome_code (Ran program trace) = omega arith
+outcome_code (Proven outline budget found) = proving_code found
 outcome_code (Asked program at budget m) = making_code m
 outcome_code (Replayed r) = replaying_code r
 
@@ -335,13 +357,20 @@ module _ {A : Type 0} (IsRead : List ℕ → Result A Fault → Type 0) (Says : 
   find_plain : Finds IsRead Says input outcome → IsPlain outcome
   find_plain found = read_plain found.reading found.says
 
--- so what isn't plain is found under `check`
-record IsOfCheck (task : Task) (outcome : Outcome) : Type 0 where
+-- so what isn't plain is found under `check` or `prove`
+record IsOf (task_of : ℕ → Task) (task : Task) : Type 0 where
   budget : ℕ
-  task_is : task ≡ Check budget
+  task_is : task ≡ task_of budget
 
-of_check : (task : Task) (input : List ℕ) (outcome : Outcome) → (IsPlain outcome → ⊥) → FindsBy task input outcome → IsOfCheck task outcome
-of_check (Check budget) input outcome other found = record { budget = budget; task_is = refl }
+abbrev IsOfCheck : Task → Type 0
+IsOfCheck task = IsOf (λ budget. Check budget) task
+
+abbrev IsOfProve : Task → Type 0
+IsOfProve task = IsOf (λ budget. Prove budget) task
+
+of_check : (task : Task) (input : List ℕ) (outcome : Outcome) → (IsPlain outcome → ⊥) → FindsBy task input outcome → IsOfCheck task ⊎ IsOfProve task
+of_check (Check budget) input outcome other found = inl (record { budget = budget; task_is = refl })
+of_check (Prove budget) input outcome other found = inr (record { budget = budget; task_is = refl })
 of_check (Conditions budget) input outcome other found =
     absurd (other (find_plain IsReading (Surveys budget) input outcome
     (λ program says. way_plain (Surveyed program budget) _ program outcome survey_plain (survey_way budget program outcome says)) found))
@@ -387,6 +416,22 @@ replayed : (plain_of : Program → Plain) (script : Script) (outcome : Outcome) 
 replayed plain_of script outcome is (inl a) = absurd (done_not_refused (is ∙ ap status_of a.is))
 replayed plain_of script outcome is (inr (inl a)) = absurd (done_not_refused (is ∙ ap status_of a.is))
 replayed plain_of script outcome is (inr (inr a)) = a
+
+proven_by : (budget : ℕ) (outline : Outline) (outcome : Outcome) (status : Status) → (status ≡ Refused → ⊥) → status ≡ status_of outcome → ProveWays budget outline outcome → IsProven budget outline outcome
+proven_by budget outline outcome status some is (inl a) = absurd (some (is ∙ ap status_of a.is))
+proven_by budget outline outcome status some is (inr a) = a
+
+-- what `prove` finds where it isn't refused
+record HasProving (input : List ℕ) (budget : ℕ) (outcome : Outcome) : Type 0 where
+  outline : Outline
+  spells : SpellsOutline input outline
+  proven : IsProven budget outline outcome
+  short : length input ≤ limit
+
+outlined : (input : List ℕ) (budget : ℕ) (outcome : Outcome) (status : Status) → (status ≡ Refused → ⊥) → status ≡ status_of outcome → Finds IsOutlineReading (Proves budget) input outcome → HasProving input budget outcome
+outlined input budget outcome status some is found =
+    let s = spelled IsOutlineReading (Proves budget) input outcome status some is found in
+    record { outline = s.value; spells = s.read.0; proven = proven_by budget s.value outcome status some is (prove_way budget s.value outcome s.says); short = found.short }
 
 asked_by : (at budget : ℕ) (program : Program) (outcome : Outcome) → Done ≡ status_of outcome → AskWays at budget program outcome → IsAsked at budget program outcome
 asked_by at budget program outcome is (inl a) = absurd (done_not_refused (is ∙ ap status_of a.is))
@@ -495,6 +540,24 @@ module _ (words : List (List ℕ)) (before after : ReadState) (sink sink_after :
   pub top_by : Explains words before after sink sink_after Done → AskFor RunTop words → ReplaysRightly topmost before after sink sink_after
   top_by e top input told = let found = done_by RunTop e top input told in replays_by topmost input found.outcome found.status_is found.finds found.does
 
+  -- ---- outlines
+
+  pub safe_by : LowestIsSafe → (budget : ℕ) → Explains words before after sink sink_after Done → AskFor (Prove budget) words → IsSafeRightly before after sink sink_after
+  safe_by law budget e prove input told =
+      let found = done_by (Prove budget) e prove input told in
+      let h = outlined input budget found.outcome Done done_not_refused found.status_is found.finds in
+      let s = shown_safe input budget found.outcome h.outline h.short h.spells h.proven law found.status_is in
+      (s.outline, s.count, s.safe, written_as input (safe_text s.count) found.outcome s.report_is found.does)
+
+  rejects_proving : (input : List ℕ) (outcome : Outcome) → ReadsAndWrites after sink sink_after (report_of outcome) → ShowsRejected input outcome ⊎ ShowsUnproved input outcome → RejectsProving input after sink sink_after
+  rejects_proving input outcome does (inl s) = inl (s.outline, s.counter, s.rejects, written_as input (rejected_text s.outline.program s.counter) outcome s.report_is does)
+  rejects_proving input outcome does (inr s) = inr (s.outline, s.goal, s.values, s.unproves, written_as input (unproved_text s.outline.program s.goal s.values) outcome s.report_is does)
+
+  leaves_proving : (input : List ℕ) (budget : ℕ) (outcome : Outcome) → ReadsAndWrites after sink sink_after (report_of outcome) → ShowsUndecided input budget outcome ⊎ ShowsOpen input budget outcome
+      → LeavesProvingOpen budget input after sink sink_after
+  leaves_proving input budget outcome does (inl s) = inl (s.outline, s.formula, s.log, s.leaves, written_as input (undecided_text s.outline.program s.formula budget) outcome s.report_is does)
+  leaves_proving input budget outcome does (inr s) = inr (s.outline, s.goal, s.log, s.leaves, written_as input (open_text s.outline.program s.goal budget) outcome s.report_is does)
+
   -- ---- certificates
 
   pub certifies_by : (at budget : ℕ) → Explains words before after sink sink_after Done → AskFor (Make at budget) words → CertifiesRightly at budget before after sink sink_after
@@ -541,21 +604,20 @@ module _ (words : List (List ℕ)) (before after : ReadState) (sink sink_after :
 
   -- ---- what is rejected and left open
 
-  -- a report on an input that is neither plain nor a refusal is one of `check`
+  -- a report on an input that is neither plain nor a refusal is one of `check` or of `prove`
   on_check : (status : Status) → (status ≡ Refused → ⊥) → ((outcome : Outcome) → status ≡ status_of outcome → IsPlain outcome → ⊥) → (report : List ℕ)
-      → (h : JudgesInput words before after status report) → IsOfCheck h.task h.outcome
+      → (h : JudgesInput words before after status report) → IsOfCheck h.task ⊎ IsOfProve h.task
   on_check status some other report h = by h.reads
     where
-      by : Reads h.task before after h.outcome → IsOfCheck h.task h.outcome
+      by : Reads h.task before after h.outcome → IsOfCheck h.task ⊎ IsOfProve h.task
       by (inl past) = absurd (some (long_refused _ h.outcome status past.0 h.status_is))
       by (inr all) = of_check h.task all.0 h.outcome (other h.outcome h.status_is) all.2
 
   pub rejects_by : Explains words before after sink sink_after Rejected → RejectsRightly words before after sink sink_after
   rejects_by e = by (judged_by Rejected (λ i. cc) (λ report f. f) e)
     where
-      by : IsOnInput Rejected ⊎ IsOnTrial Rejected → RejectsRightly words before after sink sink_after
-      by (inl (report, h, grown)) =
-          let c = on_check Rejected rejected_not_refused rejected_other report h in
+      of_task : (report : List ℕ) (h : JudgesInput words before after Rejected report) → Appends sink.bytes sink_after.bytes report → IsOfCheck h.task ⊎ IsOfProve h.task → RejectsRightly words before after sink sink_after
+      of_task report h grown (inl c) =
           inl (
             c.budget,
             subst (λ (t : Task). AskFor t words) c.task_is h.words_are,
@@ -565,17 +627,28 @@ module _ (words : List (List ℕ)) (before after : ReadState) (sink sink_after :
                 let r = rejected input c.budget found.outcome v in
                 (r.program, r.counter, r.rejects, written_as input (rejected_text r.program r.counter) found.outcome r.report_is found.does),
           )
+      of_task report h grown (inr c) =
+          inr (inr (
+            c.budget,
+            subst (λ (t : Task). AskFor t words) c.task_is h.words_are,
+            λ input told.
+                let found = subst (λ (t : Task). Judgement t input Rejected) c.task_is (judgement Rejected report input rejected_not_refused told grown h) in
+                let p = outlined input c.budget found.outcome Rejected rejected_not_refused found.status_is found.finds in
+                rejects_proving input found.outcome found.does (shown_rejected input c.budget found.outcome p.outline p.short p.spells p.proven found.status_is),
+          ))
+
+      by : IsOnInput Rejected ⊎ IsOnTrial Rejected → RejectsRightly words before after sink sink_after
+      by (inl (report, h, grown)) = of_task report h grown (on_check Rejected rejected_not_refused rejected_other report h)
       by (inr (number, trial, t)) =
           let v = checked (trial_text number) usual_budget t.outcome Rejected rejected_not_refused t.status_is (tried_whole number Rejected rejected_not_refused t) in
           let r = rejected (trial_text number) usual_budget t.outcome v in
-          inr (number, trial, r.program, r.counter, r.rejects, tried_as number (rejected_text r.program r.counter) t.outcome r.report_is t.writes)
+          inr (inl (number, trial, r.program, r.counter, r.rejects, tried_as number (rejected_text r.program r.counter) t.outcome r.report_is t.writes))
 
   pub leaves_open_by : Explains words before after sink sink_after Undecided → LeavesOpenRightly words before after sink sink_after
   leaves_open_by e = by (judged_by Undecided (λ i. cc) (λ report f. f) e)
     where
-      by : IsOnInput Undecided ⊎ IsOnTrial Undecided → LeavesOpenRightly words before after sink sink_after
-      by (inl (report, h, grown)) =
-          let c = on_check Undecided undecided_not_refused undecided_other report h in
+      of_task : (report : List ℕ) (h : JudgesInput words before after Undecided report) → Appends sink.bytes sink_after.bytes report → IsOfCheck h.task ⊎ IsOfProve h.task → LeavesOpenRightly words before after sink sink_after
+      of_task report h grown (inl c) =
           inl (
             c.budget,
             subst (λ (t : Task). AskFor t words) c.task_is h.words_are,
@@ -585,10 +658,22 @@ module _ (words : List (List ℕ)) (before after : ReadState) (sink sink_after :
                 let o = left_open input c.budget found.outcome v in
                 (o.program, o.formula, o.log, o.leaves, written_as input (undecided_text o.program o.formula c.budget) found.outcome o.report_is found.does),
           )
+      of_task report h grown (inr c) =
+          inr (inr (
+            c.budget,
+            subst (λ (t : Task). AskFor t words) c.task_is h.words_are,
+            λ input told.
+                let found = subst (λ (t : Task). Judgement t input Undecided) c.task_is (judgement Undecided report input undecided_not_refused told grown h) in
+                let p = outlined input c.budget found.outcome Undecided undecided_not_refused found.status_is found.finds in
+                leaves_proving input c.budget found.outcome found.does (shown_undecided input c.budget found.outcome p.outline p.short p.spells p.proven found.status_is),
+          ))
+
+      by : IsOnInput Undecided ⊎ IsOnTrial Undecided → LeavesOpenRightly words before after sink sink_after
+      by (inl (report, h, grown)) = of_task report h grown (on_check Undecided undecided_not_refused undecided_other report h)
       by (inr (number, trial, t)) =
           let v = checked (trial_text number) usual_budget t.outcome Undecided undecided_not_refused t.status_is (tried_whole number Undecided undecided_not_refused t) in
           let o = left_open (trial_text number) usual_budget t.outcome v in
-          inr (number, trial, o.program, o.formula, o.log, o.leaves, tried_as number (undecided_text o.program o.formula usual_budget) t.outcome o.report_is t.writes)
+          inr (inl (number, trial, o.program, o.formula, o.log, o.leaves, tried_as number (undecided_text o.program o.formula usual_budget) t.outcome o.report_is t.writes))
 
   pub refuses_by : Explains words before after sink sink_after Refused → RefusesRightly words before after sink sink_after
   refuses_by e = by (judged_by Refused (λ i. cc) (λ report f. f) e)

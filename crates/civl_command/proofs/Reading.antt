@@ -6,6 +6,9 @@ use Rattle.civl_tree.specs.SpellingProgram.{spell_program}
 use Rattle.civl_tree.specs.SpellingScript.{spell_script}
 use Rattle.civl_tree.specs.declared.program.Program.{Program}
 use Rattle.civl_tree.specs.declared.script.Script.{Script}
+use Rattle.civl_outlines.specs.declared.outline.Outline.{Outline}
+use Rattle.civl_outlines.specs.SpellingOutline.{spell_outline, OutlineHasSpelling}
+use Rattle.civl_outlines.proofs.OfOutlines.{outline_text_is}
 use Rattle.civl_lex.specs.Spells.{Spells}
 use Rattle.civl_lex.specs.Text.{HasTokens, NoTokenAt, IsLexedAs}
 use Rattle.civl_lex.proofs.Texts.{answer_once}
@@ -19,7 +22,7 @@ use Rattle.civl_phrases.specs.declared.halt.Stop.TheVariants as stops
 use Rattle.civl_phrases.proofs.Exactly.{is_exact}
 use Rattle.civl_parser.proofs.OfPrograms.{program_text_is}
 use Rattle.civl_parser.proofs.OfScripts.{script_text_is}
-use Rattle.civl_command.specs.Texts.{IsShallowText, IsReadAs, IsReading, IsScriptReading, bracket_limit}
+use Rattle.civl_command.specs.Texts.{IsShallowText, IsReadAs, IsReading, IsScriptReading, IsOutlineReading, bracket_limit}
 use Rattle.civl_command.specs.declared.reader.Fault.{Fault}
 use Rattle.civl_command.specs.declared.reader.Fault.TheVariants as faults
 
@@ -62,6 +65,11 @@ one_parse tokens x y a b =
 one_script_parse : IsOneParse spell_script ScriptHasSpelling
 one_script_parse tokens x y a b =
     let exact = is_exact (script_text_is bracket_limit) tokens in
+    sym (exact.1 x a) ∙ exact.1 y b
+
+one_outline_parse : IsOneParse spell_outline OutlineHasSpelling
+one_outline_parse tokens x y a b =
+    let exact = is_exact (outline_text_is bracket_limit) tokens in
     sym (exact.1 x a) ∙ exact.1 y b
 
 -- what the parser's answer is to a reader of texts
@@ -131,6 +139,10 @@ one_reading bytes x y a b = one_read spell_program HasSpelling one_parse bytes x
 pub one_script_reading : (bytes : List ℕ) (x y : Result Script Fault) → IsScriptReading bytes x → IsScriptReading bytes y → x ≡ y
 one_script_reading bytes x y a b = one_read spell_script ScriptHasSpelling one_script_parse bytes x y a b
 
+-- and as an outline
+pub one_outline_reading : (bytes : List ℕ) (x y : Result Outline Fault) → IsOutlineReading bytes x → IsOutlineReading bytes y → x ≡ y
+one_outline_reading bytes x y a b = one_read spell_outline OutlineHasSpelling one_outline_parse bytes x y a b
+
 -- ---- some reading
 
 -- the parser's answer to these tokens
@@ -168,3 +180,7 @@ some_reading bytes = some_read spell_program HasSpelling one_parse (answered (pr
 -- and as a script
 pub some_script_reading : (bytes : List ℕ) → (x : Result Script Fault) × IsScriptReading bytes x
 some_script_reading bytes = some_read spell_script ScriptHasSpelling one_script_parse (answered (script_text_is bracket_limit)) bytes
+
+-- and as an outline
+pub some_outline_reading : (bytes : List ℕ) → (x : Result Outline Fault) × IsOutlineReading bytes x
+some_outline_reading bytes = some_read spell_outline OutlineHasSpelling one_outline_parse (answered (outline_text_is bracket_limit)) bytes

@@ -12,10 +12,13 @@ use Rattle.civl_conditions.specs.declared.condition.Condition.{Condition}
 use Rattle.civl_conditions.specs.Weights.{heavy}
 use Rattle.civl_verdicts.specs.Surveys.{IsSurvey}
 use Rattle.civl_verdicts.specs.Verdicts.{IsVerdict}
+use Rattle.civl_outlines.specs.declared.outline.Outline.{Outline}
+use Rattle.civl_outline_reports.specs.declared.proving.Proving.{Proving}
+use Rattle.civl_outline_reports.specs.Proving.{IsProving}
 use Rattle.civl_proof_reports.specs.declared.making.Making.{Making}
 use Rattle.civl_proof_reports.specs.Making.{IsMaking}
 use Rattle.civl_command.specs.Rules.{static_refusal, IsLawful, IsTaken}
-use Rattle.civl_command.specs.Outcome.{Outcome, TooLong, Unread, Broken, Heavy, Judged, Surveyed, Printed, Misfit, Ran, Asked, Replayed, Checks, Surveys, Asks, Runs, RunsBy}
+use Rattle.civl_command.specs.Outcome.{Outcome, TooLong, Unread, Broken, Heavy, Judged, Surveyed, Printed, Misfit, Ran, Proven, Asked, Replayed, Checks, Surveys, Proves, Asks, Runs, RunsBy}
 
 -- ---- of a program whose conditions are decided
 
@@ -51,6 +54,7 @@ module _ (budget : ℕ) (program : Program) where
   check_way (Printed printed) h = absurd h
   check_way (Misfit number) h = absurd h
   check_way (Ran ran trace) h = absurd h
+  check_way (Proven proven told found) h = absurd h
   check_way (Asked asked at told making) h = absurd h
   check_way (Replayed replaying) h = absurd h
 
@@ -64,8 +68,35 @@ module _ (budget : ℕ) (program : Program) where
   survey_way (Printed printed) h = absurd h
   survey_way (Misfit number) h = absurd h
   survey_way (Ran ran trace) h = absurd h
+  survey_way (Proven proven told found) h = absurd h
   survey_way (Asked asked at told making) h = absurd h
   survey_way (Replayed replaying) h = absurd h
+
+-- ---- of an outline
+
+pub record IsProven (budget : ℕ) (outline : Outline) (outcome : Outcome) : Type 0 where
+  pub found : Proving
+  pub is : outcome ≡ Proven outline budget found
+  pub rules : IsLawful outline.program
+  pub right : IsProving outline.program outline budget found
+
+abbrev pub ProveWays : ℕ → Outline → Outcome → Type 0
+ProveWays budget outline outcome = IsBroken outline.program outcome ⊎ IsProven budget outline outcome
+
+module _ (budget : ℕ) (outline : Outline) where
+  pub prove_way : (outcome : Outcome) → Proves budget outline outcome → ProveWays budget outline outcome
+  prove_way (TooLong most) h = absurd h
+  prove_way (Unread fault) h = absurd h
+  prove_way (Broken refusal) h = inl (record { refusal = refusal; is = refl; broken = h })
+  prove_way (Heavy weighed first) h = absurd h
+  prove_way (Judged judged told verdict) h = absurd h
+  prove_way (Surveyed surveyed told survey) h = absurd h
+  prove_way (Printed printed) h = absurd h
+  prove_way (Misfit number) h = absurd h
+  prove_way (Ran ran trace) h = absurd h
+  prove_way (Proven proven told found) h = inr (record { found = found; is = ap₂ (λ (o : Outline) (n : ℕ). Proven o n found) h.0 h.1; rules = h.2; right = h.3 })
+  prove_way (Asked asked at told making) h = absurd h
+  prove_way (Replayed replaying) h = absurd h
 
 -- ---- of a program and the number of a condition
 
@@ -92,6 +123,7 @@ module _ (at budget : ℕ) (program : Program) where
   ask_way (Printed printed) h = absurd h
   ask_way (Misfit number) h = absurd h
   ask_way (Ran ran trace) h = absurd h
+  ask_way (Proven proven told found) h = absurd h
   ask_way (Asked asked place told making) h = inr (record { making = making; is = same_asked asked program place at told budget making h.0 h.1 h.2; rules = h.3; right = h.4 })
   ask_way (Replayed replaying) h = absurd h
 
@@ -123,5 +155,6 @@ module _ (plain_of : Program → Plain) (script : Script) where
   run_way (Printed printed) h = absurd h
   run_way (Misfit number) h = inr (inl (record { number = number; is = refl; rules = h.0; wrong = h.1 }))
   run_way (Ran ran trace) h = inr (inr (record { trace = trace; is = ap (λ (p : Program). Ran p trace) h.0; rules = h.1; runs = h.2 }))
+  run_way (Proven proven told found) h = absurd h
   run_way (Asked asked at told making) h = absurd h
   run_way (Replayed replaying) h = absurd h

@@ -24,6 +24,13 @@ use Rattle.civl_verdicts.specs.Surveys.{IsSurvey}
 use Rattle.civl_verdicts.specs.Verdicts.{IsVerdict}
 use Rattle.civl_reports.specs.Findings.{heavy_text, survey_text}
 use Rattle.civl_verdict_reports.specs.Verdicts.{verdict_text}
+use Rattle.civl_outlines.specs.declared.outline.Outline.{Outline}
+use Rattle.civl_prove.specs.declared.proved.Proved.{Proved}
+use Rattle.civl_prove.specs.declared.proved.Proved.TheVariants as proved
+use Rattle.civl_outline_reports.specs.declared.proving.Proving.{Proving}
+use Rattle.civl_outline_reports.specs.declared.proving.Proving.TheVariants as proving
+use Rattle.civl_outline_reports.specs.Proving.{IsProving}
+use Rattle.civl_outline_reports.specs.Reports.{proving_text}
 use Rattle.civl_certify.specs.declared.certified.Certified.TheVariants as certified
 use Rattle.civl_proof_reports.specs.declared.making.Making.{Making}
 use Rattle.civl_proof_reports.specs.declared.making.Making.TheVariants as making
@@ -36,14 +43,14 @@ use Rattle.civl_words.specs.Words.{usual_budget}
 use Rattle.civl_trial.specs.Trial.{trial}
 use Rattle.civl_command.specs.Report.{too_long_text, fault_text, refusal_text, misfit_text, run_text, trial_line}
 use Rattle.civl_command.specs.Rules.{static_refusal, IsLawful, IsTaken}
-use Rattle.civl_command.specs.Texts.{IsReading, IsScriptReading}
+use Rattle.civl_command.specs.Texts.{IsReading, IsScriptReading, IsOutlineReading}
 use Rattle.civl_command.specs.declared.reader.Fault.{Fault}
 use Rattle.civl_command.specs.declared.task.Task.{Task}
-use Rattle.civl_command.specs.declared.task.Task.TheVariants.{Check, Conditions, Fmt, RunLow, RunTop, Make, Replay}
+use Rattle.civl_command.specs.declared.task.Task.TheVariants.{Check, Conditions, Fmt, RunLow, RunTop, Prove, Make, Replay}
 use Rattle.civl_command.specs.declared.status.Status.{Status}
 use Rattle.civl_command.specs.declared.status.Status.TheVariants.{Done, Rejected, Undecided, Refused}
 
--- the most bytes that an input with a program or a script may have
+-- the most bytes that an input with a program, a script or an outline may have
 abbrev pub limit : ℕ
 limit = 1048576
 
@@ -56,11 +63,11 @@ abbrev pub limit_of : Task → ℕ
 limit_of Replay = certificate_limit
 limit_of _ = limit
 
--- what an input calls for: it is longer than it may be, which is so many bytes; it is no program or script, with the first fault; its program breaks a
--- static rule, with the first; a formula of its program weighs too much, with the first; under a budget its program has this verdict,
--- or this is found of its program's conditions; its program is printed; its store or its moves don't fit, with the number of the first
--- that doesn't; or its schedule gives this trace. Or this is
--- found of its program and the condition with a number, under a budget; or of it as a certificate
+-- what an input calls for: it is longer than it may be, which is so many bytes; it is no program, script or outline, with the first
+-- fault; its program breaks a static rule, with the first; a formula of its program weighs too much, with the first; under a budget its
+-- program has this verdict, or this is found of its program's conditions; its program is printed; its store or its moves don't fit, with
+-- the number of the first that doesn't; or its schedule gives this trace. Or this is found of it as an outline, under a budget; of its
+-- program and the condition with a number, under a budget; or of it as a certificate
 pub data Outcome : Type 0 where
   TooLong : ℕ → Outcome
   Unread : Fault → Outcome
@@ -71,6 +78,7 @@ pub data Outcome : Type 0 where
   Printed : Program → Outcome
   Misfit : ℕ → Outcome
   Ran : Program → Trace → Outcome
+  Proven : Outline → ℕ → Proving → Outcome
   Asked : Program → ℕ → ℕ → Making → Outcome
   Replayed : Replaying → Outcome
 
@@ -94,6 +102,12 @@ Surveys budget program (Broken refusal) = static_refusal program ≡ Some refusa
 Surveys budget program (Heavy weighed first) = (weighed ≡ program) × IsLawful program × (heavy program ≡ Some first)
 Surveys budget program (Surveyed surveyed told survey) = (surveyed ≡ program) × (told ≡ budget) × IsTaken program × IsSurvey program budget survey
 Surveys budget program _ = ⊥
+
+-- `prove`, of an outline, under a budget
+abbrev pub Proves : ℕ → Outline → Outcome → Type 0
+Proves budget outline (Broken refusal) = static_refusal outline.program ≡ Some refusal
+Proves budget outline (Proven proven told found) = (proven ≡ outline) × (told ≡ budget) × IsLawful outline.program × IsProving outline.program outline budget found
+Proves budget outline _ = ⊥
 
 -- `proof make`, of a program and the number of a condition, under a budget
 abbrev pub Asks : ℕ → ℕ → Program → Outcome → Type 0
@@ -119,7 +133,7 @@ Runs plain_of script (Misfit number) = IsLawful script.program × IsSchedule scr
 Runs plain_of script (Ran program trace) = (program ≡ script.program) × IsLawful script.program × RunsBy (plain_of script.program) script trace
 Runs plain_of script _ = ⊥
 
--- of what is read: as this says of the program or script, or its first fault
+-- of what is read: as this says of the program, script or outline, or its first fault
 abbrev pub OfRead : {A : Type 0} → (A → Outcome → Type 0) → Result A Fault → Outcome → Type 0
 OfRead Says (Ok value) outcome = Says value outcome
 OfRead Says (Err fault) outcome = outcome ≡ Unread fault
@@ -147,6 +161,7 @@ FindsBy (Conditions budget) input outcome = Finds IsReading (Surveys budget) inp
 FindsBy Fmt input outcome = Finds IsReading Prints input outcome
 FindsBy RunLow input outcome = Finds IsScriptReading (Runs lowest) input outcome
 FindsBy RunTop input outcome = Finds IsScriptReading (Runs topmost) input outcome
+FindsBy (Prove budget) input outcome = Finds IsOutlineReading (Proves budget) input outcome
 FindsBy (Make at budget) input outcome = Finds IsReading (Asks at budget) input outcome
 FindsBy Replay input outcome = FindsReplayed input outcome
 
@@ -170,6 +185,19 @@ abbrev pub survey_status : Survey → Status
 survey_status survey.NoInitial = Refused
 survey_status (survey.Findings initial findings) = Done
 
+abbrev pub proved_status : Proved → Status
+proved_status (proved.All goals) = Done
+proved_status (proved.Fails goal values) = Rejected
+proved_status (proved.Undecided goal log) = Undecided
+
+abbrev pub proving_status : Proving → Status
+proving_status (proving.Note number) = Refused
+proving_status (proving.Roots item statement) = Refused
+proving_status (proving.Heavy first) = Refused
+proving_status (proving.HeavyGoal goal) = Refused
+proving_status (proving.Judged verdict) = verdict_status verdict
+proving_status (proving.Decided count found) = proved_status found
+
 abbrev pub making_status : Making → Status
 making_status (making.Heavy first) = Refused
 making_status (making.Beyond count) = Refused
@@ -191,6 +219,7 @@ status_of (Surveyed program budget survey) = survey_status survey
 status_of (Printed program) = Done
 status_of (Misfit number) = Refused
 status_of (Ran program trace) = Done
+status_of (Proven outline budget found) = proving_status found
 status_of (Asked program at budget making) = making_status making
 status_of (Replayed replaying) = replaying_status replaying
 
@@ -205,6 +234,7 @@ report_of (Surveyed program budget survey) = survey_text program budget survey
 report_of (Printed program) = printed_text program
 report_of (Misfit number) = misfit_text number
 report_of (Ran program trace) = run_text program trace
+report_of (Proven outline budget found) = proving_text outline.program budget found
 report_of (Asked program at budget making) = making_text program budget at making
 report_of (Replayed replaying) = replaying_text replaying
 

@@ -1,9 +1,14 @@
 -- What `command` promises where the source tells the bytes still to come and the sink those that it took.
-use Rattle.std.specs.Prelude.{◌≡◌, ◌≢◌, ℕ, ◌≤◌, ◌⊎◌, List, [], ◌++◌, length, codes, Option, Some}
+use Rattle.std.specs.Prelude.{◌≡◌, ◌≢◌, ℕ, ◌+◌, ◌≤◌, ◌⊎◌, List, [], ◌++◌, length, codes, Option, Some}
 use Rattle.civl_outside.specs.Count.{Stayed}
 use Rattle.civl_tree.specs.declared.program.Program.{Program}
 use Rattle.civl_tree.specs.declared.script.Script.{Script}
 use Rattle.civl_meaning.specs.declared.config.Plain.{Plain}
+use Rattle.civl_bits.specs.declared.value.Value.{Value}
+use Rattle.civl_firing.specs.declared.store.Store.{Store}
+use Rattle.civl_meaning.specs.Failing.{CanFail}
+use Rattle.civl_meaning.specs.Initial.{IsInitial}
+use Rattle.civl_meaning.specs.Layers.{lowest}
 use Rattle.civl_meaning.specs.Preserves.{Preserves}
 use Rattle.civl_run.specs.declared.trace.Trace.{Trace}
 use Rattle.civl_cnf.specs.Literal.{Literal}
@@ -18,6 +23,13 @@ use Rattle.civl_conditions.specs.Violated.{Violates}
 use Rattle.civl_verdicts.specs.declared.survey.Survey.{Survey}
 use Rattle.civl_verdicts.specs.declared.verdict.Counter.{Counter}
 use Rattle.civl_verdicts.specs.Surveys.{IsSurvey}
+use Rattle.civl_outlines.specs.declared.outline.Outline.{Outline}
+use Rattle.civl_goals.specs.declared.goal.Goal.{Goal}
+use Rattle.civl_goals.specs.Listed.{goals}
+use Rattle.civl_safety.specs.Outlined.{IsOutlined}
+use Rattle.civl_prove.specs.Proved.{GoalFails, goal_formula, IsReached as IsGoalReached}
+use Rattle.civl_outline_reports.specs.Proving.{IsReady}
+use Rattle.civl_outline_reports.specs.Reports.{safe_text, unproved_text, open_text}
 use Rattle.civl_certify.specs.declared.certified.Shown.{Shown as ShownOf}
 use Rattle.civl_certify.specs.declared.certified.Shown.TheVariants.{Holds}
 use Rattle.civl_certify.specs.declared.certified.Certified.TheVariants.{Answer}
@@ -28,19 +40,19 @@ use Rattle.civl_proof_reports.specs.Replaying.{IsReplay}
 use Rattle.civl_proof_reports.specs.Reports.{making_text, replaying_text}
 use Rattle.civl_proof_reports.specs.Laws.{StandsAlone}
 use Rattle.civl_words.specs.Words.{usual_budget}
-use Rattle.civl_verdicts.specs.Verdicts.{IsReached, AllHold, IsUndecided}
+use Rattle.civl_verdicts.specs.Verdicts.{HasInitial, IsReached, AllHold, IsSpentOn, IsUndecided}
 use Rattle.civl_reports.specs.Lines.{HasLineThatBegins}
 use Rattle.civl_reports.specs.Findings.{survey_text}
 use Rattle.civl_verdict_reports.specs.Verdicts.{accepted_text, rejected_text, undecided_text}
 use Rattle.civl_command.specs.Rules.{IsLawful, IsTaken}
-use Rattle.civl_command.specs.Texts.{SpellsProgram, SpellsScript}
+use Rattle.civl_command.specs.Texts.{SpellsProgram, SpellsScript, SpellsOutline}
 use Rattle.civl_command.specs.Tasks.{AskFor, AskForTrial}
 use Rattle.civl_command.specs.Outcome.{Outcome, TooLong, Replayed, RunsBy, FindsBy, CallsFor, TrialCallsFor, certificate_limit, printed_text, trial_text, status_of, report_of, trial_report}
 use Rattle.civl_command.specs.Alike.{AreAlike}
 use Rattle.civl_command.specs.Judge.{ReadState, WriteState}
 use Rattle.civl_command.specs.Report.{run_text, trial_line}
 use Rattle.civl_command.specs.declared.task.Task.{Task}
-use Rattle.civl_command.specs.declared.task.Task.TheVariants.{Check, Replay}
+use Rattle.civl_command.specs.declared.task.Task.TheVariants.{Check, Prove, Replay}
 use Rattle.civl_command.specs.declared.status.Status.{Status}
 use Rattle.civl_command.specs.declared.status.Status.TheVariants.{Done, Refused, WriteFault, Memory}
 
@@ -85,6 +97,35 @@ AcceptsAlone lines sink sink_after status =
     (taken rest : List ℕ) → sink.bytes ≡ Some taken → sink_after.bytes ≡ Some (taken ++ (lines ++ (codes "accepted" ++ rest)))
     → (status ≡ Done) ⊎ (status ≡ WriteFault)
 
+-- The input spells exactly one outline, whose program breaks no static rule. The outline fits the program, and neither a formula of the
+-- program nor a goal weighs too much.
+pub record SpellsReady (input : List ℕ) (outline : Outline) : Type 0 where
+  pub spells : SpellsOutline input outline
+  pub rules : IsLawful outline.program
+  pub ready : IsReady outline.program outline
+
+-- The program of the outline that the input spells is safe: it has an initial store, and from no initial store does some interleaving of
+-- its lowest program fail. All its conditions hold, and all goals of the outline, and together there are so many.
+pub record IsSafe (input : List ℕ) (outline : Outline) (count : ℕ) : Type 0 where
+  pub spelled : SpellsReady input outline
+  pub initial : HasInitial outline.program
+  pub safe : (store : Store) → IsInitial outline.program store → CanFail (lowest outline.program) store → ⊥
+  pub hold : AllHold outline.program
+  pub outlined : IsOutlined outline.program outline
+  pub count_is : count ≡ length (conditions outline.program) + length (goals outline.program outline)
+
+-- Done under `prove`: that is so of the input, and the report says it.
+abbrev pub IsSafeRightly : ReadState → ReadState → WriteState → WriteState → Type 0
+IsSafeRightly before after sink sink_after =
+    (input : List ℕ) → before.left ≡ Some input →
+    (outline : Outline) × (count : ℕ) × IsSafe input outline count × ReadsAndWrites after sink sink_after (safe_text count)
+
+-- Where what was written grew by a text that begins with `safe`, the status is Done, or such a report couldn't be written whole.
+abbrev pub IsSafeAlone : WriteState → WriteState → Status → Type 0
+IsSafeAlone sink sink_after status =
+    (taken rest : List ℕ) → sink.bytes ≡ Some taken → sink_after.bytes ≡ Some (taken ++ (codes "safe" ++ rest))
+    → (status ≡ Done) ⊎ (status ≡ WriteFault)
+
 -- Some store is initial in the program that the input spells. The condition has this place in its list, and each condition before it
 -- holds; it doesn't hold itself, since these values violate it, one of the right sort for each of its variables.
 pub record Rejects (input : List ℕ) (program : Program) (counter : Counter) : Type 0 where
@@ -93,15 +134,47 @@ pub record Rejects (input : List ℕ) (program : Program) (counter : Counter) : 
   pub reached : IsReached program counter.condition place
   pub violates : Violates program counter.condition counter.values
 
--- Rejected: the words ask for `check` or for a trial, that is so of the input or of the trial's text, and the report says it.
+-- Some store is initial in the program of the outline that the input spells. The condition has this place in its list, and each
+-- condition before it holds; it doesn't hold itself, since these values violate it, one of the right sort for each of its variables.
+pub record RejectsOutlined (input : List ℕ) (outline : Outline) (counter : Counter) : Type 0 where
+  pub spelled : SpellsReady input outline
+  pub place : ℕ
+  pub reached : IsReached outline.program counter.condition place
+  pub violates : Violates outline.program counter.condition counter.values
+
+-- The program of the outline that the input spells is accepted: some store is initial, and all its conditions hold.
+pub record AcceptsOutlined (input : List ℕ) (outline : Outline) : Type 0 where
+  pub spelled : SpellsReady input outline
+  pub initial : HasInitial outline.program
+  pub hold : AllHold outline.program
+
+-- That is so. The goal has this place in the outline's list, and each goal before it holds; it doesn't hold itself, since these values
+-- violate it, one of the right sort for each of its variables.
+pub record Unproves (input : List ℕ) (outline : Outline) (goal : Goal) (values : List Value) : Type 0 where
+  pub accepted : AcceptsOutlined input outline
+  pub place : ℕ
+  pub reached : IsGoalReached outline.program outline goal place
+  pub fails : GoalFails outline.program outline goal values
+
+-- what is found of the input, and its report, where `prove` rejects it: a condition that doesn't hold, or a goal
+abbrev pub RejectsProving : List ℕ → ReadState → WriteState → WriteState → Type 0
+RejectsProving input after sink sink_after =
+    ((outline : Outline) × (counter : Counter) × RejectsOutlined input outline counter
+    × ReadsAndWrites after sink sink_after (rejected_text outline.program counter))
+    ⊎ ((outline : Outline) × (goal : Goal) × (values : List Value) × Unproves input outline goal values
+    × ReadsAndWrites after sink sink_after (unproved_text outline.program goal values))
+
+-- Rejected: the words ask for `check`, for a trial or for `prove`, that is so of the input or of the trial's text, and the report says it.
 abbrev pub RejectsRightly : List (List ℕ) → ReadState → ReadState → WriteState → WriteState → Type 0
 RejectsRightly words before after sink sink_after =
     ((budget : ℕ) × AskFor (Check budget) words
     × ((input : List ℕ) → before.left ≡ Some input →
     (program : Program) × (counter : Counter) × Rejects input program counter × ReadsAndWrites after sink sink_after (rejected_text program counter)))
-    ⊎ ((number : ℕ) × AskForTrial number words
+    ⊎ (((number : ℕ) × AskForTrial number words
     × (program : Program) × (counter : Counter) × Rejects (trial_text number) program counter
     × Writes sink sink_after (trial_line number ++ rejected_text program counter))
+    ⊎ ((budget : ℕ) × AskFor (Prove budget) words
+    × ((input : List ℕ) → before.left ≡ Some input → RejectsProving input after sink sink_after)))
 
 -- The search for an initial store of the program that the input spells, or for values that violate this condition, spent the budget on
 -- the clauses of this log, and the formula that it decides is wide. Before a condition some store was found initial, and each condition
@@ -110,18 +183,41 @@ pub record LeavesOpen (input : List ℕ) (budget : ℕ) (program : Program) (for
   pub spelled : SpellsTaken input program
   pub undecided : IsUndecided program budget formula log
 
--- Undecided: the words ask for `check` or for a trial, that is so of the input under their budget, or of the trial's text under the usual
--- one, and the report says it.
+-- The same of the program of the outline that the input spells.
+pub record LeavesOpenOutlined (input : List ℕ) (budget : ℕ) (outline : Outline) (formula : Option Condition) (log : List (List Literal)) : Type 0 where
+  pub spelled : SpellsReady input outline
+  pub undecided : IsUndecided outline.program budget formula log
+
+-- The program of the outline that the input spells is accepted, and each goal before this one holds. The search for values that violate
+-- it spent the budget on the clauses of this log, and the formula that it decides is wide.
+pub record LeavesGoalOpen (input : List ℕ) (budget : ℕ) (outline : Outline) (goal : Goal) (log : List (List Literal)) : Type 0 where
+  pub accepted : AcceptsOutlined input outline
+  pub place : ℕ
+  pub reached : IsGoalReached outline.program outline goal place
+  pub spent : IsSpentOn budget (goal_formula outline.program outline goal) log
+
+-- what is found of the input, and its report, where `prove` leaves something open: a search for `check`, or a goal
+abbrev pub LeavesProvingOpen : ℕ → List ℕ → ReadState → WriteState → WriteState → Type 0
+LeavesProvingOpen budget input after sink sink_after =
+    ((outline : Outline) × (formula : Option Condition) × (log : List (List Literal)) × LeavesOpenOutlined input budget outline formula log
+    × ReadsAndWrites after sink sink_after (undecided_text outline.program formula budget))
+    ⊎ ((outline : Outline) × (goal : Goal) × (log : List (List Literal)) × LeavesGoalOpen input budget outline goal log
+    × ReadsAndWrites after sink sink_after (open_text outline.program goal budget))
+
+-- Undecided: the words ask for `check`, for a trial or for `prove`, that is so of the input under their budget, or of the trial's text
+-- under the usual one, and the report says it.
 abbrev pub LeavesOpenRightly : List (List ℕ) → ReadState → ReadState → WriteState → WriteState → Type 0
 LeavesOpenRightly words before after sink sink_after =
     ((budget : ℕ) × AskFor (Check budget) words
     × ((input : List ℕ) → before.left ≡ Some input →
     (program : Program) × (formula : Option Condition) × (log : List (List Literal))
     × LeavesOpen input budget program formula log × ReadsAndWrites after sink sink_after (undecided_text program formula budget)))
-    ⊎ ((number : ℕ) × AskForTrial number words
+    ⊎ (((number : ℕ) × AskForTrial number words
     × (program : Program) × (formula : Option Condition) × (log : List (List Literal))
     × LeavesOpen (trial_text number) usual_budget program formula log
     × Writes sink sink_after (trial_line number ++ undecided_text program formula usual_budget))
+    ⊎ ((budget : ℕ) × AskFor (Prove budget) words
+    × ((input : List ℕ) → before.left ≡ Some input → LeavesProvingOpen budget input after sink sink_after)))
 
 -- This is found of the conditions of the program that the input spells, under the budget; and no line of the report on it begins with
 -- `accepted`.
@@ -201,7 +297,7 @@ RefusesRightly words before after sink sink_after =
     × (outcome : Outcome) × TrialCallsFor number outcome × (status_of outcome ≡ Refused) × Writes sink sink_after (trial_report number outcome))
 
 -- the status and the report are those of an outcome for which the input calls, and which is alike each other one for which it does: the
--- two are verdicts, surveys or findings of a condition that don't speak against each other, or they are one
+-- two are verdicts, surveys or findings of an outline or of a condition that don't speak against each other, or they are one
 pub record AnswersAs (task : Task) (input : List ℕ) (after : ReadState) (sink sink_after : WriteState) (status : Status) : Type 0 where
   pub found : Outcome
   pub calls : CallsFor task input found

@@ -6,6 +6,8 @@ use Rattle.civl_tree.specs.SpellingProgram.{spell_program}
 use Rattle.civl_tree.specs.SpellingScript.{spell_script}
 use Rattle.civl_tree.specs.declared.program.Program.{Program}
 use Rattle.civl_tree.specs.declared.script.Script.{Script}
+use Rattle.civl_outlines.specs.declared.outline.Outline.{Outline}
+use Rattle.civl_outlines.specs.SpellingOutline.{spell_outline, OutlineHasSpelling}
 use Rattle.civl_command.specs.Texts.{IsReadAs}
 use Rattle.civl_command.specs.declared.reader.Text.{Text}
 use Rattle.civl_command.specs.declared.reader.Text.TheVariants.{Spelled, Unread, Memory}
@@ -21,3 +23,6 @@ TellsProgram bytes text = Tells spell_program HasSpelling bytes text
 
 abbrev pub TellsScript : List ℕ → Text Script → Type 0
 TellsScript bytes text = Tells spell_script ScriptHasSpelling bytes text
+
+abbrev pub TellsOutline : List ℕ → Text Outline → Type 0
+TellsOutline bytes text = Tells spell_outline OutlineHasSpelling bytes text

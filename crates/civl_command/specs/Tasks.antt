@@ -4,7 +4,7 @@ use Rattle.civl_words.specs.Words.{AreWordsOf}
 use Rattle.civl_words.specs.declared.words.Command.{Command}
 use Rattle.civl_words.specs.declared.words.Command.TheVariants as word
 use Rattle.civl_command.specs.declared.task.Task.{Task}
-use Rattle.civl_command.specs.declared.task.Task.TheVariants.{Check, Conditions, Fmt, RunLow, RunTop, Make, Replay}
+use Rattle.civl_command.specs.declared.task.Task.TheVariants.{Check, Conditions, Fmt, RunLow, RunTop, Prove, Make, Replay}
 
 -- the command by whose words a task is asked for
 abbrev pub command_for : Task → Command
@@ -13,6 +13,7 @@ command_for (Conditions budget) = word.Conditions budget
 command_for Fmt = word.Fmt
 command_for RunLow = word.RunLow
 command_for RunTop = word.RunTop
+command_for (Prove budget) = word.Prove budget
 command_for (Make at budget) = word.ProofMake at budget
 command_for Replay = word.ProofReplay
 
@@ -37,6 +38,7 @@ abbrev pub AsksProvers : Command → Type 0
 AsksProvers (word.Check budget) = ⊤
 AsksProvers (word.Conditions budget) = ⊤
 AsksProvers (word.Trial number) = ⊤
+AsksProvers (word.Prove budget) = ⊤
 AsksProvers (word.ProofMake at budget) = ⊤
 AsksProvers _ = ⊥
 

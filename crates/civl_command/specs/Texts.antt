@@ -1,4 +1,4 @@
--- What a text spells, and how it is read: as a program, or as a script.
+-- What a text spells, and how it is read: as a program, as a script, or as an outline.
 use Rattle.std.specs.Prelude.{ℕ, List, Result, Ok, Err}
 use Rattle.civl_tree.specs.Token.{Token}
 use Rattle.civl_tree.specs.SpellingDomain.{HasSpelling, ScriptHasSpelling}
@@ -6,6 +6,8 @@ use Rattle.civl_tree.specs.SpellingProgram.{spell_program}
 use Rattle.civl_tree.specs.SpellingScript.{spell_script}
 use Rattle.civl_tree.specs.declared.program.Program.{Program}
 use Rattle.civl_tree.specs.declared.script.Script.{Script}
+use Rattle.civl_outlines.specs.declared.outline.Outline.{Outline}
+use Rattle.civl_outlines.specs.SpellingOutline.{spell_outline, OutlineHasSpelling}
 use Rattle.civl_lex.specs.Spells.{SpellsOnly}
 use Rattle.civl_lex.specs.Text.{HasTokens, NoTokenAt}
 use Rattle.civl_phrases.specs.Bracket.{IsShallow}
@@ -43,7 +45,7 @@ IsReadAs spell fits bytes (Err (NoToken place)) = NoTokenAt bytes place
 IsReadAs spell fits bytes (Err (NotHere place)) = StopsAt spell fits bytes place
 IsReadAs spell fits bytes (Err (Deep place)) = SinksAt spell fits bytes place
 
--- ---- programs and scripts
+-- ---- programs, scripts and outlines
 
 -- The bytes spell this program and no other.
 abbrev pub SpellsProgram : List ℕ → Program → Type 0
@@ -53,8 +55,15 @@ SpellsProgram bytes program = SpellsOnly spell_program HasSpelling bytes program
 abbrev pub SpellsScript : List ℕ → Script → Type 0
 SpellsScript bytes script = SpellsOnly spell_script ScriptHasSpelling bytes script
 
+-- The bytes spell this outline and no other.
+abbrev pub SpellsOutline : List ℕ → Outline → Type 0
+SpellsOutline bytes outline = SpellsOnly spell_outline OutlineHasSpelling bytes outline
+
 abbrev pub IsReading : List ℕ → Result Program Fault → Type 0
 IsReading bytes reading = IsReadAs spell_program HasSpelling bytes reading
 
 abbrev pub IsScriptReading : List ℕ → Result Script Fault → Type 0
 IsScriptReading bytes reading = IsReadAs spell_script ScriptHasSpelling bytes reading
+
+abbrev pub IsOutlineReading : List ℕ → Result Outline Fault → Type 0
+IsOutlineReading bytes reading = IsReadAs spell_outline OutlineHasSpelling bytes reading

@@ -10,6 +10,7 @@ ghost use Rattle.civl_command.specs.Report.{bytes_of};
 
 use crate::certificates::{make_text, replay_bytes};
 use crate::judged::{CERTIFICATE_LIMIT, Judged, LIMIT, Report, judge_fault, too_long};
+use crate::proving::prove_text;
 use crate::reader::{Text, read_program, read_script};
 use crate::replay::{End, judge_script};
 use crate::status::Status;
@@ -83,6 +84,7 @@ fn judge_text(alloc: Global, task: Task, bytes: &[u8], provers: &mut Vec<Box<dyn
         Task::Fmt => print_text(alloc, bytes),
         Task::RunLow => run_text(alloc, End::Low, bytes),
         Task::RunTop => run_text(alloc, End::Top, bytes),
+        Task::Prove(budget) => prove_text(alloc, budget, bytes, provers),
         Task::Make(at, budget) => make_text(alloc, at, budget, bytes, provers),
         Task::Replay => replay_bytes(alloc, bytes),
     }
@@ -140,6 +142,7 @@ fn judge_command<S: Source>(
         Command::RunLow => judge_input(alloc, Task::RunLow, source, provers),
         Command::RunTop => judge_input(alloc, Task::RunTop, source, provers),
         Command::Trial(number) => judge_trial(alloc, number, provers),
+        Command::Prove(budget) => judge_input(alloc, Task::Prove(budget), source, provers),
         Command::ProofMake(at, budget) => {
             judge_input(alloc, Task::Make(at, budget), source, provers)
         }

@@ -13,7 +13,7 @@ use civl_reports::report_heavy;
 use civl_tree::Refusal;
 use std::alloc::Global;
 
-/// The most bytes that an input with a program or a script may have.
+/// The most bytes that an input with a program, a script or an outline may have.
 pub(crate) const LIMIT: usize = 1_048_576;
 
 /// The most bytes that a certificate may have.

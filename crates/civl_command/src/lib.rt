@@ -3,7 +3,8 @@
 //!
 //! It takes the words of `civl_words`. `check` gives the verdict on every program that breaks no static rule, and `conditions` tells of
 //! every such program what is found of each of its conditions; `fmt` prints every program, and `run` replays a schedule of every program
-//! that breaks no static rule. `trial` gives the verdict on the text of a trial program. `proof make`
+//! that breaks no static rule. `trial` gives the verdict on the text of a trial program. `prove` gives the verdict on a program and, where
+//! it is accepted, tells whether an outline of its topmost program shows that it doesn't fail. `proof make`
 //! gives a certificate of one condition, and `proof replay` replays one.
 #![tactic(auto)]
 
@@ -12,6 +13,7 @@ mod certificates;
 mod judge;
 mod judged;
 pub mod laws;
+mod proving;
 mod reader;
 mod replay;
 mod report;

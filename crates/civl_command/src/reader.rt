@@ -1,12 +1,13 @@
-// The program or the script that a text spells.
-ghost use Rattle.civl_command.specs.Reader.{TellsProgram, TellsScript};
+// The program, the script or the outline that a text spells.
+ghost use Rattle.civl_command.specs.Reader.{TellsProgram, TellsScript, TellsOutline};
 
 use civl_lex::{LexFault, tokens};
+use civl_outlines::{Outline, parse_outline};
 use civl_parser::{ParseFault, parse, parse_script};
 use civl_tree::{Program, Script};
 use std::alloc::Global;
 
-/// Why a text is no program, or no script: the first fault in it.
+/// Why a text is no program, no script or no outline: the first fault in it.
 #[derive(Clone, Copy, Debug, Drop)]
 pub(crate) enum Fault {
     /// No token begins at this byte.
@@ -51,6 +52,22 @@ pub(crate) fn read_script(alloc: Global, bytes: &[u8]) -> Text<Script>
     match tokens(alloc, bytes) {
         Ok(tokens) => match parse_script(alloc, tokens.as_slice()) {
             Ok(script) => Text::Spelled(script),
+            Err(ParseFault::NotHere(place)) => Text::Unread(Fault::NotHere(place)),
+            Err(ParseFault::Deep(place)) => Text::Unread(Fault::Deep(place)),
+            Err(ParseFault::Memory) => Text::Memory,
+        },
+        Err(LexFault::NoToken(place)) => Text::Unread(Fault::NoToken(place)),
+        Err(LexFault::Memory) => Text::Memory,
+    }
+}
+
+/// The outline that these bytes spell, or the first fault in them.
+pub(crate) fn read_outline(alloc: Global, bytes: &[u8]) -> Text<Outline>
+    ensures { TellsOutline bytes.now result }
+{
+    match tokens(alloc, bytes) {
+        Ok(tokens) => match parse_outline(alloc, tokens.as_slice()) {
+            Ok(outline) => Text::Spelled(outline),
             Err(ParseFault::NotHere(place)) => Text::Unread(Fault::NotHere(place)),
             Err(ParseFault::Deep(place)) => Text::Unread(Fault::Deep(place)),
             Err(ParseFault::Memory) => Text::Memory,

@@ -13,6 +13,8 @@ pub(crate) enum Task {
     RunLow,
     /// The schedule of a script on its topmost program.
     RunTop,
+    /// What an outline proves of its program, where each search may learn so many clauses.
+    Prove(u32),
     /// What is shown of the condition of a program with this number, where each search may learn so many clauses.
     Make(u32, u32),
     /// What the replay of a certificate finds.

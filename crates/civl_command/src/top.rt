@@ -4,13 +4,14 @@ ghost use Rattle.civl_meaning.specs.Layers.{lowest, topmost};
 ghost use Rattle.civl_command.specs.Tasks.{AskFor, AskForSome, AskForTrial, AskProvers};
 ghost use Rattle.civl_command.specs.Judge.{reading, writing, Explains};
 ghost use Rattle.civl_command.specs.Report.{trial_line};
-ghost use Rattle.civl_command.specs.Promises.{AcceptsRightly, TrialAcceptsRightly, AcceptsAlone, SurveysRightly, PrintsRightly, ReplaysRightly, CertifiesRightly, RefutesRightly, RejectsRightly, LeavesOpenRightly, RefusesRightly, IsComplete, IsTrialComplete};
-ghost use Rattle.civl_command.specs.declared.task.Task.TheVariants.{Check, Conditions, Fmt, RunLow, RunTop, Make, Replay};
+ghost use Rattle.civl_command.specs.Promises.{AcceptsRightly, TrialAcceptsRightly, AcceptsAlone, IsSafeRightly, IsSafeAlone, SurveysRightly, PrintsRightly, ReplaysRightly, CertifiesRightly, RefutesRightly, RejectsRightly, LeavesOpenRightly, RefusesRightly, IsComplete, IsTrialComplete};
+ghost use Rattle.civl_command.specs.declared.task.Task.TheVariants.{Check, Conditions, Fmt, RunLow, RunTop, Prove, Make, Replay};
 
 use crate::judge::judge;
 use crate::status::Status;
 use civl_outside::{Sent, Sink, Source, write_all};
 use civl_portfolio::Prover;
+use civl_safety::laws::lowest_is_safe;
 use civl_simulation::laws::accepted_programs_preserve;
 use std::alloc::Global;
 
@@ -43,29 +44,32 @@ fn respond<S: Source, K: Sink>(
 /// Does what the words after the program's name say: reads the input from the source, and writes one report to the
 /// sink.
 ///
-/// The words are `check`, `conditions`, `fmt`, `run low`, `run top`, `trial N`, `proof make` or `proof replay`, as `clap` reads them
-/// (`civl_words`). Under `check` there is a verdict on the program that the input spells, under `conditions` it is told of each of its
+/// The words are `check`, `conditions`, `fmt`, `run low`, `run top`, `trial N`, `prove`, `proof make` or `proof replay`, as `clap` reads
+/// them (`civl_words`). Under `check` there is a verdict on the program that the input spells, under `conditions` it is told of each of its
 /// conditions whether it holds, under `fmt` its canonical text is written, and under `run` the schedule of a script is replayed on its
 /// lowest or its topmost program. Under `trial` nothing is read: the trial program of N copies, from 1 to 8, is printed, and its text is
-/// judged as by `check`. Under `proof make` one condition of the program that the input spells is told, that with the number behind
+/// judged as by `check`. Under `prove` the input is an outline: a program, an invariant of its topmost program and notes before statements
+/// of its roots. There is a verdict on the program, and where it is accepted, the goals of the outline are decided; where all hold, no
+/// interleaving of the lowest program fails. Under `proof make` one condition of the program that the input spells is told, that with the number behind
 /// `--at`, or else the first: where it holds, by a certificate, which is a clause set that stands for its violation and a lean log that
 /// refutes it. Under `proof replay` the log of a certificate is replayed.
 ///
-/// Behind `check`, `conditions` and `proof make` may stand `--budget N`, a number of at most 10,000,000: so many clauses each search may
+/// Behind `check`, `conditions`, `prove` and `proof make` may stand `--budget N`, a number of at most 10,000,000: so many clauses each search may
 /// learn, and 200,000 where the words don't say. The whole input is read before anything is written, up to 1,048,576 bytes, or 67,108,864
 /// of a certificate, and one more, and the report is made whole before its first byte is written. The provers are asked under `check`,
-/// `conditions`, `trial` and `proof make` alone, in their order, and none is believed without its certificate; those that gave a false
+/// `conditions`, `trial`, `prove` and `proof make` alone, in their order, and none is believed without its certificate; those that gave a false
 /// one are dropped.
 ///
 /// # Answers
 ///
-/// - [`Status::Done`]: the program is accepted, its conditions were told, or one of them, it was printed, or the schedule or the certificate was
-///   replayed.
-/// - [`Status::Rejected`]: a condition of the program that is checked or tried doesn't hold.
-/// - [`Status::Undecided`]: the search for an initial store of the program that is checked or tried, or for values that violate one
-///   of its conditions, learned as many clauses as it may.
-/// - [`Status::Refused`]: the input is too long, or is no program or script; its program breaks a static rule; a formula weighs too
-///   much, no condition has the number, no store is initial, or what a script says doesn't fit its program; or it is no certificate.
+/// - [`Status::Done`]: the program is accepted, its conditions were told, or one of them, it was printed, all goals of the outline hold, or the
+///   schedule or the certificate was replayed.
+/// - [`Status::Rejected`]: a condition of the program that is checked, tried or outlined doesn't hold, or a goal of the outline.
+/// - [`Status::Undecided`]: the search for an initial store of the program that is checked, tried or outlined, or for values that violate
+///   one of its conditions or of the outline's goals, learned as many clauses as it may.
+/// - [`Status::Refused`]: the input is too long, or is no program, script or outline; its program breaks a static rule; a formula weighs too
+///   much, no condition has the number, no store is initial, or what a script or an outline says doesn't fit its program; or it is no
+///   certificate.
 /// - [`Status::Usage`]: the words are no command. Nothing is read, and the line on usage is written.
 /// - [`Status::ReadFault`]: the source failed. Nothing is written.
 /// - [`Status::WriteFault`]: the sink failed, or took nothing more. A first part of the report is written.
@@ -86,8 +90,8 @@ pub fn command<S: Source, K: Sink>(
         result }
 
     // Words that ask for nothing of an input leave the source as it is, even where the usage line can't be written; a failed read and
-    // want of memory leave the sink; and words other than those of `check`, `conditions`, `trial` and `proof make` leave the
-    // provers.
+    // want of memory leave the sink; and words other than those of `check`, `conditions`, `trial`, `prove` and `proof make` leave
+    // the provers.
     ensures unread { (AskForSome (map string_bytes words.now.items) → ⊥) → source.new ≡ source.old }
     ensures unread_usage { result ≡ Status.Usage → source.new ≡ source.old }
     ensures unwritten { (result ≡ Status.ReadFault) ⊎ (result ≡ Status.Memory) → sink.new ≡ sink.old }
@@ -122,6 +126,11 @@ pub fn command<S: Source, K: Sink>(
         (reading (S.left source.new) (S.faults source.new))
         (writing (K.written sink.old) (K.faults sink.old) (K.stalls sink.old))
         (writing (K.written sink.new) (K.faults sink.new) (K.stalls sink.new)) }
+    ensures safe { (budget : ℕ) → result ≡ Status.Done → AskFor (Prove budget) (map string_bytes words.now.items) → IsSafeRightly
+        (reading (S.left source.old) (S.faults source.old))
+        (reading (S.left source.new) (S.faults source.new))
+        (writing (K.written sink.old) (K.faults sink.old) (K.stalls sink.old))
+        (writing (K.written sink.new) (K.faults sink.new) (K.stalls sink.new)) }
     ensures certified { (at budget : ℕ) → result ≡ Status.Done → AskFor (Make at budget) (map string_bytes words.now.items) → CertifiesRightly at budget
         (reading (S.left source.old) (S.faults source.old))
         (reading (S.left source.new) (S.faults source.new))
@@ -149,12 +158,16 @@ pub fn command<S: Source, K: Sink>(
         (writing (K.written sink.new) (K.faults sink.new) (K.stalls sink.new)) }
 
     // Where the sink tells what it took: under `check` a report that begins with `accepted` is that of Done, or was cut short; so is the
-    // report of a trial that goes on so under its line.
+    // report of a trial that goes on so under its line, and under `prove` a report that begins with `safe`.
     ensures alone { (budget : ℕ) → AskFor (Check budget) (map string_bytes words.now.items) → AcceptsAlone []
         (writing (K.written sink.old) (K.faults sink.old) (K.stalls sink.old))
         (writing (K.written sink.new) (K.faults sink.new) (K.stalls sink.new))
         result }
     ensures tried_alone { (number : ℕ) → AskForTrial number (map string_bytes words.now.items) → AcceptsAlone (trial_line number)
+        (writing (K.written sink.old) (K.faults sink.old) (K.stalls sink.old))
+        (writing (K.written sink.new) (K.faults sink.new) (K.stalls sink.new))
+        result }
+    ensures safe_alone { (budget : ℕ) → AskFor (Prove budget) (map string_bytes words.now.items) → IsSafeAlone
         (writing (K.written sink.old) (K.faults sink.old) (K.stalls sink.old))
         (writing (K.written sink.new) (K.faults sink.new) (K.stalls sink.new))
         result }
@@ -171,7 +184,8 @@ pub fn command<S: Source, K: Sink>(
         (writing (K.written sink.new) (K.faults sink.new) (K.stalls sink.new))
         result }
 {
-    // The law on which `accepted` rests. It computes nothing.
+    // The laws on which `accepted` and `safe` rest. They compute nothing.
     accepted_programs_preserve();
+    lowest_is_safe();
     respond(alloc, words, source, sink, provers)
 }

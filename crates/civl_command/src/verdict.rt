@@ -20,7 +20,7 @@ use civl_weights::TooMuch;
 use std::alloc::Global;
 
 /// The status of a verdict.
-fn verdict_status(verdict: &Verdict) -> Status
+pub(crate) fn verdict_status(verdict: &Verdict) -> Status
     ensures { result ≡ verdict_status verdict.now }
 {
     match verdict {

@@ -1,5 +1,5 @@
 -- Where no statement has a number, nothing is held before it; and what is said of the procedure with a number.
-use Rattle.std.proofs.Common.{◌≡◌, ℕ, ◌≤◌, Bool, List, [], ◌∷◌, length, get_or, Some, refl, sym, ap, ◌∙◌, subst, ◌<◌}
+use Rattle.std.proofs.Common.{◌≡◌, ℕ, zero, suc, ◌≤◌, Bool, List, [], ◌∷◌, length, map, get_or, Some, refl, sym, ap, ◌∙◌, subst, ◌<◌}
 use Rattle.std.specs.Prelude.{Option, slice_get}
 use Rattle.std.specs.Option.{option_map_or}
 use Rattle.std.proofs.lemmas.Option.{slice_get_read, slice_get_past}
@@ -24,3 +24,17 @@ module _ {A : Type 0} (f : Proc → A) (none : A) (program : Program) (procs : L
 
   pub of_none : procs ≡ program.procs → length procs ≤ number → none ≡ of_proc program number none f
   of_none e past = sym (subst (λ (ps : List Proc). option_map_or f (slice_get ps number) none ≡ none) e (ap (λ (o : Option Proc). option_map_or f o none) (slice_get_past procs number past)))
+
+-- ---- how many
+
+counts_at : (names : List Name) (befores : List (List Bool)) (at : ℕ) → get_or (map (λ held. length (held_numbers 0 names held)) befores) at 0 ≡ length (held_numbers 0 names (get_or befores at []))
+counts_at names [] at = sym (ap length (no_flags 0 names))
+counts_at names (held ∷ befores) zero = refl
+counts_at names (held ∷ befores) (suc at) = counts_at names befores at
+
+-- where the names and the flags are lent
+pub counted : (counts : List ℕ) (names lent : List Name) (befores shown wanted : List (List Bool)) (at : ℕ) → counts ≡ map (λ held. length (held_numbers 0 lent held)) shown → lent ≡ names → shown ≡ befores → befores ≡ wanted →
+    get_or counts at 0 ≡ length (held_numbers 0 names (get_or wanted at []))
+counted counts names lent befores shown wanted at e n s w =
+    ap (λ (ns : List ℕ). get_or ns at 0) (e ∙ ap (λ (ms : List Name). map (λ held. length (held_numbers 0 ms held)) shown) n ∙ ap (λ (bs : List (List Bool)). map (λ held. length (held_numbers 0 names held)) bs) (s ∙ w))
+    ∙ counts_at names wanted at

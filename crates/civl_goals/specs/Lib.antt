@@ -10,3 +10,4 @@ pub mod Told
 pub mod Spots
 pub mod Wants
 pub mod examples
+pub mod GoalHolds

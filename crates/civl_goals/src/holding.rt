@@ -1,5 +1,5 @@
 // What a procedure holds before its statements.
-ghost use Rattle.std.specs.Prelude.{◌≡◌, ◌<◌, ◌^◌, ◌∷◌, ◌++◌, [], map, false, length, get_or, IfOk, OnOk};
+ghost use Rattle.std.specs.Prelude.{ℕ, ◌≡◌, ◌<◌, ◌^◌, ◌∷◌, ◌++◌, [], map, false, length, get_or, IfOk, OnOk};
 ghost use Rattle.civl_tree.specs.rules.Names.{has_name, names_in_proc};
 ghost use Rattle.civl_types.specs.Views.{signature_of};
 ghost use Rattle.civl_layers.specs.Layered.{IsLayered};
@@ -464,4 +464,57 @@ pub fn held_before(
 {
     let numbers = held_at(alloc, program(src), proc_number, statement)?;
     Ok(numbers)
+}
+
+// ---- how many
+
+/// How many of these names are held, for each of these lists of flags.
+fn counts_of(alloc: Global, names: &[&Name], befores: &[List<bool>]) -> Result<Vec<usize>, Memory>
+    requires { length names.now < 2 ^ 32 }
+    ensures { IfOk result (λ counts. counts.items ≡ map (λ held. length (held_numbers 0 (map (λ name. name.now) names.now) held)) befores.now) }
+{
+    let mut counts = Vec::new(alloc);
+    for held in befores {
+        let numbers = held_numbers(alloc, names, held)?;
+        counts.push(numbers.len())?;
+    }
+    Ok(counts)
+}
+
+/// How many a procedure holds before each of its statements.
+fn counts_in(alloc: Global, program: &Program, proc: &Proc) -> Result<Vec<usize>, Memory>
+    requires { length (names_in_proc proc.now) < 2 ^ 32 }
+    ensures { IfOk result (λ counts. (statement : ℕ) → get_or counts.items statement 0 ≡ length (held_before program.now proc.now statement)) }
+{
+    let names = names_in_proc(alloc, proc)?;
+    let befores = befores_in(alloc, program, names.as_slice(), proc)?;
+    let counts = counts_of(alloc, names.as_slice(), befores.as_slice())?;
+    Ok(counts)
+}
+
+/// The same of the procedure with this number, where there is one.
+fn counts_at(alloc: Global, program: &Program, number: u32) -> Result<Vec<usize>, Memory>
+    requires { IsLayered program.now }
+    ensures { IfOk result (λ counts. (statement : ℕ) → get_or counts.items statement 0 ≡ of_proc program.now number 0 (λ proc. length (held_before program.now proc statement))) }
+{
+    match program.procs.as_slice().get(number as usize) {
+        Some(proc) => {
+            let counts = counts_in(alloc, program, proc)?;
+            Ok(counts)
+        }
+        None => Ok(Vec::new(alloc)),
+    }
+}
+
+/// How many locals a procedure holds before each of its statements, in text order, as [`held_before`] has them. Where there
+/// is no procedure with this number the answer is empty. It goes once over the body.
+///
+/// # Errors
+///
+/// For want of memory.
+pub fn held_counts(alloc: Global, src: &Layered, proc_number: u32) -> Result<Vec<usize>, Memory>
+    ensures { IfOk result (λ counts. (statement : ℕ) → get_or counts.items statement 0 ≡ of_proc src.now proc_number 0 (λ proc. length (held_before src.now proc statement))) }
+{
+    let counts = counts_at(alloc, program(src), proc_number)?;
+    Ok(counts)
 }

@@ -13,7 +13,7 @@ mod spots;
 mod variables;
 
 pub use goal::Goal;
-pub use holding::held_before;
+pub use holding::{held_before, held_counts};
 pub use listing::goals;
 pub use naming::goal_name;
 pub use rules::{first_descending, first_unfit};

@@ -10,7 +10,7 @@ ghost use Rattle.civl_terms.specs.Graphs.{sort_at};
 ghost use Rattle.civl_terms.specs.Building.{Grows, Lengthens};
 ghost use Rattle.civl_terms.specs.Weights.{graph_weight};
 ghost use Rattle.civl_conditions.specs.Invariants.{is_initial};
-ghost use Rattle.civl_conditions.specs.Weights.{lin, initial_items, initial_own, initial_weight};
+ghost use Rattle.civl_conditions.specs.Weights.{global_weight, lin, initial_items, initial_weight};
 ghost use Rattle.civl_formulas.specs.Said.{Env, IsTest};
 ghost use Rattle.civl_formulas.specs.Given.{AreVariablesOf};
 ghost use Rattle.civl_states.specs.Stores.{AreGlobals, AreStore, global_sorts};
@@ -45,8 +45,13 @@ fn permissions_apart(
     Ok(all.apart)
 }
 
-/// Whether a store is initial, at terms for its globals.
-pub(crate) fn initial_at(
+/// Whether a store is initial, at terms for its globals. The graph's weight rises by at most that of `init`, those of the arguments of
+/// the declared threads, four times what is counted for so many linear items, and 1.
+///
+/// # Errors
+///
+/// For want of memory; the nodes before stay.
+pub fn initial_at(
     alloc: Alloc,
     terms: &mut Terms,
     program: &Program,
@@ -56,7 +61,7 @@ pub(crate) fn initial_at(
     requires globals { AreGlobals terms.old program.now globals.now }
     ensures tells { IfOk result (λ id. (g : Env → Store) → AreStore terms.old program.now globals.now g → IsTest terms.new id (λ env. is_initial program.now (g env))) }
     ensures sorted { IfOk result (λ id. sort_at terms.new id ≡ Some Truth) }
-    ensures weighs { OnOk result (graph_weight terms.new + 2 ≤ graph_weight terms.old + 4 * initial_own program.now) }
+    ensures weighs { OnOk result (graph_weight terms.new ≤ graph_weight terms.old + global_weight program.now program.now.init + threads_weight program.now program.now.threads + 4 * lin program.now (initial_items program.now) + 1) }
     ensures grows { Grows terms.old terms.new }
 {
     let init = global_note(terms, program, &program.init, globals.as_slice())?;

@@ -10,6 +10,7 @@ mod threads;
 mod violations;
 
 pub use acting::{Acting, act};
-pub use initials::initial;
+pub use initials::{initial, initial_at};
 pub use starts::invariant_at;
+pub use threads::argument_terms;
 pub use violations::violation;

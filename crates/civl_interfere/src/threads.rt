@@ -25,8 +25,15 @@ use civl_tree::{Expr, List, Program, Thread};
 use civl_types::names::proc_named;
 use std::alloc::Global as Alloc;
 
-/// The terms of expressions of the globals, one for each.
-fn argument_terms(
+/// The terms of expressions of the globals, one for each, at these terms for the globals. The graph's weight rises by at most the
+/// expressions'.
+///
+/// The expressions have sorts there.
+///
+/// # Errors
+///
+/// For want of memory; the nodes before stay.
+pub fn argument_terms(
     alloc: Alloc,
     terms: &mut Terms,
     program: &Program,

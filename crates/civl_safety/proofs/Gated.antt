@@ -18,7 +18,7 @@ use Rattle.civl_goals.specs.Variables.{variables}
 use Rattle.civl_goals.specs.Listed.{goals}
 use Rattle.civl_goals.specs.Failed.{failed}
 use Rattle.civl_goals.specs.Rules.{unfit, descending}
-use Rattle.civl_safety.specs.Outlined.{GoalHolds}
+use Rattle.civl_goals.specs.GoalHolds.{GoalHolds}
 use Rattle.civl_safety.specs.examples.Held.{gated, held, silent, HeldIsOutlined, SilentIsNot}
 
 abbrev all : List Goal

@@ -1,8 +1,6 @@
 -- When an outline proves what it says of a program: it fits, and all its goals hold. (Proof outlines: Owicki and Gries, An axiomatic
 -- proof technique for parallel programs I, Acta Informatica, 1976.)
-use Rattle.std.specs.Prelude.{ℕ, ◌≡◌, ◌<◌, false, List, [], map, Some, slice_get, IsTrue, Contains}
-use Rattle.civl_bits.specs.declared.value.Value.{Value}
-use Rattle.civl_values.specs.Values.{HaveSorts}
+use Rattle.std.specs.Prelude.{ℕ, ◌≡◌, ◌<◌, [], Some, slice_get, IsTrue, Contains}
 use Rattle.civl_tree.specs.declared.action.Action.{Action}
 use Rattle.civl_tree.specs.declared.program.Program.{Program}
 use Rattle.civl_tree.specs.SpellingDomain.{allows_program}
@@ -15,18 +13,9 @@ use Rattle.civl_linear.specs.LinearRules.{linear_rules}
 use Rattle.civl_yields.specs.YieldRules.{yield_rules}
 use Rattle.civl_permissions.specs.Stay.{KeepsPermissions}
 use Rattle.civl_goals.specs.declared.goal.Goal.{Goal}
-use Rattle.civl_goals.specs.Variables.{variables}
 use Rattle.civl_goals.specs.Listed.{goals}
 use Rattle.civl_goals.specs.Rules.{unfit, descending}
-use Rattle.civl_goals.specs.Failed.{failed}
-
--- values for the variables of a goal: one of its sort for each
-abbrev pub AreValuesOf : Program → Goal → List Value → Type 0
-AreValuesOf program goal values = HaveSorts values (map (λ v. v.sort) (variables program goal))
-
--- no values for its variables meet what it assumes and not what it concludes
-abbrev pub GoalHolds : Program → Outline → Goal → Type 0
-GoalHolds program outline goal = (values : List Value) → AreValuesOf program goal values → failed program outline goal values ≡ false
+use Rattle.civl_goals.specs.GoalHolds.{GoalHolds}
 
 -- its holds and notes are expressions of their places, in the topmost program threads run roots and roots call actions alone, and
 -- all goals hold

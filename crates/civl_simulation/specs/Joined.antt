@@ -1,5 +1,5 @@
 -- Blocks that are refined, one behind the other, and what the conditions on paths say of one.
-use Rattle.std.specs.Prelude.{ℕ, ◌≡◌, true, List, IsTrue}
+use Rattle.std.specs.Prelude.{ℕ, ◌≡◌, true, List, Contains, IsTrue}
 use Rattle.civl_bits.specs.declared.value.Value.{Value}
 use Rattle.civl_values.specs.Values.{HaveSorts}
 use Rattle.civl_tree.specs.declared.program.Proc.{Proc}
@@ -15,17 +15,17 @@ use Rattle.civl_conditions.specs.Values.{Begun}
 use Rattle.civl_conditions.specs.Assumed.{inputs_of}
 use Rattle.civl_condition_laws.specs.States.{frame_sorts}
 use Rattle.civl_open_blocks.specs.Ends.{IsAssumed, Concludes}
-use Rattle.civl_simulation.specs.Refined.{Sight, IsRefined}
+use Rattle.civl_simulation.specs.Refined.{Sight, IsRefined, with_values}
 
--- nothing happens
+-- nothing happens, whichever choices are offered
 abbrev pub NothingIsRefined : Type 0
-NothingIsRefined = (program : Program) (layer : ℕ) (proc : Proc) (inputs : List Value) (here : Sight) → IsStore program.globals here.store → IsRefined program layer proc inputs here here
+NothingIsRefined = (offered : List (List Value)) (program : Program) (layer : ℕ) (proc : Proc) (inputs : List Value) (here : Sight) → IsStore program.globals here.store → IsRefined (Contains offered) program layer proc inputs here here
 
 -- one behind the other
 abbrev pub RefinedJoin : Type 0
 RefinedJoin =
-    (program : Program) (number layer : ℕ) (proc : Proc) (inputs : List Value) (first second third : Sight) → IsLayered program → IsProcOf program number layer proc
-    → IsRefined program layer proc inputs first second → IsRefined program layer proc inputs second third → IsRefined program layer proc inputs first third
+    (offered : List (List Value)) (program : Program) (number layer : ℕ) (proc : Proc) (inputs : List Value) (first second third : Sight) → IsLayered program → IsProcOf program number layer proc
+    → IsRefined (Contains offered) program layer proc inputs first second → IsRefined (Contains offered) program layer proc inputs second third → IsRefined (Contains offered) program layer proc inputs first third
 
 -- what the old values of a path's beginning show, and what its state shows
 abbrev pub sight_old : Begun → Sight
@@ -34,8 +34,10 @@ sight_old b = record { store = b.old; done = b.old_done; outs = b.old_outs }
 abbrev pub sight_at : Proc → Progress → Sight
 sight_at proc p = record { store = p.store; done = p.done; outs = outs_in proc p.locals }
 
--- where a block ends, all was assumed at its path's beginning, and the path's conclusions hold
+-- where a block ends, all was assumed at its path's beginning, and the path's conclusions hold: the refined action has the choices
+-- behind `with` there
 abbrev pub ConclusionsRefine : Type 0
 ConclusionsRefine =
     (program : Program) (step q c : ℕ) (proc : Proc) (cut : Cut) (b : Begun) (end : ℕ) (p : Progress) → IsLayered program → IsAssumed program step q c proc cut b → Concludes program step c proc cut b end p → IsTrue (ends_block proc end)
-    → (b.done ≡ true → p.done ≡ true) → IsStore program.globals p.store → HaveSorts p.locals (frame_sorts proc) → IsRefined program step proc (inputs_of proc b.locals) (sight_old b) (sight_at proc p)
+    → (b.done ≡ true → p.done ≡ true) → IsStore program.globals p.store → HaveSorts p.locals (frame_sorts proc)
+    → IsRefined (λ chosen. chosen ≡ with_values program proc p.store p.locals) program step proc (inputs_of proc b.locals) (sight_old b) (sight_at proc p)

@@ -4,6 +4,7 @@ pub mod Pausing
 pub mod Calm
 pub mod Opened
 pub mod Chains
+pub mod Stops
 pub mod Inside
 pub mod Measures
 pub mod Bounded

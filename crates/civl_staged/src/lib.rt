@@ -7,11 +7,11 @@
 //!
 //! Both follow from what holds beside block runs that aren't challenged. Where no block is open, all is calm: the invariants of
 //! the step hold, and so do those of the yields at which frames stand (`Calm`), in the store with the shadow's values; a frame
-//! stands there at a cut of its procedure, and what is held at this cut its thread owns (`Pausing`). Where one thread's block is
-//! open, its frame follows a path, and the other threads were calm at the block's beginning (`Opened`); a step from a yield
-//! opens the block of the last of the blocks without a step that take effect just before it (`Chains`). So no thread fails
-//! inside a block (`Inside`). And each step of an open block makes a number smaller (`Measures`), so that its steps come to an
-//! end (`Bounded`). What comes of it all is the reduction without premises (`Reduced`). [`laws`] has the theorems.
+//! stands there at a cut of its procedure, and what is held at this cut its thread owns (`Pausing`). Where one thread's block
+//! is open, its frame follows a path, and the other threads were calm at the block's beginning (`Opened`); a step from a yield
+//! opens the block of the last of the blocks without a step that take effect just before it (`Chains`, `Stops`). So no thread
+//! fails inside a block (`Inside`). And each step of an open block makes a number smaller (`Measures`), so that its steps come
+//! to an end (`Bounded`). What comes of it all is the reduction without premises (`Reduced`). [`laws`] has the theorems.
 #![tactic(auto)]
 
 pub mod laws;

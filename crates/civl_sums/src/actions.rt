@@ -86,7 +86,7 @@ fn sums_of(program: &Program, action: &Action) -> ActionSums
 }
 
 /// The sums of each action.
-pub(crate) fn action_sums(alloc: Global, program: &Program) -> Result<List<ActionSums>, Memory>
+pub fn action_sums(alloc: Global, program: &Program) -> Result<List<ActionSums>, Memory>
     ensures { IfOk result (AllZip (OfAction program.now) program.now.actions) }
 {
     let actions = program.actions.as_slice();

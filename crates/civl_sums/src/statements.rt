@@ -222,7 +222,8 @@ fn join_weight(
 
 // ---- statements
 
-fn call_weight(program: &Program, actions: &[ActionSums], layer: u32, callee: &Name) -> Weight
+/// The weight of the action that a call of this name means in the program of a layer, or nothing where it means none.
+pub fn call_weight(program: &Program, actions: &[ActionSums], layer: u32, callee: &Name) -> Weight
     requires { AllZip (OfAction program.now) program.now.actions actions.now }
     ensures { Weighs result (option_map_or (action_weight program.now) (action_meant (called (program_at program.now layer) callee.now)) 0) }
 {
@@ -284,8 +285,8 @@ fn called_choices(program: &Program, actions: &[ActionSums], layer: u32, callee:
     }
 }
 
-/// The bits of the choices of a statement.
-fn stmt_choices(program: &Program, actions: &[ActionSums], layer: u32, stmt: &Stmt) -> Weight
+/// The bits of the choices of a statement in the program of a layer.
+pub fn stmt_choices(program: &Program, actions: &[ActionSums], layer: u32, stmt: &Stmt) -> Weight
     requires { AllZip (OfAction program.now) program.now.actions actions.now }
     ensures { Weighs result (choices_bits (layer_choices (program_at program.now layer) (out-Stmt stmt.now))) }
 {

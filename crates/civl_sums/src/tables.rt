@@ -76,7 +76,8 @@ fn args_weight(program: &Program, threads: &[Thread]) -> Weight
     total
 }
 
-fn initial_own(program: &Program, globals: Weight) -> Weight
+/// The weight of `initial` without its variables, where so many globals are linear.
+pub fn initial_own(program: &Program, globals: Weight) -> Weight
     requires { Weighs globals (linear_globals program.now) }
     ensures { Weighs result (initial_own program.now) }
 {

@@ -33,7 +33,7 @@ trial
 trial 0
 trial 9
 trial 1 1
-prove
+prove x
 proof
 proof copy
 proof replay --at 0

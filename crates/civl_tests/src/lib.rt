@@ -24,6 +24,8 @@ mod measuring;
 #[cfg(test)]
 mod models;
 #[cfg(test)]
+mod outlines;
+#[cfg(test)]
 mod parsing;
 #[cfg(test)]
 mod replays;

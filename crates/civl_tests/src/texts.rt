@@ -59,6 +59,8 @@ fn status_of(report: &str) -> Status {
         Status::Refused
     } else if report.starts_with("rejected") {
         Status::Rejected
+    } else if report.starts_with("unproved") {
+        Status::Rejected
     } else if report.starts_with("undecided") {
         Status::Undecided
     } else if report.starts_with("usage") {

@@ -11,7 +11,7 @@ use Rattle.clap.specs.declared.builder.value_parser.ValueParser.TheVariants as v
 use Rattle.clap.proofs.ValueTestLemmas.{accepts-Accepts}
 use Rattle.civl_words.specs.Words.{number_between, number_of, budget_among, place_among, run_of, run_among, making_of, replaying_of, proof_of, proof_among, numbered, called, command_of, most_budget, usual_budget, HasFitNumbers, NumbersFit}
 use Rattle.civl_words.specs.declared.words.Command.{Command}
-use Rattle.civl_words.specs.declared.words.Command.TheVariants.{Check, Conditions, Fmt, RunLow, RunTop, Trial, ProofMake, ProofReplay}
+use Rattle.civl_words.specs.declared.words.Command.TheVariants.{Check, Conditions, Fmt, RunLow, RunTop, Trial, Prove, ProofMake, ProofReplay}
 use Rattle.civl_words.proofs.Numbers.{by}
 
 abbrev AllFit : Option Command → Type 0
@@ -46,6 +46,10 @@ conditions_fit : (o : Option ℕ) → LiesIn 0 most_budget o → AllFit (option_
 conditions_fit None h = tt
 conditions_fit (Some budget) h = h.1
 
+prove_fits : (o : Option ℕ) → LiesIn 0 most_budget o → AllFit (option_map (λ budget. Prove budget) o)
+prove_fits None h = tt
+prove_fits (Some budget) h = h.1
+
 trial_fits : (o : Option ℕ) → LiesIn 1 8 o → AllFit (option_map (λ number. Trial number) o)
 trial_fits None h = tt
 trial_fits (Some number) h = h
@@ -75,12 +79,16 @@ numbered_fit : (name : Text) (rows : List Row) → AllFit (numbered name rows)
 numbered_fit name rows =
     let checked = option_map (λ budget. Check budget) (budget_among rows) in
     let surveyed = option_map (λ budget. Conditions budget) (budget_among rows) in
+    let proved = option_map (λ budget. Prove budget) (budget_among rows) in
     let tried = option_map (λ number. Trial number) (number_of 1 8 (codes "number") rows) in
+    let from_trial = cond (bytes_eq name (codes "trial")) tried None in
+    let from_prove = cond (bytes_eq name (codes "prove")) proved from_trial in
+    let from_conditions = cond (bytes_eq name (codes "conditions")) surveyed from_prove in
     let budget = value_lies 0 most_budget (one_of (codes "budget") rows) in
-    either (bytes_eq name (codes "check")) checked (cond (bytes_eq name (codes "conditions")) surveyed (cond (bytes_eq name (codes "trial")) tried None))
-    (check_fits (budget_among rows) budget)
-    (either (bytes_eq name (codes "conditions")) surveyed (cond (bytes_eq name (codes "trial")) tried None) (conditions_fit (budget_among rows) budget)
-    (either (bytes_eq name (codes "trial")) tried None (trial_fits (number_of 1 8 (codes "number") rows) (value_lies 1 8 (one_of (codes "number") rows))) tt))
+    either (bytes_eq name (codes "check")) checked from_conditions (check_fits (budget_among rows) budget)
+    (either (bytes_eq name (codes "conditions")) surveyed from_prove (conditions_fit (budget_among rows) budget)
+    (either (bytes_eq name (codes "prove")) proved from_trial (prove_fits (budget_among rows) budget)
+    (either (bytes_eq name (codes "trial")) tried None (trial_fits (number_of 1 8 (codes "number") rows) (value_lies 1 8 (one_of (codes "number") rows))) tt)))
 
 called_fits : (name : Text) (rows : List Row) → AllFit (called name rows)
 called_fits name rows =

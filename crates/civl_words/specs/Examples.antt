@@ -1,7 +1,7 @@
 -- Worked examples of words.
 use Rattle.std.specs.Prelude.{◌≡◌, codes, [], ◌∷◌, None, Some}
 use Rattle.civl_words.specs.Words.{command_of}
-use Rattle.civl_words.specs.declared.words.Command.TheVariants.{Check, Conditions, Fmt, RunLow, RunTop, Trial, ProofMake, ProofReplay}
+use Rattle.civl_words.specs.declared.words.Command.TheVariants.{Check, Conditions, Fmt, RunLow, RunTop, Trial, Prove, ProofMake, ProofReplay}
 
 -- each command with its words, and its usual numbers
 abbrev pub EachCommandHasWords : Type 0
@@ -12,6 +12,7 @@ EachCommandHasWords =
     × (command_of (codes "run" ∷ codes "low" ∷ []) ≡ Some RunLow)
     × (command_of (codes "run" ∷ codes "top" ∷ []) ≡ Some RunTop)
     × (command_of (codes "trial" ∷ codes "8" ∷ []) ≡ Some (Trial 8))
+    × (command_of (codes "prove" ∷ []) ≡ Some (Prove 200000))
     × (command_of (codes "proof" ∷ codes "make" ∷ []) ≡ Some (ProofMake 0 200000))
     × (command_of (codes "proof" ∷ codes "replay" ∷ []) ≡ Some ProofReplay)
 
@@ -23,6 +24,7 @@ NumbersAreRead =
     × (command_of (codes "check" ∷ codes "--budget=0010" ∷ []) ≡ Some (Check 10))
     × (command_of (codes "conditions" ∷ codes "--budget" ∷ codes "10000000" ∷ []) ≡ Some (Conditions 10000000))
     × (command_of (codes "trial" ∷ codes "1" ∷ []) ≡ Some (Trial 1))
+    × (command_of (codes "prove" ∷ codes "--budget=50" ∷ []) ≡ Some (Prove 50))
     × (command_of (codes "proof" ∷ codes "make" ∷ codes "--at" ∷ codes "4294967295" ∷ []) ≡ Some (ProofMake 4294967295 200000))
     × (command_of (codes "proof" ∷ codes "--budget" ∷ codes "5" ∷ codes "make" ∷ codes "--at=3" ∷ []) ≡ Some (ProofMake 3 5))
 
@@ -41,6 +43,7 @@ OthersAreNoCommand =
     × (command_of (codes "help" ∷ []) ≡ None)
     × (command_of (codes "--help" ∷ []) ≡ None)
     × (command_of (codes "check" ∷ codes "--help" ∷ []) ≡ None)
-    × (command_of (codes "prove" ∷ []) ≡ None)
+    × (command_of (codes "prove" ∷ codes "make" ∷ []) ≡ None)
+    × (command_of (codes "prove" ∷ codes "--budget" ∷ codes "10000001" ∷ []) ≡ None)
     × (command_of (codes "proof" ∷ codes "replay" ∷ codes "--at" ∷ codes "0" ∷ []) ≡ None)
     × (command_of (codes "proof" ∷ codes "replay" ∷ codes "--budget=200000" ∷ []) ≡ None)

@@ -44,6 +44,9 @@ run_line = with_rule (new_app (codes "run")) (wanted_rule (codes "end"))
 abbrev pub trial_line : App
 trial_line = with_rule (new_app (codes "trial")) trial_number
 
+abbrev pub prove_line : App
+prove_line = with_rule (new_app (codes "prove")) usual_budget_option
+
 abbrev pub proof_line : App
 proof_line = with_rule (with_rule (with_rule (new_app (codes "proof")) (wanted_rule (codes "act"))) place_option) budget_option
 
@@ -56,8 +59,12 @@ with_line whole part = with_subcommand whole part.top
 abbrev pub text_lines : App
 text_lines = with_line (with_line (with_line (new_app (codes "civl")) check_line) conditions_line) fmt_line
 
+-- these, and those that run or try a program
+abbrev pub run_lines : App
+run_lines = with_line (with_line text_lines run_line) trial_line
+
 abbrev pub all_lines : App
-all_lines = with_line (with_line (with_line text_lines run_line) trial_line) proof_line
+all_lines = with_line (with_line run_lines prove_line) proof_line
 
 -- the words after the program's name are read, and one of the subcommands is wanted
 abbrev pub command_line : App

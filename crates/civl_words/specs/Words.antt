@@ -8,7 +8,7 @@ use Rattle.clap.specs.Simple.{subcommand_of}
 use Rattle.clap.specs.Faults.{fault_of}
 use Rattle.civl_words.specs.Line.{command_line}
 use Rattle.civl_words.specs.declared.words.Command.{Command}
-use Rattle.civl_words.specs.declared.words.Command.TheVariants.{Check, Conditions, Fmt, RunLow, RunTop, Trial, ProofMake, ProofReplay}
+use Rattle.civl_words.specs.declared.words.Command.TheVariants.{Check, Conditions, Fmt, RunLow, RunTop, Trial, Prove, ProofMake, ProofReplay}
 
 -- how many clauses a search may learn, where the words don't say so many
 abbrev pub usual_budget : ℕ
@@ -69,6 +69,7 @@ abbrev pub numbered : Text → List Row → Option Command
 numbered name rows =
     if bytes_eq name (codes "check") then option_map (λ budget. Check budget) (budget_among rows)
     else if bytes_eq name (codes "conditions") then option_map (λ budget. Conditions budget) (budget_among rows)
+    else if bytes_eq name (codes "prove") then option_map (λ budget. Prove budget) (budget_among rows)
     else if bytes_eq name (codes "trial") then option_map (λ number. Trial number) (number_of 1 8 (codes "number") rows)
     else None
 
@@ -98,6 +99,7 @@ abbrev pub HasFitNumbers : Command → Type 0
 HasFitNumbers (Check budget) = budget ≤ most_budget
 HasFitNumbers (Conditions budget) = budget ≤ most_budget
 HasFitNumbers (Trial number) = (1 ≤ number) × (number ≤ 8)
+HasFitNumbers (Prove budget) = budget ≤ most_budget
 HasFitNumbers (ProofMake place budget) = budget ≤ most_budget
 HasFitNumbers _ = ⊤
 

@@ -3,7 +3,7 @@ ghost use Rattle.std.specs.Prelude.{◌≡◌, IfOk, false, codes};
 ghost use Rattle.clap.specs.Walk.{rule_of};
 ghost use Rattle.clap.specs.declared.builder.Command.TheViews.{out-Command as fields_of};
 ghost use Rattle.clap.specs.Simple.{app_of};
-ghost use Rattle.civl_words.specs.Line.{budget_option, usual_budget_option, place_option, trial_number, wanted_rule, check_line, conditions_line, fmt_line, text_lines, run_line, trial_line, proof_line, all_lines, command_line};
+ghost use Rattle.civl_words.specs.Line.{budget_option, usual_budget_option, place_option, trial_number, wanted_rule, check_line, conditions_line, fmt_line, text_lines, run_line, trial_line, run_lines, prove_line, proof_line, all_lines, command_line};
 
 use clap::{Arg, Command, value_parser};
 use std::alloc::{AllocError, Global};
@@ -85,6 +85,12 @@ fn trial_line<'a>(alloc: Global) -> Result<Command<'a>, AllocError>
     Command::new(alloc, "trial").arg(trial_number(alloc))
 }
 
+fn prove_line<'a>(alloc: Global) -> Result<Command<'a>, AllocError>
+    ensures { IfOk result (λ c. (app_of c ≡ prove_line) × ((fields_of c).has_globals ≡ false)) }
+{
+    Command::new(alloc, "prove").arg(usual_budget_option(alloc))
+}
+
 fn proof_line<'a>(alloc: Global) -> Result<Command<'a>, AllocError>
     ensures { IfOk result (λ c. (app_of c ≡ proof_line) × ((fields_of c).has_globals ≡ false)) }
 {
@@ -104,13 +110,21 @@ fn text_lines<'a>(alloc: Global) -> Result<Command<'a>, AllocError>
         .subcommand(fmt_line(alloc))
 }
 
+/// These, and those that run or try a program.
+fn run_lines<'a>(alloc: Global) -> Result<Command<'a>, AllocError>
+    ensures { IfOk result (λ c. (app_of c ≡ run_lines) × ((fields_of c).has_globals ≡ false)) }
+{
+    text_lines(alloc)?
+        .subcommand(run_line(alloc)?)?
+        .subcommand(trial_line(alloc)?)
+}
+
 /// All commands.
 fn all_lines<'a>(alloc: Global) -> Result<Command<'a>, AllocError>
     ensures { IfOk result (λ c. app_of c ≡ all_lines) }
 {
-    text_lines(alloc)?
-        .subcommand(run_line(alloc)?)?
-        .subcommand(trial_line(alloc)?)?
+    run_lines(alloc)?
+        .subcommand(prove_line(alloc)?)?
         .subcommand(proof_line(alloc)?)
 }
 

@@ -31,6 +31,8 @@ pub enum Command {
     RunTop,
     /// `trial`: the verdict on the trial program of so many copies, from 1 to 8.
     Trial(u32),
+    /// `prove`: what is found of an outline of a program, where each search may learn so many clauses.
+    Prove(u32),
     /// `proof make`: a certificate of the condition at a place, for which a search may learn so many clauses.
     ProofMake(u32, u32),
     /// `proof replay`: whether a certificate stands.
@@ -170,6 +172,10 @@ fn numbered(name: &str, matches: &ArgMatches) -> Option<Command>
     if name == "conditions" {
         let budget = budget_among(matches)?;
         return Some(Command::Conditions(budget));
+    }
+    if name == "prove" {
+        let budget = budget_among(matches)?;
+        return Some(Command::Prove(budget));
     }
     if name == "trial" {
         let number = number_of(matches, "number", 1, 8)?;

@@ -88,7 +88,7 @@ module _ (keep : ActionsKeepPermissions) (program : Program) (layer : ℕ) (stor
 
   pub safe_at_yield : AllIsCalm program layer s → is_challenged program layer s ≡ false → at_yield (rest_of f) ≡ true → Safe
   safe_at_yield calm unchallenged yields =
-      at_end (chain_ends keep program layer store s t f r thread there framed nothing_said (λ c cut b end p assumed concludes ends done fits sorts so. so) calm unchallenged yields tt)
+      at_end (chain_ends keep program layer store s t f r thread there framed (λ x ls. Unit {0}) (λ x h. tt) nothing_said (λ c cut b end p assumed concludes ends done fits sorts stops so. so) calm unchallenged yields tt)
 
 -- ---- behind block runs
 

@@ -4,6 +4,7 @@ use Rattle.std.specs.Prelude.{if◌then◌else◌}
 use Rattle.std.proofs.lemmas.Bool.{false≢true}
 use Rattle.std.proofs.lemmas.Option.{same_Some, none-some}
 use Rattle.std.proofs.lemmas.List.{map-append}
+use Rattle.civl_bits.specs.declared.value.Value.{Value}
 use Rattle.civl_tree.specs.declared.program.Proc.{Proc}
 use Rattle.civl_tree.specs.declared.program.Program.{Program}
 use Rattle.civl_firing.specs.declared.store.Store.{Store}
@@ -39,8 +40,9 @@ use Rattle.std.proofs.Common.{append_assoc}
 use Rattle.std.proofs.lemmas.List.{append-nil}
 use Rattle.civl_interleavings.specs.Runs.{Opens}
 use Rattle.civl_conditions.specs.Assumed.{inputs_of}
-use Rattle.civl_simulation.specs.Refined.{Sight, IsRefined, sight, sight_before, last_frame, BlockIsRefined}
-use Rattle.civl_simulation.specs.Joined.{ConclusionsRefine, RefinedJoin}
+use Rattle.civl_simulation.proofs.Refined.Joining.{JoinAnyhow}
+use Rattle.civl_simulation.specs.Refined.{Sight, IsRefined, IsPickedBefore, IsPicked, sight, sight_before, last_frame, BlockIsRefined}
+use Rattle.civl_simulation.specs.Joined.{ConclusionsRefine}
 use Rattle.civl_staged.proofs.Inside.Beside.{inside_frame}
 use Rattle.civl_simulation.specs.Sound.{BlocksAreRefined}
 use Rattle.civl_simulation.specs.Carried.{IsCarried, StepCarries, CallsCarry, OpenBlocksCarry, YieldsCarry, CheckedAreRefined}
@@ -62,7 +64,7 @@ outside_frame f h = go (at_yield (rest_of f)) refl h
     go true e k = e
     go false e k = absurd (false≢true (sym k))
 
-module _ (keep : ActionsKeepPermissions) (in_roots : SpawnsAreInRoots) (stages_are_runs : StagesAreRuns) (beside : StagesAreBeside) (calls : CallsCarry) (open_step : OpenBlocksCarry) (yields_step : YieldsCarry) (conclude : ConclusionsRefine) (join : RefinedJoin) (program : Program) (layer : ℕ) (store : Store) (checked : IsChecked program layer store) where
+module _ (keep : ActionsKeepPermissions) (in_roots : SpawnsAreInRoots) (stages_are_runs : StagesAreRuns) (beside : StagesAreBeside) (calls : CallsCarry) (open_step : OpenBlocksCarry) (yields_step : YieldsCarry) (conclude : ConclusionsRefine) (join : JoinAnyhow) (program : Program) (layer : ℕ) (store : Store) (checked : IsChecked program layer store) where
   abbrev plain : Plain
   plain = program_at program layer
 
@@ -87,9 +89,12 @@ module _ (keep : ActionsKeepPermissions) (in_roots : SpawnsAreInRoots) (stages_a
   abbrev began : Shadowed → ℕ → Sight
   began from u = sight_before program layer from u (frame_at program (layer + 1) from.config.threads u)
 
+  abbrev picked : Shadowed → ℕ → List Value → Type 0
+  picked from u = IsPickedBefore program layer from u (frame_at program (layer + 1) from.config.threads u)
+
   abbrev Has : Shadowed → List (Move Chosen) → Option ℕ → ℕ → Type 0
   Has from ms None u = shadowed program layer store (map plain_move ms) ≡ from
-  Has from ms (Some v) u = (o : BlockIsOpen program layer (shadowed program layer store (map plain_move ms)) u) × StandsThere o × IsCarried (began from u) o
+  Has from ms (Some v) u = (o : BlockIsOpen program layer (shadowed program layer store (map plain_move ms)) u) × StandsThere o × IsCarried (picked from u) (began from u) o
 
   module _ (ms : List (Move Chosen)) (o : Option ℕ) (c : Config Store Running) (staged : Staged (layer_system program layer store (challenged program layer store)) ms o c) (m : Move Chosen) (d : Config Store Running)
       (may : MayStep o m.thread) (step : threads.step_of (layer_threads program layer store) c m ≡ Some d)
@@ -140,45 +145,45 @@ module _ (keep : ActionsKeepPermissions) (in_roots : SpawnsAreInRoots) (stages_a
 
     -- ---- what the step leaves
 
-    from_open : (x : BlockIsOpen program layer s m.thread) → StandsThere x → IsCarried (began from m.thread) x → OneIsInside program layer c (Some m.thread) → StepCarries program layer (began from m.thread) s.config (shadowed_step program layer s pm) m.thread
+    from_open : (x : BlockIsOpen program layer s m.thread) → StandsThere x → IsCarried (picked from m.thread) (began from m.thread) x → OneIsInside program layer c (Some m.thread) → StepCarries (picked from m.thread) program layer (began from m.thread) s.config (shadowed_step program layer s pm) m.thread
     from_open x stands carried one =
         let frame = inside_frame program layer (frame_of_layer program (layer + 1) one.0.thread) one.0.inside_one in
         let its : frame_at program (layer + 1) s.config.threads m.thread ≡ Some frame.0 = ap (λ (y : config.Config). frame_at program (layer + 1) y.threads m.thread) was.config_is ∙ (ap (frame_in program (layer + 1)) one.0.there ∙ frame.1) in
         let same_frame : x.f ≡ frame.0 = same_Some x.f frame.0 (sym (ap (frame_in program (layer + 1)) x.there ∙ x.framed) ∙ its) in
         let on : at_yield (rest_of x.f) ≡ false = ap (λ (y : Proc × Activation). at_yield (rest_of y)) same_frame ∙ frame.2 in
         let goes_on : GoesOn x = ap (λ (p : ℕ). at_yield (rest_at x.f.0.body p)) stands ∙ on in
-        subst (λ (z : Shadowed). StepCarries program layer (began from m.thread) s.config z m.thread) (still_next (still (Some frame.0) its (λ f e. ap (λ (y : Proc × Activation). at_yield (rest_of y)) (sym (same_Some frame.0 f e)) ∙ frame.2)))
-        (open_step program layer store s pm (plain_config d) r is_move made x goes_on (began from m.thread) carried)
+        subst (λ (z : Shadowed). StepCarries (picked from m.thread) program layer (began from m.thread) s.config z m.thread) (still_next (still (Some frame.0) its (λ f e. ap (λ (y : Proc × Activation). at_yield (rest_of y)) (sym (same_Some frame.0 f e)) ∙ frame.2)))
+        (open_step program layer store s pm (plain_config d) r is_move made x goes_on (picked from m.thread) (began from m.thread) carried)
 
-    from_calm : s ≡ from → AllIsCalm program layer s → OneIsInside program layer c None → challenged program layer store (map plain_move ms) ≡ false → StepCarries program layer (began from m.thread) s.config (shadowed_step program layer s pm) m.thread
+    from_calm : s ≡ from → AllIsCalm program layer s → OneIsInside program layer c None → challenged program layer store (map plain_move ms) ≡ false → StepCarries (picked from m.thread) program layer (began from m.thread) s.config (shadowed_step program layer s pm) m.thread
     from_calm here calm none_inside not_so =
-        subst (λ (z : Shadowed). StepCarries program layer (began z m.thread) s.config (shadowed_step program layer s pm) m.thread) here
+        subst (λ (z : Shadowed). StepCarries (picked z m.thread) program layer (began z m.thread) s.config (shadowed_step program layer s pm) m.thread) here
         (by_frames (frame_at program (layer + 1) s.config.threads m.thread) refl (frame_at program (layer + 1) d.threads m.thread) refl)
       where
         by_frames : (x : Option (Proc × Activation)) → frame_at program (layer + 1) s.config.threads m.thread ≡ x → (y : Option (Proc × Activation)) → frame_at program (layer + 1) d.threads m.thread ≡ y
-            → StepCarries program layer (began s m.thread) s.config (shadowed_step program layer s pm) m.thread
+            → StepCarries (picked s m.thread) program layer (began s m.thread) s.config (shadowed_step program layer s pm) m.thread
         by_frames None e None q = inr (
           ap (λ (z : Shadowed). frame_at program (layer + 1) z.config.threads m.thread) next_is ∙ q,
           (steps_outside_keep_calm keep in_roots program layer store r.moves s pm (plain_config d) checked r.are r.runs is_move made e q calm).fits,
           λ f is. absurd (none-some f (sym e ∙ is)),
         )
         by_frames None e (Some f) q =
-            subst (λ (z : Shadowed). StepCarries program layer (began s m.thread) s.config z m.thread) (still_next (still None e (λ f h. absurd (none-some f h))))
-            (subst (λ (x : Option (Proc × Activation)). StepCarries program layer (sight_before program layer s m.thread x) s.config (stepped program layer s pm (plain_config d)) m.thread) (sym e)
-            (inl (calls program layer store s pm (plain_config d) f r is_move made calm not_so e q)))
+            subst (λ (z : Shadowed). StepCarries (picked s m.thread) program layer (began s m.thread) s.config z m.thread) (still_next (still None e (λ f h. absurd (none-some f h))))
+            (subst (λ (x : Option (Proc × Activation)). StepCarries (IsPickedBefore program layer s m.thread x) program layer (sight_before program layer s m.thread x) s.config (stepped program layer s pm (plain_config d)) m.thread) (sym e)
+            (inl (calls program layer store s pm (plain_config d) f r is_move made calm not_so e q (IsPickedBefore program layer s m.thread None))))
         by_frames (Some f) e y q =
             let t = frame_then m.thread f e in
             let out = none_inside m.thread t.0 t.1 in
             let yields = outside_frame f (sym (ap (λ (z : Option (Proc × Activation)). is_some (block_in z)) t.2) ∙ out) in
-            subst (λ (z : Shadowed). StepCarries program layer (began s m.thread) s.config z m.thread) (sym next_is)
-            (subst (λ (x : Option (Proc × Activation)). StepCarries program layer (sight_before program layer s m.thread x) s.config (stepped program layer g pm (plain_config d)) m.thread) (sym e)
+            subst (λ (z : Shadowed). StepCarries (picked s m.thread) program layer (began s m.thread) s.config z m.thread) (sym next_is)
+            (subst (λ (x : Option (Proc × Activation)). StepCarries (IsPickedBefore program layer s m.thread x) program layer (sight_before program layer s m.thread x) s.config (stepped program layer g pm (plain_config d)) m.thread) (sym e)
             (yields_step program layer store s pm (plain_config d) f r is_move made calm not_so e yields))
 
-    step_carries : StepCarries program layer (began from m.thread) s.config (shadowed_step program layer s pm) m.thread
+    step_carries : StepCarries (picked from m.thread) program layer (began from m.thread) s.config (shadowed_step program layer s pm) m.thread
     step_carries = by_open o refl was.beside standing may has
       where
         by_open : (x : Option ℕ) → o ≡ x → Beside program layer (shadowed program layer store (map plain_move ms)) x → OneIsInside program layer c x → MayStep x m.thread → Has from ms x m.thread
-            → StepCarries program layer (began from m.thread) (shadowed program layer store (map plain_move ms)).config (shadowed_step program layer (shadowed program layer store (map plain_move ms)) (plain_move m)) m.thread
+            → StepCarries (picked from m.thread) program layer (began from m.thread) (shadowed program layer store (map plain_move ms)).config (shadowed_step program layer (shadowed program layer store (map plain_move ms)) (plain_move m)) m.thread
         by_open None e b n may here = from_calm here b n (unchallenged staged e)
         by_open (Some t) e b n may x = from_open x.0 x.1 x.2 (subst (λ (u : ℕ). OneIsInside program layer c (Some u)) (sym may) n)
 
@@ -195,8 +200,8 @@ module _ (keep : ActionsKeepPermissions) (in_roots : SpawnsAreInRoots) (stages_a
     more_config : more.config ≡ plain_config d
     more_config = ap (λ (z : Shadowed). z.config) (more_is ∙ next_is)
 
-    carries_more : StepCarries program layer (began from m.thread) s.config more m.thread
-    carries_more = subst (λ (z : Shadowed). StepCarries program layer (began from m.thread) s.config z m.thread) (sym more_is) step_carries
+    carries_more : StepCarries (picked from m.thread) program layer (began from m.thread) s.config more m.thread
+    carries_more = subst (λ (z : Shadowed). StepCarries (picked from m.thread) program layer (began from m.thread) s.config z m.thread) (sym more_is) step_carries
 
     frame_more : frame_at program (layer + 1) more.config.threads m.thread ≡ frame_in program (layer + 1) (slice_get d.threads m.thread)
     frame_more = ap (λ (x : config.Config). frame_at program (layer + 1) x.threads m.thread) more_config
@@ -212,7 +217,7 @@ module _ (keep : ActionsKeepPermissions) (in_roots : SpawnsAreInRoots) (stages_a
     goes_on : inside_in (layer_threads program layer store) (slice_get d.threads m.thread) ≡ true → Has from (ms ++ m ∷ []) (Some m.thread) m.thread
     goes_on inside_one = go carries_more
       where
-        go : StepCarries program layer (began from m.thread) s.config (shadowed program layer store (map plain_move (ms ++ m ∷ []))) m.thread → Has from (ms ++ m ∷ []) (Some m.thread) m.thread
+        go : StepCarries (picked from m.thread) program layer (began from m.thread) s.config (shadowed program layer store (map plain_move (ms ++ m ∷ []))) m.thread → Has from (ms ++ m ∷ []) (Some m.thread) m.thread
         go (inl x) = x
         go (inr x) =
             let f = inside_frame program layer (frame_in program (layer + 1) (slice_get d.threads m.thread)) (in_frame true inside_one) in
@@ -221,13 +226,13 @@ module _ (keep : ActionsKeepPermissions) (in_roots : SpawnsAreInRoots) (stages_a
     ends_refined : inside_in (layer_threads program layer store) (slice_get d.threads m.thread) ≡ false → BlockIsRefined program layer from s (shadowed program layer store (map plain_move (ms ++ m ∷ []))) m.thread
     ends_refined outside_one = go carries_more
       where
-        go : StepCarries program layer (began from m.thread) s.config (shadowed program layer store (map plain_move (ms ++ m ∷ []))) m.thread → BlockIsRefined program layer from s (shadowed program layer store (map plain_move (ms ++ m ∷ []))) m.thread
+        go : StepCarries (picked from m.thread) program layer (began from m.thread) s.config (shadowed program layer store (map plain_move (ms ++ m ∷ []))) m.thread → BlockIsRefined program layer from s (shadowed program layer store (map plain_move (ms ++ m ∷ []))) m.thread
         go (inl x) = record {
           fits = x.0.fits;
           refined = λ f is.
-              subst (λ (h : Proc × Activation). IsRefined program (layer + 1) h.0 (inputs_of h.0 h.1.locals) (began from m.thread) (sight program layer more m.thread h))
+              subst (λ (h : Proc × Activation). IsRefined (IsPicked program layer from more m.thread h) program (layer + 1) h.0 (inputs_of h.0 h.1.locals) (began from m.thread) (sight program layer more m.thread h))
               (same_Some x.0.f f (sym (ap (λ (y : Option (Proc × Activation)). last_frame y (frame_at program (layer + 1) s.config.threads m.thread)) its) ∙ is))
-              (yield_refined conclude join keep program layer store more m.thread (reached (ends m d (bold staged) may step outside_one refl) more.config more_config) x.0 (began from m.thread) x.2 x.1 yields);
+              (yield_refined conclude join keep program layer store more m.thread (reached (ends m d (bold staged) may step outside_one refl) more.config more_config) x.0 (picked from m.thread) (began from m.thread) x.2 x.1 yields);
           exit = λ f none is. absurd (none-some x.0.f (sym none ∙ its));
         }
           where
@@ -265,5 +270,5 @@ module _ (keep : ActionsKeepPermissions) (in_roots : SpawnsAreInRoots) (stages_a
   blocks_refined moves block last from before to staged opens made outside_one =
       run (shadowed program layer store (map plain_move moves)) last before to made outside_one block moves None from staged tt refl opens
 
-pub checked_are_refined : ActionsKeepPermissions → SpawnsAreInRoots → StagesAreRuns → StagesAreBeside → CallsCarry → OpenBlocksCarry → YieldsCarry → ConclusionsRefine → RefinedJoin → CheckedAreRefined
+pub checked_are_refined : ActionsKeepPermissions → SpawnsAreInRoots → StagesAreRuns → StagesAreBeside → CallsCarry → OpenBlocksCarry → YieldsCarry → ConclusionsRefine → JoinAnyhow → CheckedAreRefined
 checked_are_refined keep in_roots runs beside calls open_step yields conclude join program layer store checked = blocks_refined keep in_roots runs beside calls open_step yields conclude join program layer store checked

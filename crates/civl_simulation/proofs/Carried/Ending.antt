@@ -1,5 +1,5 @@
 -- Where an open block ends it is refined from its beginning.
-use Rattle.std.proofs.Common.{◌≡◌, ℕ, ◌+◌, Bool, true, not, List, [], Option, Some, refl, sym, ap, ◌∙◌, subst}
+use Rattle.std.proofs.Common.{◌≡◌, ℕ, ◌+◌, Bool, true, not, List, [], Option, Some, refl, sym, ap, ◌∙◌, subst, inl, inr, ◌⊎◌}
 use Rattle.std.specs.Prelude.{IsTrue}
 use Rattle.std.specs.Option.{option_map_or}
 use Rattle.std.proofs.lemmas.Bool.{false≢true}
@@ -39,14 +39,15 @@ use Rattle.civl_paths.specs.Seen.{IsProcOf}
 use Rattle.civl_layers.specs.Layered.{IsLayered}
 use Rattle.civl_blocks.specs.Blocks.{at_yield, rest_of}
 use Rattle.std.proofs.lemmas.Bool.{eq-eqb}
-use Rattle.civl_simulation.specs.Refined.{Sight, IsRefined, sight}
-use Rattle.civl_simulation.specs.Joined.{RefinedJoin, ConclusionsRefine, sight_old, sight_at}
+use Rattle.civl_simulation.specs.Refined.{Sight, IsRefined, with_values, sight}
+use Rattle.civl_simulation.specs.Joined.{ConclusionsRefine, sight_old, sight_at}
 use Rattle.civl_simulation.specs.Carried.{IsCarried}
+use Rattle.civl_simulation.proofs.Refined.Joining.{JoinAnyhow, refined_weaker}
 
 pub exit_is_exit : (proc : Proc) → is_exit proc (exit_of proc) ≡ true
 exit_is_exit proc = eq-eqb (exit_of proc) (exit_of proc) refl
 
-module _ (conclude : ConclusionsRefine) (join : RefinedJoin) (keep : ActionsKeepPermissions) (program : Program) (layer : ℕ) (store : Store) (s : Shadowed) (t : ℕ) (r : IsReached program layer store s.config) (o : BlockIsOpen program layer s t) (began : Sight) (carried : IsCarried began o) where
+module _ (conclude : ConclusionsRefine) (join : JoinAnyhow) (keep : ActionsKeepPermissions) (program : Program) (layer : ℕ) (store : Store) (s : Shadowed) (t : ℕ) (r : IsReached program layer store s.config) (o : BlockIsOpen program layer s t) (picked : List Value → Type 0) (began : Sight) (carried : IsCarried picked began o) where
   abbrev H : Progress
   H = led_here program (layer + 1) o.f.0 o.here
 
@@ -83,12 +84,21 @@ module _ (conclude : ConclusionsRefine) (join : RefinedJoin) (keep : ActionsKeep
       ∙ (ap (λ (z : Bool). record { store = seen program layer s; done = z; outs = outs_in o.f.0 H.locals }) o.done
       ∙ ap (λ (ls : List Value). record { store = seen program layer s; done = s.shadow.done t; outs = outs_in o.f.0 ls }) same_locals)
 
-  pub block_refined : (end : ℕ) → ends_block o.f.0 end ≡ true → Concludes program (layer + 1) o.c o.f.0 o.cut o.b end H → IsRefined program (layer + 1) o.f.0 (inputs_of o.f.0 o.f.1.locals) began (sight program layer s t o.f)
+  -- with choices that are picked at this end or as before
+  abbrev pub Ends : List Value → Type 0
+  Ends chosen = (chosen ≡ with_values program o.f.0 (seen program layer s) o.f.1.locals) ⊎ picked chosen
+
+  picked_here : (chosen : List Value) → chosen ≡ with_values program o.f.0 H.store H.locals → Ends chosen
+  picked_here chosen e = inl (e ∙ (ap (λ (z : Store). with_values program o.f.0 z H.locals) o.store ∙ ap (λ (ls : List Value). with_values program o.f.0 (seen program layer s) ls) same_locals))
+
+  pub block_refined : (end : ℕ) → ends_block o.f.0 end ≡ true → Concludes program (layer + 1) o.c o.f.0 o.cut o.b end H → IsRefined Ends program (layer + 1) o.f.0 (inputs_of o.f.0 o.f.1.locals) began (sight program layer s t o.f)
   block_refined end ends k =
-      subst (λ (is : List Value). IsRefined program (layer + 1) o.f.0 is began (sight program layer s t o.f)) inputs_same
-      (join program o.f.1.procedure (layer + 1) o.f.0 (inputs_of o.f.0 o.b.locals) began (sight_old o.b) (sight program layer s t o.f) layered of carried
-      (subst (IsRefined program (layer + 1) o.f.0 (inputs_of o.f.0 o.b.locals) (sight_old o.b)) sight_is
-      (conclude program (layer + 1) o.f.1.procedure o.c o.f.0 o.cut o.b end H layered o.opened.assumed k ends stays_done H_fits (subst (λ (ls : List Value). HaveSorts ls (frame_sorts o.f.0)) (sym same_locals) frame_sorted))))
+      subst (λ (is : List Value). IsRefined Ends program (layer + 1) o.f.0 is began (sight program layer s t o.f)) inputs_same
+      (join Ends program o.f.1.procedure (layer + 1) o.f.0 (inputs_of o.f.0 o.b.locals) began (sight_old o.b) (sight program layer s t o.f) layered of
+      (refined_weaker picked Ends (λ chosen p. inr p) program (layer + 1) o.f.0 (inputs_of o.f.0 o.b.locals) began (sight_old o.b) carried)
+      (subst (IsRefined Ends program (layer + 1) o.f.0 (inputs_of o.f.0 o.b.locals) (sight_old o.b)) sight_is
+      (refined_weaker (λ chosen. chosen ≡ with_values program o.f.0 H.store H.locals) Ends picked_here program (layer + 1) o.f.0 (inputs_of o.f.0 o.b.locals) (sight_old o.b) (sight_at o.f.0 H)
+      (conclude program (layer + 1) o.f.1.procedure o.c o.f.0 o.cut o.b end H layered o.opened.assumed k ends stays_done H_fits (subst (λ (ls : List Value). HaveSorts ls (frame_sorts o.f.0)) (sym same_locals) frame_sorted)))))
 
   -- ---- at a yield
 
@@ -110,10 +120,10 @@ module _ (conclude : ConclusionsRefine) (join : RefinedJoin) (keep : ActionsKeep
         subst (λ (n : ℕ). Concludes program (layer + 1) o.c o.f.0 o.cut o.b n (led_here program (layer + 1) o.f.0 o.here)) (sym stands.number)
         ((open_blocks_conclude program (layer + 1) o.f.1.procedure o.c o.f.0 o.cut o.b o.bound o.here s.config.store o.f.1 (sound program layer store r.checked) o.opened).0 cut.statement ahead)
 
-    at_yield_refined : IsRefined program (layer + 1) o.f.0 (inputs_of o.f.0 o.f.1.locals) began (sight program layer s t o.f)
+    at_yield_refined : IsRefined Ends program (layer + 1) o.f.0 (inputs_of o.f.0 o.f.1.locals) began (sight program layer s t o.f)
     at_yield_refined = block_refined y ends concludes
 
-  pub yield_refined : StandsThere o → IsTrue (at_yield (rest_of o.f)) → IsRefined program (layer + 1) o.f.0 (inputs_of o.f.0 o.f.1.locals) began (sight program layer s t o.f)
+  pub yield_refined : StandsThere o → IsTrue (at_yield (rest_of o.f)) → IsRefined Ends program (layer + 1) o.f.0 (inputs_of o.f.0 o.f.1.locals) began (sight program layer s t o.f)
   yield_refined there yields =
       let first = frames_stand_at_cuts program (layer + 1) o.thread o.f o.framed yields in
       at_yield_refined there first.0 first.1 first.2

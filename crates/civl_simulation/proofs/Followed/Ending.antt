@@ -1,5 +1,5 @@
 -- A block that is refined is followed by no step, or by one of the refined action.
-use Rattle.std.proofs.Common.{◌≡◌, ℕ, ◌+◌, Bool, true, false, List, [], ◌∷◌, refl, sym, ap, ◌∙◌, subst, Some, slice_get, slice_set}
+use Rattle.std.proofs.Common.{◌≡◌, ℕ, ◌+◌, Bool, true, false, List, [], ◌∷◌, refl, sym, ap, ◌∙◌, subst, None, Some, slice_get, slice_set, inl, inr, ◌⊎◌}
 use Rattle.std.specs.Prelude.{if◌then◌else◌}
 use Rattle.std.proofs.lemmas.Bool.{false≢true}
 use Rattle.std.proofs.lemmas.List.{append-nil}
@@ -29,10 +29,12 @@ use Rattle.civl_exchanges.specs.Interleavings.{Chosen, Call, whole, as_config}
 use Rattle.civl_permissions.specs.Apart.{SpawnsStandInRoots}
 use Rattle.civl_checked.specs.Checked.{IsChecked}
 use Rattle.civl_blocks.specs.Blocks.{inside}
+use Rattle.civl_blocks.specs.Cuts.{frame_at}
+use Rattle.civl_blocks.specs.Shadow.{Shadowed}
 use Rattle.civl_blocks.specs.Reduces.{plain_config, layer_threads}
 use Rattle.civl_simulation.specs.Meets.{behind}
 use Rattle.civl_simulation.proofs.Meets.Above.{Instead}
-use Rattle.civl_simulation.specs.Refined.{Sight, Acts, IsRefined}
+use Rattle.civl_simulation.specs.Refined.{Sight, Acts, IsRefined, sight, sight_before, last_frame}
 use Rattle.civl_simulation.proofs.Followed.Pairs.{get_other, get_same}
 use Rattle.civl_simulation.proofs.Followed.Steps.{makes, Fires, calls_so}
 use Rattle.civl_simulation.proofs.Followed.Acting.{same_gate, fires_too}
@@ -51,8 +53,21 @@ module _ (program : Program) (layer : ℕ) (store : Store) (k : IsChecked progra
   abbrev pub stands_beside : Running → Sight → Running
   stands_beside caller sight = if sight.done then behind caller (doing upper caller) sight.outs else caller
 
+  -- no move, where no new commit was passed, and else one with choices that are picked so
+  abbrev pub HowMoved : (List Value → Type 0) → ℕ → Sight → Sight → List (Move Chosen) → Type 0
+  HowMoved picked t before after moves =
+      ((after.done ≡ before.done) × (moves ≡ []))
+      ⊎ ((before.done ≡ false) × (after.done ≡ true) × (chosen : Chosen) × picked chosen.0 × (moves ≡ record { thread = t; chosen = chosen } ∷ []))
+
+  -- how a block, or a step outside the layer's procedures, is followed: the step by itself; a block by HowMoved
+  abbrev pub HowFollowed : (Proc × Activation → List Value → Type 0) → Shadowed → Shadowed → Shadowed → Move Chosen → List (Move Chosen) → Type 0
+  HowFollowed picked from last to m ns =
+      ((last_frame (frame_at program (layer + 1) to.config.threads m.thread) (frame_at program (layer + 1) last.config.threads m.thread) ≡ None) × (ns ≡ m ∷ []))
+      ⊎ ((f : Proc × Activation) × (last_frame (frame_at program (layer + 1) to.config.threads m.thread) (frame_at program (layer + 1) last.config.threads m.thread) ≡ Some f)
+      × HowMoved (picked f) m.thread (sight_before program layer from m.thread (frame_at program (layer + 1) from.config.threads m.thread)) (sight program layer to m.thread f) ns)
+
   -- a run of the upper program from x, behind which the caller stands so and the stores agree
-  pub record Followed (x : meaning.Config) (t : ℕ) (caller : Running) (after : Sight) : Type 0 where
+  pub record Followed (picked : List Value → Type 0) (x : meaning.Config) (t : ℕ) (caller : Running) (before after : Sight) : Type 0 where
     pub moves : List (Move Chosen)
     pub end : Config Store Running
     pub runs : RunsTo (stepping_of Q) moves (as_config x) end
@@ -60,11 +75,12 @@ module _ (program : Program) (layer : ℕ) (store : Store) (k : IsChecked progra
     pub near : StoresAgree (exists_at (layer + 1)) program.globals after.store end.store
     pub others : OthersSame t x.threads end.threads
     pub there : slice_get end.threads t ≡ Some (stands_beside caller after)
+    pub how : HowMoved picked t before after moves
 
-  module _ (x : meaning.Config) (of_upper : IsOf upper x) (t : ℕ) (caller : Running) (before after : Sight) (high : slice_get x.threads t ≡ Some (stands_beside caller before)) (near : StoresAgree (exists_at (layer + 1)) program.globals before.store x.store)
-      (f : Proc × Activation) (inst : Instead program layer f caller) (r : IsRefined program (layer + 1) f.0 (inputs_of f.0 f.1.locals) before after) where
+  module _ (picked : List Value → Type 0) (x : meaning.Config) (of_upper : IsOf upper x) (t : ℕ) (caller : Running) (before after : Sight) (high : slice_get x.threads t ≡ Some (stands_beside caller before)) (near : StoresAgree (exists_at (layer + 1)) program.globals before.store x.store)
+      (f : Proc × Activation) (inst : Instead program layer f caller) (r : IsRefined picked program (layer + 1) f.0 (inputs_of f.0 f.1.locals) before after) where
     -- no step
-    waits : after.done ≡ before.done → stands_beside caller before ≡ stands_beside caller after → Followed x t caller after
+    waits : after.done ≡ before.done → stands_beside caller before ≡ stands_beside caller after → Followed picked x t caller before after
     waits e same = record {
       moves = [];
       end = as_config x;
@@ -73,11 +89,12 @@ module _ (program : Program) (layer : ℕ) (store : Store) (k : IsChecked progra
       near = agree_then (exists_at (layer + 1)) program.globals after.store.values before.store.values x.store.values (agree_back (exists_at (layer + 1)) program.globals before.store.values after.store.values (r.same e)) near;
       others = λ u n. refl;
       there = high ∙ ap (λ (q : Running). Some q) same;
+      how = inl (e, refl);
     }
 
     -- the step of the action
-    acts_so : (slice_get x.threads t ≡ Some caller) → Acts program (layer + 1) f.0 (inputs_of f.0 f.1.locals) before after → after.done ≡ true → Followed x t caller after
-    acts_so at a d =
+    acts_so : (slice_get x.threads t ≡ Some caller) → before.done ≡ false → Acts picked program (layer + 1) f.0 (inputs_of f.0 f.1.locals) before after → after.done ≡ true → Followed picked x t caller before after
+    acts_so at n a d =
         let inputs = inputs_of f.0 f.1.locals in
         let same : a.action ≡ inst.action = same_Some a.action inst.action (sym a.refined ∙ inst.refined) in
         let calls : doing upper caller ≡ does.Calls inst.names inst.locals inst.results inst.next a.action inputs = inst.calls ∙ ap (λ (c : Action). does.Calls inst.names inst.locals inst.results inst.next c inputs) (sym same) in
@@ -96,6 +113,7 @@ module _ (program : Program) (layer : ℕ) (store : Store) (k : IsChecked progra
           moves = move ∷ [];
           end = end;
           runs = (end, step, refl);
+          how = inr (n, d, chosen, a.picks, refl);
           of_upper = of_next program layer store k roots (layer + 1) (as_config x) move end step of_upper;
           near = agree_then (exists_at (layer + 1)) program.globals after.store.values a.to.values too.to_store.values (agree_back (exists_at (layer + 1)) program.globals a.to.values after.store.values a.globals) too.agree;
           others = λ u n. ap (λ (l : List Running). slice_get l u) (append-nil (slice_set x.threads t new)) ∙ get_other x.threads t u new n;
@@ -109,14 +127,14 @@ module _ (program : Program) (layer : ℕ) (store : Store) (k : IsChecked progra
         goes move chosen e there to new comes =
             makes upper store (inside program (layer + 1)) (as_config x) (record { thread = t; chosen = chosen }) caller (to, new, []) there (ap (λ (E : Doing). outcome Q (whole caller E) x.store chosen) e ∙ comes)
 
-    pub followed : Followed x t caller after
+    pub followed : Followed picked x t caller before after
     followed = go before.done after.done refl refl
       where
-        go : (b a : Bool) → before.done ≡ b → after.done ≡ a → Followed x t caller after
+        go : (b a : Bool) → before.done ≡ b → after.done ≡ a → Followed picked x t caller before after
         go false false e d = waits (d ∙ sym e) (ap (λ (c : Bool). if c then behind caller (doing upper caller) before.outs else caller) e ∙ sym (ap (λ (c : Bool). if c then behind caller (doing upper caller) after.outs else caller) d))
         go true true e d =
             waits (d ∙ sym e)
             (ap (λ (c : Bool). if c then behind caller (doing upper caller) before.outs else caller) e
             ∙ (ap (λ (vs : List Value). behind caller (doing upper caller) vs) (sym (r.outs e)) ∙ sym (ap (λ (c : Bool). if c then behind caller (doing upper caller) after.outs else caller) d)))
         go true false e d = absurd (false≢true (sym d ∙ r.stays e))
-        go false true e d = acts_so (high ∙ ap (λ (q : Running). Some q) (ap (λ (c : Bool). if c then behind caller (doing upper caller) before.outs else caller) e)) (r.acts e d) d
+        go false true e d = acts_so (high ∙ ap (λ (q : Running). Some q) (ap (λ (c : Bool). if c then behind caller (doing upper caller) before.outs else caller) e)) e (r.acts e d) d

@@ -21,7 +21,7 @@ use Rattle.civl_layers.proofs.PlainPrograms.{layered_is_plain}
 use Rattle.civl_soundness.proofs.Fitting.{all_at}
 use Rattle.civl_conditions.specs.Steps.{has_layer}
 use Rattle.civl_conditions.specs.Assumed.{refined_action, inputs_of}
-use Rattle.civl_interleavings.specs.Runs.{FailsFrom}
+use Rattle.civl_interleavings.specs.Systems.{Failing}
 use Rattle.civl_interleavings.specs.Threads.{Threads, stepping_of, doing_fails, fails_in}
 use Rattle.civl_exchanges.specs.Doing.{Doing, doing}
 use Rattle.civl_exchanges.specs.Doing as does
@@ -68,11 +68,11 @@ module _ (program : Program) (layer : ℕ) (store : Store) (k : IsChecked progra
   Q = layer_threads program (layer + 1) store
 
   module _ (s : Shadowed) (x : meaning.Config) (meets : MeetsBeside program layer s x) where
-    fails_there : (t : ℕ) (r : Running) → slice_get x.threads t ≡ Some r → doing_fails Q (whole r (doing upper r)) x.store ≡ true → FailsFrom (stepping_of Q) (as_config x)
-    fails_there t r at e = ([], as_config x, refl, (t, ap (fails_in Q x.store) at ∙ e))
+    fails_there : (t : ℕ) (r : Running) → slice_get x.threads t ≡ Some r → doing_fails Q (whole r (doing upper r)) x.store ≡ true → Failing (stepping_of Q) (as_config x)
+    fails_there t r at e = (t, ap (fails_in Q x.store) at ∙ e)
 
     -- a thread of the upper program before a call whose gate is false where the run's store has the shadow's values
-    gate_fails : (t : ℕ) (r : Running) → slice_get x.threads t ≡ Some r → (f : Proc × Activation) → Instead program layer f r → refuses program (seen program layer s) (Some f) ≡ true → FailsFrom (stepping_of Q) (as_config x)
+    gate_fails : (t : ℕ) (r : Running) → slice_get x.threads t ≡ Some r → (f : Proc × Activation) → Instead program layer f r → refuses program (seen program layer s) (Some f) ≡ true → Failing (stepping_of Q) (as_config x)
     gate_fails t r at f i e =
         let inputs = inputs_of f.0 f.1.locals in
         let known : Known program (does.Calls i.names i.locals i.results i.next i.action inputs) = subst (Known program) i.calls (does_known upper r) in
@@ -85,7 +85,7 @@ module _ (program : Program) (layer : ℕ) (store : Store) (k : IsChecked progra
     -- ---- challenged
 
     -- before the call
-    call_fails : (t : ℕ) (low : Running) → slice_get s.config.threads t ≡ Some low → (D : Doing) → doing lower low ≡ D → call_challenged program (layer + 1) (seen program layer s) D ≡ true → FailsFrom (stepping_of Q) (as_config x)
+    call_fails : (t : ℕ) (low : Running) → slice_get s.config.threads t ≡ Some low → (D : Doing) → doing lower low ≡ D → call_challenged program (layer + 1) (seen program layer s) D ≡ true → Failing (stepping_of Q) (as_config x)
     call_fails t low at (does.Enters frame place) e h = go (framed_in (layer + 1) frame (slice_get program.procs frame.procedure)) refl h
       where
         beside : slice_get x.threads t ≡ Some low
@@ -93,7 +93,7 @@ module _ (program : Program) (layer : ℕ) (store : Store) (k : IsChecked progra
             same_beside program layer store k roots (s.shadow.done t) low (slice_get x.threads t) (subst (λ (o : Option Running). ThreadMeets program layer (s.shadow.done t) o (slice_get x.threads t)) at (meets.threads t))
             (enters_outside program layer k.layered k.linear k.yields low frame place e)
 
-        by_call : (f : Proc × Activation) → slice_get program.procs frame.procedure ≡ Some f.0 → frame ≡ f.1 → has_layer (layer + 1) f.0 ≡ true → refuses program (seen program layer s) (Some f) ≡ true → FailsFrom (stepping_of Q) (as_config x)
+        by_call : (f : Proc × Activation) → slice_get program.procs frame.procedure ≡ Some f.0 → frame ≡ f.1 → has_layer (layer + 1) f.0 ≡ true → refuses program (seen program layer s) (Some f) ≡ true → Failing (stepping_of Q) (as_config x)
         by_call f there same layered r =
             let c = instead program layer k.layered low frame place f.0 e there layered in
             let frames : frame ≡ new_frame c.number c.proc c.args = ap (λ (E : Doing). entered E) (sym e ∙ c.enters) in
@@ -114,15 +114,15 @@ module _ (program : Program) (layer : ℕ) (store : Store) (k : IsChecked progra
             entered (does.Enters a p) = a
             entered _ = frame
 
-        go : (o : Option (Proc × Activation)) → framed_in (layer + 1) frame (slice_get program.procs frame.procedure) ≡ o → refuses program (seen program layer s) o ≡ true → FailsFrom (stepping_of Q) (as_config x)
+        go : (o : Option (Proc × Activation)) → framed_in (layer + 1) frame (slice_get program.procs frame.procedure) ≡ o → refuses program (seen program layer s) o ≡ true → Failing (stepping_of Q) (as_config x)
         go None q r = absurd (false≢true r)
         go (Some f) q r = by_proc (slice_get program.procs frame.procedure) refl q
           where
-            by_proc : (p : Option Proc) → slice_get program.procs frame.procedure ≡ p → framed_in (layer + 1) frame p ≡ Some f → FailsFrom (stepping_of Q) (as_config x)
+            by_proc : (p : Option Proc) → slice_get program.procs frame.procedure ≡ p → framed_in (layer + 1) frame p ≡ Some f → Failing (stepping_of Q) (as_config x)
             by_proc None there u = absurd (none-some f u)
             by_proc (Some proc) there u = by_layer (has_layer (layer + 1) proc) refl u
               where
-                by_layer : (b : Bool) → has_layer (layer + 1) proc ≡ b → if◌then◌else◌ {A = Option (Proc × Activation)} b (Some (proc, frame)) None ≡ Some f → FailsFrom (stepping_of Q) (as_config x)
+                by_layer : (b : Bool) → has_layer (layer + 1) proc ≡ b → if◌then◌else◌ {A = Option (Proc × Activation)} b (Some (proc, frame)) None ≡ Some f → Failing (stepping_of Q) (as_config x)
                 by_layer false l v = absurd (none-some f v)
                 by_layer true l v =
                     let is : (proc, frame) ≡ f = same_Some (proc, frame) f v in
@@ -136,7 +136,7 @@ module _ (program : Program) (layer : ℕ) (store : Store) (k : IsChecked progra
     call_fails t low at (does.Calls names locals results next action args) e h = absurd (false≢true h)
 
     -- at the beginning of a block
-    frame_fails : (t : ℕ) (low : Running) → slice_get s.config.threads t ≡ Some low → (o : Option (Proc × Activation)) → frame_of_layer program (layer + 1) low ≡ o → frame_challenged program (seen program layer s) (s.shadow.done t) o ≡ true → FailsFrom (stepping_of Q) (as_config x)
+    frame_fails : (t : ℕ) (low : Running) → slice_get s.config.threads t ≡ Some low → (o : Option (Proc × Activation)) → frame_of_layer program (layer + 1) low ≡ o → frame_challenged program (seen program layer s) (s.shadow.done t) o ≡ true → Failing (stepping_of Q) (as_config x)
     frame_fails t low at None e h = absurd (false≢true h)
     frame_fails t low at (Some f) e h = go (slice_get x.threads t) refl (subst (λ (o : Option Running). ThreadMeets program layer (s.shadow.done t) o (slice_get x.threads t)) at (meets.threads t))
       where
@@ -146,17 +146,17 @@ module _ (program : Program) (layer : ℕ) (store : Store) (k : IsChecked progra
         refused : refuses program (seen program layer s) (Some f) ≡ true
         refused = (and_both (at_yield (rest_of f)) (refuses program (seen program layer s) (Some f)) parts.1).1
 
-        by_frame : (high : Running) → slice_get x.threads t ≡ Some high → (d : Bool) → s.shadow.done t ≡ d → d ≡ false → FrameMeets program layer d low (Some f) high → FailsFrom (stepping_of Q) (as_config x)
+        by_frame : (high : Running) → slice_get x.threads t ≡ Some high → (d : Bool) → s.shadow.done t ≡ d → d ≡ false → FrameMeets program layer d low (Some f) high → Failing (stepping_of Q) (as_config x)
         by_frame high there true q not_done m = absurd (true≢false not_done)
         by_frame high there false q not_done m =
             let i = framed program (layer + 1) low f e in
             gate_fails t m.0 (there ∙ ap (λ (r : Running). Some r) m.2) f (called_instead program layer k.layered f low m.0 i.there i.layered m.1).0 refused
 
-        go : (o : Option Running) → slice_get x.threads t ≡ o → ThreadMeets program layer (s.shadow.done t) (Some low) o → FailsFrom (stepping_of Q) (as_config x)
+        go : (o : Option Running) → slice_get x.threads t ≡ o → ThreadMeets program layer (s.shadow.done t) (Some low) o → Failing (stepping_of Q) (as_config x)
         go None there m = absurd m
         go (Some high) there m = by_frame high there (s.shadow.done t) refl (not_true (s.shadow.done t) parts.0) (subst (λ (p : Option (Proc × Activation)). FrameMeets program layer (s.shadow.done t) low p high) e m)
 
-    some_fails : (base : ℕ) (rest : List Running) → ((i : ℕ) (r : Running) → slice_get rest i ≡ Some r → slice_get s.config.threads (base + i) ≡ Some r) → some_challenged program layer (seen program layer s) s.shadow.done base rest ≡ true → FailsFrom (stepping_of Q) (as_config x)
+    some_fails : (base : ℕ) (rest : List Running) → ((i : ℕ) (r : Running) → slice_get rest i ≡ Some r → slice_get s.config.threads (base + i) ≡ Some r) → some_challenged program layer (seen program layer s) s.shadow.done base rest ≡ true → Failing (stepping_of Q) (as_config x)
     some_fails base [] there e = absurd (false≢true e)
     some_fails base (low ∷ rest) there e = elim (or_cases (thread_challenged program layer (seen program layer s) (s.shadow.done base) low) (some_challenged program layer (seen program layer s) s.shadow.done (base + 1) rest) e) [
       | inl h ↦
@@ -173,7 +173,7 @@ module _ (program : Program) (layer : ℕ) (store : Store) (k : IsChecked progra
         later : (base : ℕ) (low : Running) (rest : List Running) → ((i : ℕ) (r : Running) → slice_get (low ∷ rest) i ≡ Some r → slice_get s.config.threads (base + i) ≡ Some r) → (i : ℕ) (r : Running) → slice_get rest i ≡ Some r → slice_get s.config.threads (base + 1 + i) ≡ Some r
         later base low rest there i r q = let n : base + (i + 1) ≡ base + 1 + i = omega arith in subst (λ (j : ℕ). slice_get s.config.threads j ≡ Some r) n (there (i + 1) r (ap (slice_get (low ∷ rest)) (add-one i) ∙ q))
 
-    pub challenged_fail : is_challenged program layer s ≡ true → FailsFrom (stepping_of Q) (as_config x)
+    pub challenged_fail : is_challenged program layer s ≡ true → Failing (stepping_of Q) (as_config x)
     challenged_fail e = some_fails 0 s.config.threads (λ i r q. ap (slice_get s.config.threads) (zero_more i) ∙ q) e
       where
         zero_more : (i : ℕ) → 0 + i ≡ i
@@ -182,7 +182,7 @@ module _ (program : Program) (layer : ℕ) (store : Store) (k : IsChecked progra
     -- ---- failing
 
     -- a thread in no frame of the layer that fails, fails beside too
-    pub outside_fail : (t : ℕ) (low : Running) → slice_get s.config.threads t ≡ Some low → frame_of_layer program (layer + 1) low ≡ None → doing_fails P (whole low (doing lower low)) s.config.store ≡ true → FailsFrom (stepping_of Q) (as_config x)
+    pub outside_fail : (t : ℕ) (low : Running) → slice_get s.config.threads t ≡ Some low → frame_of_layer program (layer + 1) low ≡ None → doing_fails P (whole low (doing lower low)) s.config.store ≡ true → Failing (stepping_of Q) (as_config x)
     outside_fail t low at none e = elim (threads_do_alike program layer low k.layered) [
       | inl same ↦ fails_there t low beside (ap (λ (D : Doing). doing_fails Q (whole low D) x.store) same ∙ by_doing (doing lower low) refl same (does_known lower low) e)
       | inr c ↦ absurd (false≢true (ap (λ (D : Doing). doing_fails P (whole low D) s.config.store) (sym c.enters) ∙ e))

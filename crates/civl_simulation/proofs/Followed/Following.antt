@@ -25,13 +25,13 @@ use Rattle.civl_blocks.specs.Reduces.{Challenged, plain_move, plain_config, laye
 use Rattle.civl_blocks.specs.Cuts.{frame_in, frame_at}
 use Rattle.civl_blocks.specs.Shadow.{Shadowed, seen, shadowed_step, shadowed_from, shadowed_start, shadowed}
 use Rattle.civl_simulation.specs.Meets.{FrameMeets, ThreadMeets, MeetsBeside}
-use Rattle.civl_simulation.specs.Refined.{Sight, sight, sight_before, BlockIsRefined}
+use Rattle.civl_simulation.specs.Refined.{Sight, sight, sight_before, last_frame, BlockIsRefinedBy}
 use Rattle.civl_simulation.proofs.Followed.Shadows.{shadowed_more, shadowed_append}
 use Rattle.civl_simulation.proofs.Followed.Steps.{made}
 use Rattle.civl_simulation.proofs.Followed.Along.{OthersSame, StandsIn, GoesTo, inside_step, opens, first_step}
-use Rattle.civl_simulation.proofs.Followed.Ending.{stands_beside}
+use Rattle.civl_simulation.proofs.Followed.Ending.{stands_beside, HowFollowed}
 use Rattle.civl_simulation.proofs.Followed.Outside.{same_beside, outside_follows}
-use Rattle.civl_simulation.proofs.Followed.Blocks.{met_in, met_left}
+use Rattle.civl_simulation.proofs.Followed.Blocks.{to_leads, met_in, met_left}
 
 module _ (program : Program) (layer : ℕ) (store : Store) (k : IsChecked program layer store) (roots : SpawnsStandInRoots program) (challenged : Challenged) where
   abbrev lower : Plain
@@ -52,14 +52,15 @@ module _ (program : Program) (layer : ℕ) (store : Store) (k : IsChecked progra
       go None q h = absurd (false≢true h)
       go (Some f) q h = (f, q)
 
-  module _ (s : Shadowed) (x : meaning.Config) (meets : MeetsBeside program layer s x) (m : Move Chosen) (c d : Config Store Running) (leads : s.config ≡ plain_config c) where
+  module _ (s : Shadowed) (x : meaning.Config) (meets : MeetsBeside program layer s x) (m : Move Chosen) (c d : Config Store Running) (leads : s.config ≡ plain_config c) (picked : Proc × Activation → List Value → Type 0) where
     abbrev Follows : List (Move Chosen) → Type 0
     Follows ms =
         (ns : List (Move Chosen)) × (y : Config Store Running) × RunsTo (stepping_of Q) ns (as_config x) y
         × MeetsBeside program layer (shadowed_step program layer (shadowed_from program layer (map plain_move ms) s) (plain_move m)) (plain_config y)
+        × HowFollowed program layer store k roots picked s (shadowed_from program layer (map plain_move ms) s) (shadowed_step program layer (shadowed_from program layer (map plain_move ms) s) (plain_move m)) m ns
 
     abbrev Refined : List (Move Chosen) → Type 0
-    Refined ms = BlockIsRefined program layer s (shadowed_from program layer (map plain_move ms) s) (shadowed_step program layer (shadowed_from program layer (map plain_move ms) s) (plain_move m)) m.thread
+    Refined ms = BlockIsRefinedBy picked program layer s (shadowed_from program layer (map plain_move ms) s) (shadowed_step program layer (shadowed_from program layer (map plain_move ms) s) (plain_move m)) m.thread
 
     there_s : (low : Running) → slice_get c.threads m.thread ≡ Some low → slice_get s.config.threads m.thread ≡ Some low
     there_s low e = ap (λ (y : meaning.Config). slice_get y.threads m.thread) leads ∙ e
@@ -86,8 +87,8 @@ module _ (program : Program) (layer : ℕ) (store : Store) (k : IsChecked progra
     last_step ms e o step caller before store_is high is others g i r = go (inside_step program layer store k e m d caller g i step)
       where
         go : OthersSame m.thread e.threads d.threads × GoesTo program layer store k d.threads m.thread caller g → Follows ms
-        go (same, inl h) = met_in program layer store k roots challenged s x meets ms m c e d leads o step (λ u n. same u n ∙ others u n) r caller before store_is high is h.0 h.1
-        go (same, inr h) = met_left program layer store k roots challenged s x meets ms m c e d leads o step (λ u n. same u n ∙ others u n) r caller before store_is high is g i h
+        go (same, inl h) = met_in program layer store k roots challenged s x meets ms m c e d leads o step (λ u n. same u n ∙ others u n) picked r caller before store_is high is h.0 h.1
+        go (same, inr h) = met_left program layer store k roots challenged s x meets ms m c e d leads o step (λ u n. same u n ∙ others u n) picked r caller before store_is high is g i h
 
     -- from a yield
     from_frame : (ms : List (Move Chosen)) (e : Config Store Running) → Opens (layer_system program layer store challenged) m.thread ms c e → step_of P e m ≡ Some d → (low : Running) → slice_get c.threads m.thread ≡ Some low → (f : Proc × Activation) → frame_of_layer program (layer + 1) low ≡ Some f → Refined ms → Follows ms
@@ -128,10 +129,11 @@ module _ (program : Program) (layer : ℕ) (store : Store) (k : IsChecked progra
         go : (p : Option (Proc × Activation)) → frame_at program (layer + 1) d.threads m.thread ≡ p → Follows []
         go None q =
             let out = outside_follows program layer store k roots s x m d meets (subst (λ (y : meaning.Config). step_of P (as_config y) m ≡ Some d) (sym leads) step) (frame_s low at ∙ none) q in
-            (m ∷ [], out.0, (out.0, out.1, refl), out.2)
+            let none_to = ap (λ (y : meaning.Config). frame_at program (layer + 1) y.threads m.thread) (to_leads program layer store k roots challenged s x meets [] m c c d leads refl step) ∙ q in
+            (m ∷ [], out.0, (out.0, out.1, refl), out.2, inl (ap (λ (p : Option (Proc × Activation)). last_frame p (frame_at program (layer + 1) s.config.threads m.thread)) none_to ∙ (frame_s low at ∙ none), refl))
         go (Some f) q =
             let one = first_step program layer store k c m d low f at (sorted_s low at) (stacked_s low at) of_c none step q in
-            met_in program layer store k roots challenged s x meets [] m c c d leads refl step one.0 r low fresh refl (beside_low low at none) (fresh_is low at none) f one.1
+            met_in program layer store k roots challenged s x meets [] m c c d leads refl step one.0 picked r low fresh refl (beside_low low at none) (fresh_is low at none) f one.1
 
     pub all_follow : (ms : List (Move Chosen)) (e : Config Store Running) → Opens (layer_system program layer store challenged) m.thread ms c e → step_of P e m ≡ Some d → Refined ms → Follows ms
     all_follow ms e o step r = by_first (first ms e o step) ms e o step r

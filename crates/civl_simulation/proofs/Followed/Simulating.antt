@@ -23,7 +23,7 @@ use Rattle.civl_meaning.proofs.Begun.{start_is_of}
 use Rattle.civl_layers.proofs.PlainPrograms.{layered_is_plain}
 use Rattle.civl_footprints.specs.Agreement.{AgreeOn, exists_at}
 use Rattle.civl_interleavings.specs.Systems.{System, Failing}
-use Rattle.civl_interleavings.specs.Runs.{RunsTo, FailsFrom, Staged, Opens}
+use Rattle.civl_interleavings.specs.Runs.{RunsTo, Staged, Opens}
 use Rattle.civl_interleavings.specs.Threads.{Threads, Config, Move, stepping_of, fails_in}
 use Rattle.civl_interleavings.proofs.Simulating.{simulated}
 use Rattle.civl_exchanges.specs.Interleavings.{Chosen, Call, as_config}
@@ -34,10 +34,10 @@ use Rattle.civl_blocks.specs.Blocks.{frame_of_layer, inside}
 use Rattle.civl_blocks.specs.Reduces.{plain_move, plain_config, layer_threads, layer_system}
 use Rattle.civl_staged.specs.Reduction.{CheckedReduce}
 use Rattle.civl_blocks.specs.Cuts.{frame_in}
-use Rattle.civl_blocks.specs.Shadow.{Shadowed, merged_values, shadowed_from, shadowed}
+use Rattle.civl_blocks.specs.Shadow.{Shadowed, merged_values, shadowed_step, shadowed_from, shadowed}
 use Rattle.civl_blocks.specs.Challenged.{challenged}
 use Rattle.civl_simulation.specs.Meets.{ThreadMeets, MeetsBeside, Meets}
-use Rattle.civl_simulation.specs.Refined.{BlockIsRefined}
+use Rattle.civl_simulation.specs.Refined.{IsPicked, BlockIsRefined}
 use Rattle.civl_simulation.specs.Sound.{BlocksAreSound}
 use Rattle.civl_simulation.specs.Followed.{LayerIsFollowed, CheckedLayersAreFollowed, LayersAreSound, AcceptedPreserve}
 use Rattle.civl_simulation.proofs.Followed.Failing.{challenged_fail, outside_fail}
@@ -87,7 +87,7 @@ module _ (spawns_are_in_roots : SpawnsAreInRoots) (program : Program) (layer : �
   begun_meet done (t ∷ ts) zero = refl
   begun_meet done (t ∷ ts) (suc u) = begun_meet (λ v. done (suc v)) ts u
 
-  starts_meet : MeetsAt [] (as_config (start lower store)) (as_config (start upper store))
+  pub starts_meet : MeetsAt [] (as_config (start lower store)) (as_config (start upper store))
   starts_meet = record {
     leads = refl;
     meets = record {
@@ -108,7 +108,7 @@ module _ (spawns_are_in_roots : SpawnsAreInRoots) (program : Program) (layer : �
       let last = block_shadows program layer store ps ms in
       let to = block_shadows program layer store ps (ms ++ m ∷ []) ∙ last_shadow program layer ms m (at_moves ps) in
       let refined = subst (λ (q : Shadowed). BlockIsRefined program layer (at_moves ps) (shadowed_from program layer (map plain_move ms) (at_moves ps)) q m.thread) to (subst (λ (q : Shadowed). BlockIsRefined program layer (at_moves ps) q (at_moves (ps ++ (ms ++ m ∷ []))) m.thread) last (sound.refined ps ms m c e d g o step out)) in
-      let f = all_follow program layer store k roots (challenged program layer store) (at_moves ps) (plain_config x) meets.meets m c d meets.leads ms e o step refined in (
+      let f = all_follow program layer store k roots (challenged program layer store) (at_moves ps) (plain_config x) meets.meets m c d meets.leads (IsPicked program layer (at_moves ps) (shadowed_step program layer (shadowed_from program layer (map plain_move ms) (at_moves ps)) (plain_move m)) m.thread) ms e o step refined in (
         f.0,
         f.1,
         f.2,
@@ -120,15 +120,15 @@ module _ (spawns_are_in_roots : SpawnsAreInRoots) (program : Program) (layer : �
 
   -- ---- the ends
 
-  failing : (ps : List (Move Chosen)) (c x : Config Store Running) → Staged S ps None c → MeetsAt ps c x → Failing S.steps c → FailsFrom (stepping_of Q) x
+  pub failing : (ps : List (Move Chosen)) (c x : Config Store Running) → Staged S ps None c → MeetsAt ps c x → Failing S.steps c → Failing (stepping_of Q) x
   failing ps c x g meets f = go (slice_get c.threads f.0) refl f.1
     where
-      by_frame : (low : Running) → slice_get c.threads f.0 ≡ Some low → fails_in P c.store (Some low) ≡ true → (o : Option (Proc × Activation)) → frame_of_layer program (layer + 1) low ≡ o → FailsFrom (stepping_of Q) x
+      by_frame : (low : Running) → slice_get c.threads f.0 ≡ Some low → fails_in P c.store (Some low) ≡ true → (o : Option (Proc × Activation)) → frame_of_layer program (layer + 1) low ≡ o → Failing (stepping_of Q) x
       by_frame low at e None q =
           outside_fail program layer store k roots (at_moves ps) (plain_config x) meets.meets f.0 low (ap (λ (y : meaning.Config). slice_get y.threads f.0) meets.leads ∙ at) q (ap (λ (y : meaning.Config). fails_in P y.store (Some low)) meets.leads ∙ e)
       by_frame low at e (Some h) q = absurd (true≢false (sym e ∙ (ap (fails_in P c.store) (sym at) ∙ sound.safe_between ps c f.0 h g (ap (frame_in program (layer + 1)) at ∙ q))))
 
-      go : (o : Option Running) → slice_get c.threads f.0 ≡ o → fails_in P c.store o ≡ true → FailsFrom (stepping_of Q) x
+      go : (o : Option Running) → slice_get c.threads f.0 ≡ o → fails_in P c.store o ≡ true → Failing (stepping_of Q) x
       go None at e = absurd (false≢true e)
       go (Some low) at e = by_frame low at e (frame_of_layer program (layer + 1) low) refl
 
@@ -137,8 +137,8 @@ module _ (spawns_are_in_roots : SpawnsAreInRoots) (program : Program) (layer : �
     meets_first = starts_meet;
     meets_on = λ ps ms m t c e d x g meets o w step out.
         follows ps ms m c e d x g meets (subst (λ (u : ℕ). Opens S u ms c e) (sym w) o) step (subst (λ (u : ℕ). S.inside d u ≡ false) (sym w) out);
-    challenged_fails = λ ps c x run meets e. challenged_fail program layer store k roots (at_moves ps) (plain_config x) meets.meets e;
-    failing_fails = failing;
+    challenged_fails = λ ps c x run meets e. ([], x, refl, challenged_fail program layer store k roots (at_moves ps) (plain_config x) meets.meets e);
+    failing_fails = λ ps c x g meets f. ([], x, refl, failing ps c x g meets f);
   }
 
 pub layers_followed : SpawnsAreInRoots → CheckedLayersAreFollowed

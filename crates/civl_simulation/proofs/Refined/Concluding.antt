@@ -36,7 +36,7 @@ use Rattle.civl_conditions.specs.Values.{Begun, same_values, same_in, same_store
 use Rattle.civl_condition_laws.specs.States.{frame_sorts}
 use Rattle.civl_open_blocks.specs.Ends.{IsAssumed, Performs, Concludes}
 use Rattle.civl_staged.proofs.Chains.Gates.{same_is_equality}
-use Rattle.civl_simulation.specs.Refined.{Acts, IsRefined}
+use Rattle.civl_simulation.specs.Refined.{Acts, IsRefined, with_values}
 use Rattle.civl_simulation.specs.Joined.{sight_old, sight_at, ConclusionsRefine}
 use Rattle.civl_simulation.proofs.Refined.Joining.{in_layer}
 use Rattle.civl_simulation.proofs.Refined.Withs.{withs_sorted}
@@ -118,7 +118,7 @@ module _ (program : Program) (step q c : ℕ) (proc : Proc) (cut : Cut) (b : Beg
       go None n h = absurd (none-some action h)
       go (Some x) n h = n ∙ ap (λ (y : Action). Some y) (same_Some x action h)
 
-  acts : b.old_done ≡ false → p.done ≡ true → Acts program step proc (inputs_of proc b.locals) (sight_old b) (sight_at proc p)
+  acts : b.old_done ≡ false → p.done ≡ true → Acts (λ chosen. chosen ≡ with_values program proc p.store p.locals) program step proc (inputs_of proc b.locals) (sight_old b) (sight_at proc p)
   acts e f =
       let r = refined_there (refined_action program proc) refl (other_holds b.old_done (refined_gate program proc b) old.gate e) in
       let d : Performs program step proc b p r.0 = k.perform r.0 ends f e r.1 in
@@ -130,6 +130,7 @@ module _ (program : Program) (step q c : ℕ) (proc : Proc) (cut : Cut) (b : Beg
         refined = r.1;
         gate = r.2;
         chosen = values_of (plain_note_values program.globals proc p.store p.locals) (with_of proc.refines);
+        picks = refl;
         values = withs.fit;
         fit = withs.are;
         to = d.after.0;
@@ -137,7 +138,7 @@ module _ (program : Program) (step q c : ℕ) (proc : Proc) (cut : Cut) (b : Beg
         globals = agree_back (exists_at step) program.globals p.store.values d.after.0.values (same_agree (exists_at step) (λ g. not (exists_at step g)) program.globals b.old.values p.store.values d.after.0.values fits left d.globals);
       }
 
-  pub refines_so : IsRefined program step proc (inputs_of proc b.locals) (sight_old b) (sight_at proc p)
+  pub refines_so : IsRefined (λ chosen. chosen ≡ with_values program proc p.store p.locals) program step proc (inputs_of proc b.locals) (sight_old b) (sight_at proc p)
   refines_so = record {
     stays = stays;
     same = λ e. agree_old b.old (one_each program.globals b.old.values a.begun.old) (k.stutter ends e);

@@ -1,5 +1,5 @@
 -- Blocks that are refined, one behind the other.
-use Rattle.std.proofs.Common.{◌≡◌, ℕ, Bool, true, false, ◌&&◌, List, map, refl, sym, ap, ◌∙◌, subst, arith, Option, None, Some, slice_get, inl, inr}
+use Rattle.std.proofs.Common.{◌≡◌, ℕ, Bool, true, false, ◌&&◌, List, map, refl, sym, ap, ◌∙◌, subst, arith, Option, None, Some, slice_get, Contains, inl, inr}
 use Rattle.std.specs.Prelude.{nat_lt, nat_le}
 use Rattle.std.proofs.lemmas.Bool.{false≢true, not-false, ltb-true}
 use Rattle.std.proofs.lemmas.Option.{none-some, same_Some}
@@ -12,6 +12,7 @@ use Rattle.civl_tree.specs.rules.Names.{action_named}
 use Rattle.civl_tree.proofs.Kept.{proc_kept}
 use Rattle.civl_firing.specs.declared.store.Store.{Store}
 use Rattle.civl_firing.specs.Fired.{fires}
+use Rattle.civl_firing.specs.Stores.{IsStore}
 use Rattle.civl_footprints.specs.Agreement.{StoresAgree, exists_at}
 use Rattle.civl_footprints.specs.Laws.{FireAlike, ActsAlike}
 use Rattle.civl_footprints.proofs.Acting.{acts_alike}
@@ -32,13 +33,46 @@ use Rattle.civl_permissions.proofs.Flags.{or_cases}
 use Rattle.civl_simulation.specs.Refined.{Sight, Acts, IsRefined}
 use Rattle.civl_simulation.specs.Joined.{NothingIsRefined, RefinedJoin}
 
-pub nothing_refined : NothingIsRefined
-nothing_refined program layer proc inputs here fits = record {
+-- the same, and that blocks join, however the choices are picked
+abbrev pub NothingAnyhow : Type 1
+NothingAnyhow = (picked : List Value → Type 0) (program : Program) (layer : ℕ) (proc : Proc) (inputs : List Value) (here : Sight) → IsStore program.globals here.store → IsRefined picked program layer proc inputs here here
+
+abbrev pub JoinAnyhow : Type 1
+JoinAnyhow =
+    (picked : List Value → Type 0) (program : Program) (number layer : ℕ) (proc : Proc) (inputs : List Value) (first second third : Sight) → IsLayered program → IsProcOf program number layer proc
+    → IsRefined picked program layer proc inputs first second → IsRefined picked program layer proc inputs second third → IsRefined picked program layer proc inputs first third
+
+pub nothing_anyhow : NothingAnyhow
+nothing_anyhow picked program layer proc inputs here fits = record {
   stays = λ e. e;
   same = λ e. agree_self (exists_at layer) program.globals here.store.values fits;
   outs = λ e. refl;
   acts = λ e f. absurd (false≢true (sym e ∙ f));
 }
+
+-- with choices that are picked so, and so in another way
+pub refined_weaker : (one other : List Value → Type 0) → ((chosen : List Value) → one chosen → other chosen) → (program : Program) (layer : ℕ) (proc : Proc) (inputs : List Value) (before after : Sight)
+    → IsRefined one program layer proc inputs before after → IsRefined other program layer proc inputs before after
+refined_weaker one other so program layer proc inputs before after r = record {
+  stays = r.stays;
+  same = r.same;
+  outs = r.outs;
+  acts = λ e f. weaker (r.acts e f);
+}
+  where
+    weaker : Acts one program layer proc inputs before after → Acts other program layer proc inputs before after
+    weaker a = record {
+      action = a.action;
+      refined = a.refined;
+      gate = a.gate;
+      chosen = a.chosen;
+      picks = so a.chosen a.picks;
+      values = a.values;
+      fit = a.fit;
+      to = a.to;
+      fires = a.fires;
+      globals = a.globals;
+    }
 
 -- ---- the refined action
 
@@ -70,12 +104,12 @@ in_layer program number layer proc action layered of e =
       | inr q ↦ q
     ]
 
-module _ (program : Program) (number layer : ℕ) (proc : Proc) (inputs : List Value) (layered : IsLayered program) (of : IsProcOf program number layer proc) where
+module _ (picked : List Value → Type 0) (program : Program) (number layer : ℕ) (proc : Proc) (inputs : List Value) (layered : IsLayered program) (of : IsProcOf program number layer proc) where
   abbrev Agree : Sight → Sight → Type 0
   Agree a b = StoresAgree (exists_at layer) program.globals a.store b.store
 
   -- from a sight that agrees with the first one
-  acts_before : (first second third : Sight) → Agree first second → Acts program layer proc inputs second third → Acts program layer proc inputs first third
+  acts_before : (first second third : Sight) → Agree first second → Acts picked program layer proc inputs second third → Acts picked program layer proc inputs first third
   acts_before first second third near a = go (fires program.globals first.store a.action inputs a.chosen) refl (subst (FireAlike (exists_at layer) program.globals (fires program.globals first.store a.action inputs a.chosen)) a.fires (alike.fired a.chosen))
     where
       alike : ActsAlike (exists_at layer) program.globals first.store second.store a.action inputs
@@ -83,13 +117,14 @@ module _ (program : Program) (number layer : ℕ) (proc : Proc) (inputs : List V
           let i = in_layer program number layer proc a.action layered of a.refined in
           acts_alike (exists_at layer) program.globals first.store second.store a.action inputs near (uses_what_exists program i.number layer a.action layered i.at i.exists)
 
-      go : (o : Option (Store × List Value)) → fires program.globals first.store a.action inputs a.chosen ≡ o → FireAlike (exists_at layer) program.globals o (Some (a.to, third.outs)) → Acts program layer proc inputs first third
+      go : (o : Option (Store × List Value)) → fires program.globals first.store a.action inputs a.chosen ≡ o → FireAlike (exists_at layer) program.globals o (Some (a.to, third.outs)) → Acts picked program layer proc inputs first third
       go None e f = absurd f
       go (Some p) e f = record {
         action = a.action;
         refined = a.refined;
         gate = alike.gate ∙ a.gate;
         chosen = a.chosen;
+        picks = a.picks;
         values = a.values;
         fit = a.fit;
         to = p.0;
@@ -98,12 +133,13 @@ module _ (program : Program) (number layer : ℕ) (proc : Proc) (inputs : List V
       }
 
   -- to a sight that agrees with the last one
-  acts_behind : (first second third : Sight) → Agree second third → third.outs ≡ second.outs → Acts program layer proc inputs first second → Acts program layer proc inputs first third
+  acts_behind : (first second third : Sight) → Agree second third → third.outs ≡ second.outs → Acts picked program layer proc inputs first second → Acts picked program layer proc inputs first third
   acts_behind first second third near outs a = record {
     action = a.action;
     refined = a.refined;
     gate = a.gate;
     chosen = a.chosen;
+    picks = a.picks;
     values = a.values;
     fit = a.fit;
     to = a.to;
@@ -111,7 +147,7 @@ module _ (program : Program) (number layer : ℕ) (proc : Proc) (inputs : List V
     globals = agree_then (exists_at layer) program.globals a.to.values second.store.values third.store.values a.globals near;
   }
 
-  pub joined : (first second third : Sight) → IsRefined program layer proc inputs first second → IsRefined program layer proc inputs second third → IsRefined program layer proc inputs first third
+  pub joined : (first second third : Sight) → IsRefined picked program layer proc inputs first second → IsRefined picked program layer proc inputs second third → IsRefined picked program layer proc inputs first third
   joined first second third a b = record {
     stays = λ e. b.stays (a.stays e);
     same = λ e. same first.done second.done third.done refl refl refl e;
@@ -127,9 +163,15 @@ module _ (program : Program) (number layer : ℕ) (proc : Proc) (inputs : List V
       same false false z p q r e = two (q ∙ sym p) (e ∙ (p ∙ sym q))
       same false true z p q r e = absurd (false≢true (sym p ∙ (sym e ∙ b.stays q)))
 
-      acts : (y : Bool) → second.done ≡ y → first.done ≡ false → third.done ≡ true → Acts program layer proc inputs first third
+      acts : (y : Bool) → second.done ≡ y → first.done ≡ false → third.done ≡ true → Acts picked program layer proc inputs first third
       acts true q e f = acts_behind first second third (b.same (f ∙ sym q)) (b.outs q) (a.acts e q)
       acts false q e f = acts_before first second third (a.same (q ∙ sym e)) (b.acts q f)
 
+pub joins_anyhow : JoinAnyhow
+joins_anyhow picked program number layer proc inputs first second third layered of a b = joined picked program number layer proc inputs layered of first second third a b
+
+pub nothing_refined : NothingIsRefined
+nothing_refined offered program layer proc inputs here fits = nothing_anyhow (Contains offered) program layer proc inputs here fits
+
 pub refined_join : RefinedJoin
-refined_join program number layer proc inputs first second third layered of a b = joined program number layer proc inputs layered of first second third a b
+refined_join offered program number layer proc inputs first second third layered of a b = joins_anyhow (Contains offered) program number layer proc inputs first second third layered of a b

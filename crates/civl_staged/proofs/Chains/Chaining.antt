@@ -23,12 +23,13 @@ use Rattle.civl_permissions.proofs.Staying.{IsKept}
 use Rattle.civl_exchanges.specs.Doing.{doing}
 use Rattle.civl_checked.specs.Checked.{ActionsKeepPermissions}
 use Rattle.civl_open_blocks.specs.Following.{layer_head}
-use Rattle.civl_blocks.specs.Cuts.{frame_in, frame_at}
+use Rattle.civl_blocks.specs.Cuts.{frame_in, frame_at, settled}
 use Rattle.civl_staged.proofs.Pausing.Cutting.{Head, yield_head, Topmost, topmost, stands_at}
 use Rattle.civl_staged.proofs.Pausing.Holding.{settled_skips, Skips}
 use Rattle.civl_staged.proofs.Pausing.Apart.{run_is_kept}
 use Rattle.civl_blocks.proofs.Merged.Merging.{merged_fit}
 use Rattle.civl_staged.specs.Calm.{FrameIsCalm, AllIsCalm}
+use Rattle.civl_staged.specs.Stops.{layer_stops, StopsAt}
 use Rattle.civl_staged.specs.Opened.{IsReached}
 use Rattle.civl_staged.proofs.Opened.Noting.{bare}
 use Rattle.civl_staged.proofs.Opened.Old.{merged_is_old}
@@ -72,7 +73,9 @@ abbrev pub ChainEnds : (Proc → List Value → Store → Bool → List Value �
 ChainEnds says program layer s t f = EndsAtYield says program layer s t f ⊎ EndsAtLoop says program layer s t f
 
 module _ (keep : ActionsKeepPermissions) (program : Program) (layer : ℕ) (store : Store) (s : Shadowed) (t : ℕ) (f : Proc × Activation) (r : IsReached program layer store s.config)
-    (thread : Running) (there : slice_get s.config.threads t ≡ Some thread) (framed : frame_of_layer program (layer + 1) thread ≡ Some f) (says : Proc → List Value → Store → Bool → List Value → Type 0) (keeps : BlocksKeep says program layer f.1.procedure f.0) where
+    (thread : Running) (there : slice_get s.config.threads t ≡ Some thread) (framed : frame_of_layer program (layer + 1) thread ≡ Some f) (stops : Store → List Value → Type 0)
+    (all : (x : Store) → StopsAt (course_of program layer f.0) (settled (rest_of f)) (progress_in program layer t s.config.store s.shadow f.1) x → stops x f.1.locals)
+    (says : Proc → List Value → Store → Bool → List Value → Type 0) (keeps : BlocksKeep stops says program layer f.1.procedure f.0) where
   abbrev Ends : Type 0
   Ends = ChainEnds says program layer s t f
 
@@ -112,8 +115,11 @@ module _ (keep : ActionsKeepPermissions) (program : Program) (layer : ℕ) (stor
           glide : (x : Progress) → glided (course_of program layer f.0) ((n, st) ∷ k) x ≡ glided (course_of program layer f.0) k x
           glide x = ap (λ (y : stmt.Stmt-F Stmt). glided_layer (course_of program layer f.0) y x (glided (course_of program layer f.0) k)) is
 
+          passes : (z : Progress) (x : Store) → StopsAt (course_of program layer f.0) k z x → StopsAt (course_of program layer f.0) ((n, st) ∷ k) z x
+          passes z x h = subst (λ (y : stmt.Stmt-F Stmt). layer_stops (course_of program layer f.0) y z x (λ later. StopsAt (course_of program layer f.0) k later x)) (sym is) (inr h)
+
           begins : WaitsAtYield program layer s t f n st k p
-          begins = record { waits = w; form = form; skipped = skipped; glide = glide; belongs = belongs }
+          begins = record { waits = w; form = form; skipped = skipped; glide = glide; passes = passes; belongs = belongs }
 
           by_yield : (x : Bool) → at_yield k ≡ x → Ends
           by_yield false q = inl (record { n = n; st = st; k = k; p = p; begins = begins; away = q; so = so })
@@ -121,7 +127,7 @@ module _ (keep : ActionsKeepPermissions) (program : Program) (layer : ℕ) (stor
               let later = yield_head k q in
               let shorter = later_shorter keep program layer store s t f r thread there framed n st k p begins later in
               ih later.number later.stmt later.behind _ (waits_later keep program layer store s t f r thread there framed n st k p begins later)
-              (later_so keep program layer store s t f r thread there framed n st k p begins later says keeps so)
+              (later_so keep program layer store s t f r thread there framed n st k p begins later stops all says keeps so)
               (later_belongs keep program layer store s t f r thread there framed n st k p begins later) (omega (arith, shorter, less))
       by_form (stmt.YieldLoop x i a) is ih =
           inr (record {
@@ -185,6 +191,7 @@ module _ (keep : ActionsKeepPermissions) (program : Program) (layer : ℕ) (stor
       own = subst (FrameIsCalm program (layer + 1) (seen program layer s) (s.shadow.done t)) now (calm.calm.frames t (λ x. none-some t x)) (cut_number f.0 head.number) (record { statement = head.number; kind = head.kind }) (stands_at program (layer + 1) f top.of head);
       gate = gate;
       glides = ap (λ (x : Rest). bare (glided (course_of program layer f.0) x P)) (sym head.is);
+      stops = λ x h. subst (λ (l : Rest). StopsAt (course_of program layer f.0) l P x) (sym head.is) h;
     }
 
     pub chain_ends : says f.0 (inputs_of f.0 f.1.locals) (seen program layer s) (s.shadow.done t) (outs_in f.0 f.1.locals) → ChainEnds says program layer s t f

@@ -52,6 +52,7 @@ use Rattle.civl_blocks.specs.Challenged.{allows}
 use Rattle.civl_staged.proofs.Pausing.Cutting.{Head, topmost, cut_there}
 use Rattle.civl_staged.proofs.Pausing.Holding.{Skips, stays, passes, settled_skips}
 use Rattle.civl_staged.proofs.Pausing.Apart.{run_is_kept, known}
+use Rattle.civl_staged.specs.Stops.{StopsAt}
 use Rattle.civl_staged.specs.Calm.{FrameIsCalm}
 use Rattle.civl_staged.proofs.Calm.Outside.{thread_of, done_other}
 use Rattle.civl_staged.specs.Opened.{BlockIsOpen, IsReached}
@@ -61,14 +62,15 @@ use Rattle.civl_staged.proofs.Opened.Concluding.{sound, owned_apart}
 use Rattle.civl_staged.proofs.Opened.Old.{is_old, led_old, merged_itself}
 use Rattle.civl_staged.proofs.Opened.Next.{done_own}
 use Rattle.civl_staged.proofs.Chains.Gates.{gates_stay}
-use Rattle.civl_staged.proofs.Chains.Gliding.{glided_led, glided_stops, glided_alike, settled_belongs, skips_head, skips_then, settled_length}
+use Rattle.civl_staged.proofs.Chains.Gliding.{stops_led, stops_alike, stops_here, glided_led, glided_stops, glided_alike, settled_belongs, skips_head, skips_then, settled_length}
 use Rattle.civl_staged.proofs.Chains.Waiting.{WaitsAt, WaitsAtYield, cut, b, sorts, assumes, apart, layer_agrees}
 
--- what is said of a block's beginning is said of its end too, for each block of the procedure
-abbrev pub BlocksKeep : (Proc → List Value → Store → Bool → List Value → Type 0) → Program → ℕ → ℕ → Proc → Type 0
-BlocksKeep says program layer q proc =
+-- what is said of a block's beginning is said of its end too, for each block of the procedure that ends in such a store, with such
+-- locals
+abbrev pub BlocksKeep : (Store → List Value → Type 0) → (Proc → List Value → Store → Bool → List Value → Type 0) → Program → ℕ → ℕ → Proc → Type 0
+BlocksKeep stops says program layer q proc =
     (c : ℕ) (cut : Cut) (b : Begun) (end : ℕ) (p : Progress) → IsAssumed program (layer + 1) q c proc cut b → Concludes program (layer + 1) c proc cut b end p → IsTrue (ends_block proc end) → (b.done ≡ true → p.done ≡ true)
-    → IsStore program.globals p.store → HaveSorts p.locals (frame_sorts proc) → says proc (inputs_of proc b.locals) b.old b.old_done b.old_outs → says proc (inputs_of proc b.locals) p.store p.done (outs_in proc p.locals)
+    → IsStore program.globals p.store → HaveSorts p.locals (frame_sorts proc) → stops p.store p.locals → says proc (inputs_of proc b.locals) b.old b.old_done b.old_outs → says proc (inputs_of proc b.locals) p.store p.done (outs_in proc p.locals)
 
 parts : (x : CutKind) → is_yield_cut x ≡ true → not (is_rank_loop x) ≡ true
 parts kind.Entry y = refl
@@ -246,6 +248,13 @@ module _ (keep : ActionsKeepPermissions) (program : Program) (layer : ℕ) (stor
             ∙ (ap (allows program H.store f.0) (H_locals ∙ sym begins.waits.locals)
             ∙ (gates_stay program f.1.procedure (layer + 1) f.0 p.store H.store p.locals layered of begins.waits.fits H_fits same ∙ allowed_before was))
 
+    -- it stops there
+    stops_so : (x : Store) → StopsAt (course_of program layer f.0) ((later.number, later.stmt) ∷ later.behind) H x → StopsAt (course_of program layer f.0) (settled (rest_of f)) (progress_in program layer t s.config.store s.shadow f.1) x
+    stops_so x h =
+        begins.waits.stops x (begins.passes p x (stops_led (course_of program layer f.0) k p x
+        (subst (λ (l : Rest). StopsAt (course_of program layer f.0) l (led (course_of program layer f.0) k p) x) (sym later.is)
+        (stops_alike program layer f.0 ((later.number, later.stmt) ∷ later.behind) H (led (course_of program layer f.0) k p) x led_is h))))
+
     pub waits_later : WaitsAt program layer s t f later.number later.stmt later.behind H
     waits_later = record {
       place = later_place;
@@ -265,6 +274,7 @@ module _ (keep : ActionsKeepPermissions) (program : Program) (layer : ℕ) (stor
       glides =
           glided_alike program layer f.0 ((later.number, later.stmt) ∷ later.behind) H (led (course_of program layer f.0) k p) led_is
           ∙ (ap bare (ap (λ (x : Rest). glided (course_of program layer f.0) x (led (course_of program layer f.0) k p)) (sym later.is) ∙ (sym (glided_led (course_of program layer f.0) k p) ∙ sym (begins.glide p))) ∙ begins.waits.glides);
+      stops = stops_so;
     }
 
     pub later_shorter : length ((later.number, later.stmt) ∷ later.behind) ≤ length k
@@ -274,10 +284,12 @@ module _ (keep : ActionsKeepPermissions) (program : Program) (layer : ℕ) (stor
         omega (arith, a, q)
 
     -- what is said of the yield is said of the next one, where blocks keep it
-    pub later_so : (says : Proc → List Value → Store → Bool → List Value → Type 0) → BlocksKeep says program layer f.1.procedure f.0
+    pub later_so : (stops : Store → List Value → Type 0) → ((x : Store) → StopsAt (course_of program layer f.0) (settled (rest_of f)) (progress_in program layer t s.config.store s.shadow f.1) x → stops x f.1.locals)
+        → (says : Proc → List Value → Store → Bool → List Value → Type 0) → BlocksKeep stops says program layer f.1.procedure f.0
         → says f.0 (inputs_of f.0 f.1.locals) p.store p.done (outs_in f.0 p.locals) → says f.0 (inputs_of f.0 f.1.locals) H.store H.done (outs_in f.0 H.locals)
-    later_so says keeps so =
+    later_so stops all says keeps so =
         subst (λ (is : List Value). says f.0 is H.store H.done (outs_in f.0 H.locals)) (ap (inputs_of f.0) begins.waits.locals)
         (keeps (cut_number f.0 n) K B end H (assumes keep program layer store s t f r thread there framed n st k p begins.waits) concludes ends stays_done H_fits
         (subst (λ (ls : List Value). HaveSorts ls (frame_sorts f.0)) (sym H_locals) (sorts keep program layer store s t f r thread there framed n st k p begins.waits))
+        (subst (stops H.store) (sym H_locals) (all H.store (stops_so H.store (stops_here (course_of program layer f.0) later.number later.stmt later.behind H later.kind later.cut later.yields))))
         (subst (λ (is : List Value). says f.0 is p.store p.done (outs_in f.0 p.locals)) (sym (ap (inputs_of f.0) begins.waits.locals)) so))

@@ -55,6 +55,7 @@ use Rattle.civl_staged.proofs.Pausing.Apart.{run_is_kept, known, frame_owned, pa
 use Rattle.civl_blocks.proofs.Merged.Merging.{linear_there}
 use Rattle.civl_staged.specs.Calm.{IsCalm}
 use Rattle.civl_staged.proofs.Calm.Outside.{thread_of}
+use Rattle.civl_staged.specs.Stops.{StopsAt}
 use Rattle.civl_staged.specs.Opened.{IsReached}
 use Rattle.civl_staged.proofs.Opened.Noting.{bare}
 use Rattle.civl_staged.proofs.Opened.Old.{is_old}
@@ -85,6 +86,7 @@ pub record WaitsAt (program : Program) (layer : ℕ) (s : Shadowed) (t : ℕ) (f
   pub own : note_holds (steady_note_values program.globals f.0 p.store p.locals p.done) (cut_invariant f.0 (record { statement = n; kind = kind })) ≡ true
   pub gate : (p.done || allows program p.store f.0 p.locals) ≡ true
   pub glides : bare (glided (course_of program layer f.0) ((n, stmt) ∷ k) p) ≡ bare (glided (course_of program layer f.0) (settled (rest_of f)) (progress_in program layer t s.config.store s.shadow f.1))
+  pub stops : (x : Store) → StopsAt (course_of program layer f.0) ((n, stmt) ∷ k) p x → StopsAt (course_of program layer f.0) (settled (rest_of f)) (progress_in program layer t s.config.store s.shadow f.1) x
 
 -- it waits at a yield, from which a block begins
 pub record WaitsAtYield (program : Program) (layer : ℕ) (s : Shadowed) (t : ℕ) (f : Proc × Activation) (n : ℕ) (stmt : Stmt) (k : Rest) (p : Progress) : Type 0 where
@@ -92,6 +94,7 @@ pub record WaitsAtYield (program : Program) (layer : ℕ) (s : Shadowed) (t : �
   pub form : waits.kind ≡ kind.Yield
   pub skipped : is_skipped stmt ≡ true
   pub glide : (x : Progress) → glided (course_of program layer f.0) ((n, stmt) ∷ k) x ≡ glided (course_of program layer f.0) k x
+  pub passes : (z : Progress) (x : Store) → StopsAt (course_of program layer f.0) k z x → StopsAt (course_of program layer f.0) ((n, stmt) ∷ k) z x
   pub belongs : Belongs f.0.body ((n, stmt) ∷ k)
 
 five : (a b c d e : Bool) → a ≡ true → b ≡ true → c ≡ true → d ≡ true → e ≡ true → (a && (b && (c && (d && e)))) ≡ true

@@ -47,6 +47,7 @@ use Rattle.civl_staged.proofs.Pausing.Cutting.{Topmost, topmost}
 use Rattle.civl_staged.proofs.Pausing.Apart.{run_is_kept}
 use Rattle.civl_staged.specs.Calm.{FrameIsCalm, IsCalm, AllIsCalm}
 use Rattle.civl_staged.proofs.Calm.Outside.{thread_of, done_other}
+use Rattle.civl_staged.specs.Stops.{StopsAt}
 use Rattle.civl_staged.specs.Opened.{stepped, IsReached, YieldsStep}
 use Rattle.civl_staged.proofs.Opened.Beginning.{LeavesSo, nothing_said, leaves_it}
 use Rattle.civl_staged.proofs.Opened.Round.{open_blocks_leave}
@@ -183,17 +184,18 @@ module _ (keep : ActionsKeepPermissions) (in_roots : SpawnsAreInRoots) (program 
 -- what is said of the yield is said of where the block began, where blocks keep it
 pub yields_leave : ActionsKeepPermissions → SpawnsAreInRoots → (program : Program) (layer : ℕ) (store : Store) (s : Shadowed) (m : Move) (d : Config) (f : Proc × Activation) → IsReached program layer store s.config → IsMove m → step_of (program_at program layer) s.config m ≡ (answer.Moved, d)
     → AllIsCalm program layer s → is_challenged program layer s ≡ false → frame_at program (layer + 1) s.config.threads m.thread ≡ Some f → at_yield (rest_of f) ≡ true
-    → (says : Proc → List Value → Store → Bool → List Value → Type 0) → BlocksKeep says program layer f.1.procedure f.0 → says f.0 (inputs_of f.0 f.1.locals) (seen program layer s) (s.shadow.done m.thread) (outs_in f.0 f.1.locals)
+    → (stops : Store → List Value → Type 0) → ((x : Store) → StopsAt (course_of program layer f.0) (settled (rest_of f)) (progress_in program layer m.thread s.config.store s.shadow f.1) x → stops x f.1.locals)
+    → (says : Proc → List Value → Store → Bool → List Value → Type 0) → BlocksKeep stops says program layer f.1.procedure f.0 → says f.0 (inputs_of f.0 f.1.locals) (seen program layer s) (s.shadow.done m.thread) (outs_in f.0 f.1.locals)
     → LeavesSo says program layer s.config (stepped program layer (record { config = s.config; shadow = before_step program layer m.thread s.config s.shadow }) m d) m.thread
-yields_leave keep in_roots program layer store s m d f r mv e calm unchallenged now yields says keeps so =
+yields_leave keep in_roots program layer store s m d f r mv e calm unchallenged now yields stops all says keeps so =
     let z = thread_of program (layer + 1) s.config.threads m.thread f now in
     subst (λ (x : Shadow). LeavesSo says program layer s.config (stepped program layer (record { config = s.config; shadow = x }) m d) m.thread)
     (sym (ap (before_frame program layer m.thread s.config.store s.shadow) now
     ∙ ap (λ (x : Bool). if x then shadow_with s.shadow m.thread (glided (course_of program layer f.0) (settled (rest_of f)) (progress_in program layer m.thread s.config.store s.shadow f.1)) else s.shadow) yields))
     (at_end keep in_roots program layer store s m d f r mv e z.0 z.1 z.2 says
-    (chain_ends keep program layer store s m.thread f r z.0 z.1 z.2 says keeps calm unchallenged yields so))
+    (chain_ends keep program layer store s m.thread f r z.0 z.1 z.2 stops all says keeps calm unchallenged yields so))
 
 pub yields_step : ActionsKeepPermissions → SpawnsAreInRoots → YieldsStep
 yields_step keep in_roots program layer store s m d f r mv e calm unchallenged now yields =
     leaves_it program layer s.config (stepped program layer (record { config = s.config; shadow = before_step program layer m.thread s.config s.shadow }) m d) m.thread
-    (yields_leave keep in_roots program layer store s m d f r mv e calm unchallenged now yields nothing_said (λ c cut b end p assumed concludes ends done fits sorts so. so) tt)
+    (yields_leave keep in_roots program layer store s m d f r mv e calm unchallenged now yields (λ x ls. Unit {0}) (λ x h. tt) nothing_said (λ c cut b end p assumed concludes ends done fits sorts stops so. so) tt)

@@ -1,4 +1,4 @@
-use Rattle.civl_command.specs.declared.task.Task.TheVariants.{Check, Conditions, Fmt, RunLow, RunTop, Make, Replay}
+use Rattle.civl_command.specs.declared.task.Task.TheVariants.{Check, Conditions, Fmt, RunLow, RunTop, Prove, Make, Replay}
 use Rattle.civl_command.proofs.judge.judge_command.Goals as goal
 
 pub returns-in-Check-clause-unread : goal.returns-in-Check-clause-unread
@@ -15,6 +15,9 @@ returns-in-RunLow-clause-unread g c = λ no. absurd (no RunLow c.in-RunLow.is)
 
 pub returns-in-RunTop-clause-unread : goal.returns-in-RunTop-clause-unread
 returns-in-RunTop-clause-unread g c = λ no. absurd (no RunTop c.in-RunTop.is)
+
+pub returns-in-Prove-clause-unread : goal.returns-in-Prove-clause-unread
+returns-in-Prove-clause-unread g c = λ no. absurd (no (Prove c.in-Prove.budget) c.in-Prove.is)
 
 pub returns-in-ProofMake-clause-unread : goal.returns-in-ProofMake-clause-unread
 returns-in-ProofMake-clause-unread g c = λ no. absurd (no (Make c.in-ProofMake.at c.in-ProofMake.budget) c.in-ProofMake.is)

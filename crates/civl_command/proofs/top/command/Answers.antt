@@ -1,5 +1,5 @@
-use Rattle.civl_command.proofs.Promising.{usage_unasked, accepts_by, tries_by, surveys_by, prints_by, low_by, top_by, certifies_by, refutes_by, rejects_by, leaves_open_by, refuses_by, complete_by, trial_complete_by}
-use Rattle.civl_command.proofs.Alone.{alone_by, tried_alone_by}
+use Rattle.civl_command.proofs.Promising.{usage_unasked, accepts_by, tries_by, surveys_by, prints_by, low_by, top_by, safe_by, certifies_by, refutes_by, rejects_by, leaves_open_by, refuses_by, complete_by, trial_complete_by}
+use Rattle.civl_command.proofs.Alone.{alone_by, tried_alone_by, safe_alone_by}
 use Rattle.civl_command.proofs.top.command.Goals as goal
 
 pub returns-clause-unread_usage : goal.returns-clause-unread_usage
@@ -28,6 +28,12 @@ returns-clause-low g c = λ is low. low_by _ _ _ _ _ (rw is at c.respond.ensures
 
 pub returns-clause-top : goal.returns-clause-top
 returns-clause-top g c = λ is top. top_by _ _ _ _ _ (rw is at c.respond.ensures.explains) top
+
+pub returns-clause-safe : goal.returns-clause-safe
+returns-clause-safe g c = λ budget is prove. safe_by _ _ _ _ _ c.lowest_is_safe.ensures budget (rw is at c.respond.ensures.explains) prove
+
+pub returns-clause-safe_alone : goal.returns-clause-safe_alone
+returns-clause-safe_alone g c = λ budget prove. safe_alone_by _ _ _ _ _ budget prove c.respond.result c.respond.ensures.explains
 
 pub returns-clause-certified : goal.returns-clause-certified
 returns-clause-certified g c = λ at budget is make. certifies_by _ _ _ _ _ at budget (rw is at c.respond.ensures.explains) make

@@ -1,6 +1,7 @@
 use Rattle.std.specs.Prelude.{◌+◌, ◌*◌, ◌≤◌}
 use Rattle.std.proofs.Common.{◌∙◌, sym, ap, subst, arith}
 use Rattle.civl_tree.specs.declared.program.Program.{Program}
+use Rattle.civl_tree.specs.rules.Scopes.{global_scope}
 use Rattle.civl_firing.specs.declared.store.Store.{Store}
 use Rattle.civl_terms.specs.Weights.{graph_weight}
 use Rattle.civl_terms.proofs.Growing.{lengthens_trans, lengthened}
@@ -13,6 +14,7 @@ use Rattle.civl_states.specs.Stores.{global_sorts}
 use Rattle.civl_states.specs.Formulas.{IsFormula}
 use Rattle.civl_states.proofs.Limits.{AreSorts, global_sorts_are}
 use Rattle.civl_states.proofs.Formulas.{formula_of}
+use Rattle.civl_states.proofs.Weighing.{weighs_some}
 use Rattle.civl_interfere.proofs.Starting.{all_sorts, all_stand, all_store, all_bits}
 use Rattle.civl_interfere.proofs.initials.initial.Goals as goal
 
@@ -45,4 +47,4 @@ unfolding initial_weight
 returns-clause-weighs c =
     let p = c.program-program.result.now in
     subst (λ (q : Program). graph_weight c.initial_at.new.terms ≤ graph_weight c.args.terms.now + 4 * initial_weight q) c.program-program.ensures.same
-    (omega (arith, c.in_ok-globals.ensures.weighs, c.in_ok-id.ensures.weighs, ap bits_of_sorts (all_sorts p), all_bits p))
+    (omega (arith, c.in_ok-globals.ensures.weighs, c.in_ok-id.ensures.weighs, ap bits_of_sorts (all_sorts p), all_bits p, weighs_some (global_scope p) p.init))

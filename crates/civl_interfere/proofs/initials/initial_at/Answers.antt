@@ -1,6 +1,5 @@
 use Rattle.std.proofs.Common.{◌∙◌, ℕ, List, sym, subst, arith}
 use Rattle.civl_tree.specs.declared.expr.Sort.TheVariants.{Bool as Truth}
-use Rattle.civl_tree.specs.rules.Scopes.{global_scope}
 use Rattle.civl_meaning.specs.Permissions.{pairwise_disjoint}
 use Rattle.civl_meaning.specs.Initial.{initial_permissions}
 use Rattle.civl_terms.proofs.Growing.{grows_trans}
@@ -9,7 +8,6 @@ use Rattle.civl_formulas.proofs.Saying.{sort_stays, test_stays}
 use Rattle.civl_formulas.proofs.Listing.{sorts_stay, said_stay}
 use Rattle.civl_states.specs.Stores.{AreStore}
 use Rattle.civl_states.proofs.Typed.{init_typed}
-use Rattle.civl_states.proofs.Weighing.{weighs_some}
 use Rattle.civl_interfere.proofs.initials.initial_at.Goals as goal
 
 pub global_note-requires-clause-typed : goal.global_note-requires-clause-typed
@@ -31,7 +29,7 @@ returns-clause-tells c = λ g s.
     (c.in_ok-apart.ensures.tells g (said_stay _ _ _ _ _ c.in_ok-init.ensures.grows s))
 
 pub returns-clause-weighs : goal.returns-clause-weighs
-returns-clause-weighs c = omega (arith, c.in_ok-init.ensures.weighs, c.in_ok-apart.ensures.weighs, c.in_ok-id.ensures.weighs, weighs_some (global_scope c.args.program.now) c.args.program.now.init)
+returns-clause-weighs c = omega (arith, c.in_ok-init.ensures.weighs, c.in_ok-apart.ensures.weighs, c.in_ok-id.ensures.weighs)
 
 pub returns-clause-grows : goal.returns-clause-grows
 returns-clause-grows c = grows_trans _ _ _ c.in_ok-init.ensures.grows (grows_trans _ _ _ c.in_ok-apart.ensures.grows c.in_ok-id.ensures.grows)

@@ -1,10 +1,12 @@
-use Rattle.std.proofs.Common.{ℕ, List, sym, subst}
+use Rattle.std.proofs.Common.{ℕ, List, sym, subst, arith}
 use Rattle.civl_tree.specs.declared.expr.Sort.TheVariants.{Bool as Truth}
+use Rattle.civl_tree.specs.rules.Scopes.{global_scope}
 use Rattle.civl_terms.proofs.Growing.{grows_trans}
 use Rattle.civl_conditions.specs.Invariants.{is_initial, invariant_lost}
 use Rattle.civl_formulas.proofs.Saying.{sort_stays, test_stays}
 use Rattle.civl_formulas.proofs.Listing.{sorts_stay, said_stay}
 use Rattle.civl_states.specs.Stores.{AreGlobals, AreStore}
+use Rattle.civl_states.proofs.Weighing.{weighs_some}
 use Rattle.civl_interfere.proofs.starts.start_at.Goals as goal
 
 pub lost_at-requires-clause-globals : goal.lost_at-requires-clause-globals
@@ -29,3 +31,7 @@ returns-in_err-lost-clause-grows c = grows_trans _ _ _ c.in_ok-initial.ensures.g
 
 pub returns-in_err-id-clause-grows : goal.returns-in_err-id-clause-grows
 returns-in_err-id-clause-grows c = grows_trans _ _ _ c.in_ok-initial.ensures.grows (grows_trans _ _ _ c.in_ok-lost.ensures.grows c.in_err-id.ensures.grows)
+
+pub returns-clause-weighs : goal.returns-clause-weighs
+returns-clause-weighs c =
+    omega (arith, c.in_ok-initial.ensures.weighs, c.in_ok-lost.ensures.weighs, c.in_ok-id.ensures.weighs, weighs_some (global_scope c.args.program.now) c.args.program.now.init)

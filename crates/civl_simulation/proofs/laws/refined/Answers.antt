@@ -1,4 +1,4 @@
-use Rattle.civl_simulation.proofs.Refined.Joining.{nothing_refined, refined_join}
+use Rattle.civl_simulation.proofs.Refined.Joining.{nothing_anyhow, joins_anyhow}
 use Rattle.civl_simulation.proofs.Refined.Concluding.{conclusions_refine}
 use Rattle.civl_simulation.proofs.Carried.Steps.{carried_step, calls_carry, yields_carry}
 use Rattle.civl_simulation.proofs.Carried.Blocks.{checked_are_refined}
@@ -8,4 +8,4 @@ pub returns : goal.returns
 returns c =
     let keep = c.checked.ensures.permissions in
     let roots = c.checked.ensures.roots in
-    checked_are_refined keep roots c.stages_are_runs.ensures c.inside.ensures.beside (calls_carry keep) (carried_step conclusions_refine refined_join keep roots) (yields_carry conclusions_refine refined_join nothing_refined keep roots) conclusions_refine refined_join
+    checked_are_refined keep roots c.stages_are_runs.ensures c.inside.ensures.beside (calls_carry keep) (carried_step conclusions_refine joins_anyhow keep roots) (yields_carry conclusions_refine joins_anyhow nothing_anyhow keep roots) conclusions_refine joins_anyhow

@@ -6,7 +6,7 @@ use Rattle.civl_words.proofs.laws.each_command_has_words.Goals as goal
 
 shown : EachCommandHasWords
 unfolding clap_on_literals command_of
-shown = (refl, refl, refl, refl, refl, refl, refl, refl)
+shown = (refl, refl, refl, refl, refl, refl, refl, refl, refl)
 
 pub returns : goal.returns
 returns c = shown

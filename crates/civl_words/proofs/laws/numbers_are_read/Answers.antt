@@ -6,7 +6,7 @@ use Rattle.civl_words.proofs.laws.numbers_are_read.Goals as goal
 
 shown : NumbersAreRead
 unfolding clap_on_literals command_of
-shown = (refl, refl, refl, refl, refl, refl, refl)
+shown = (refl, refl, refl, refl, refl, refl, refl, refl)
 
 pub returns : goal.returns
 returns c = shown

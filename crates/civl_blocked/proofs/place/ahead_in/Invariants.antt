@@ -1,0 +1,7 @@
+use Rattle.std.proofs.Common.{◌≡◌, drop}
+use Rattle.civl_blocks.specs.Ahead.{ahead_in}
+use Rattle.civl_shadows.specs.Rests.{rest_of}
+use Rattle.civl_blocked.proofs.place.ahead_in.Given as goal
+
+abbrev pub invariant-loop-at : goal.invariant-loop-at
+invariant-loop-at l = l.behind ≡ ahead_in l.program (rest_of (drop l.at l.rest))

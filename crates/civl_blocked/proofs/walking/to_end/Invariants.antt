@@ -1,0 +1,14 @@
+use Rattle.std.proofs.Common.{◌≡◌, ◌++◌, length}
+use Rattle.civl_gathering.specs.Gathered.{AllPass}
+use Rattle.civl_blocked.specs.Segments.{over, FailsTo}
+use Rattle.civl_blocked.proofs.walking.to_end.Given as goal
+
+abbrev pub invariant-loop-chosen : goal.invariant-loop-chosen
+invariant-loop-chosen l = record {
+  split : l.fn.rest.items ≡ l.moves.items ++ l.rest.items;
+  pass : AllPass (over l.ground) l.thread l.moves.items l.from l.config;
+  fails : FailsTo (over l.ground) l.rest.items l.config;
+}
+
+abbrev pub decreases-loop-chosen : goal.decreases-loop-chosen
+decreases-loop-chosen l = length l.rest.items

@@ -1,0 +1,8 @@
+pub mod Places
+pub mod Offering
+pub mod Blocked
+pub mod Segments
+pub mod Walked
+pub mod Shortened
+pub mod Completed
+pub mod Turning

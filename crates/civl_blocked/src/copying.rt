@@ -1,0 +1,30 @@
+// Copies of moves.
+ghost use Rattle.std.specs.Prelude.{◌≡◌, IfOk};
+
+use civl_meaning::Move;
+use civl_tree::{List, Memory};
+use std::alloc::Global;
+use std::collections::VecDeque;
+
+/// An equal move.
+pub fn copied(alloc: Global, chosen: &Move) -> Result<Move, Memory>
+    ensures { IfOk result (λ m. m ≡ chosen.now) }
+{
+    let choices = Vec::from_slice(alloc, chosen.choices.as_slice())?;
+    Ok(Move {
+        thread: chosen.thread,
+        choices: List::from_vec(choices),
+    })
+}
+
+/// Equal moves, to be taken from the front.
+pub fn queue(alloc: Global, moves: &[Move]) -> Result<VecDeque<Move>, Memory>
+    ensures { IfOk result (λ ms. ms.items ≡ moves.now) }
+{
+    let mut copies = VecDeque::new(alloc);
+    for chosen in moves {
+        let copy = copied(alloc, chosen)?;
+        copies.push_back(copy)?;
+    }
+    Ok(copies)
+}

@@ -1,0 +1,332 @@
+// A failing run is turned into a block run, block by block.
+ghost use Rattle.std.specs.Prelude.{ℕ, ◌≡◌, ◌+◌, ◌<◌, ◌≤◌, ◌∷◌, [], ◌++◌, List, Some, None, length, IfOk, OnOk, IsTrue};
+ghost use Rattle.civl_meaning.specs.declared.config.Config.{Config as There};
+ghost use Rattle.civl_meaning.specs.declared.config.Move.{Move as Given};
+ghost use Rattle.civl_interleavings.specs.Runs.{Opens};
+ghost use Rattle.civl_gathering.specs.Gathered.{own, others};
+ghost use Rattle.civl_blocked.specs.Segments.{IsGround, over, program_of, mover, Gathered};
+ghost use Rattle.civl_blocked.specs.declared.turning.Next.TheVariants.{Goes, Done};
+ghost use Rattle.civl_blocked.specs.Blocked.{IsBlocked};
+ghost use Rattle.civl_blocked.specs.Turning.{IsBeside, IsTurning, IsGoing, IsNext, IsGathering, IsShortening, IsFinishing, HasRoom, whole_of, part_of, measure};
+
+use crate::blocked::Blocked;
+use crate::completing::{Completed, complete};
+use crate::copying::{copied, queue};
+use crate::gathering::gathers;
+use crate::ground::Ground;
+use crate::place::{is_late, place_at};
+use crate::segment::Segment;
+use crate::shortening::shortened;
+use crate::stepping::failing_in;
+use crate::walking::{Walked, to_end, to_turn};
+use civl_meaning::{Config, Move};
+use civl_shadows::{Shadowed, is_challenged, shadowed_step};
+use civl_tree::{List, Memory};
+use std::alloc::Global;
+use std::collections::VecDeque;
+
+/// So many steps are added to a block that the moves leave unfinished.
+pub const STEPS: u32 = 1_000_000;
+
+/// A run on its way to a block run.
+#[derive(Drop)]
+pub struct Turning {
+    /// The moves of the block run so far, and of the block that is open.
+    pub done: Vec<Move>,
+    /// Where they lead, and the shadow beside them.
+    pub beside: Shadowed,
+    /// The moves that are still to come.
+    pub rest: VecDeque<Move>,
+    /// The thread whose block is open, if one is.
+    pub open: Option<u32>,
+}
+
+/// What comes next.
+#[derive(Drop)]
+pub enum Next {
+    /// More of the same.
+    Goes,
+    /// Nothing: the block run fails or is challenged.
+    Done,
+    /// The thread's block is open, and isn't ended by its next steps; these moves lead to where that is so.
+    Spent(u32, Vec<Move>),
+}
+
+/// Joins one more move to the block run.
+fn join(
+    alloc: Global,
+    ground: &Ground<'_, '_, '_>,
+    done: &mut Vec<Move>,
+    beside: &mut Shadowed,
+    chosen: &Move,
+) -> Result<(), Memory>
+    requires ground { IsGround ground.now }
+    requires runs { (d : There) × ((over ground.now).step beside.old.config chosen.now ≡ Some d) }
+    requires beside { IsBeside ground.now done.old.items beside.old }
+    ensures done { OnOk result (done.new.items ≡ done.old.items ++ chosen.now ∷ []) }
+    ensures step { OnOk result ((over ground.now).step beside.old.config chosen.now ≡ Some beside.new.config) }
+    ensures beside { OnOk result (IsBeside ground.now done.new.items beside.new) }
+{
+    shadowed_step(
+        alloc,
+        ground.plain,
+        ground.places,
+        ground.layer,
+        beside,
+        chosen,
+    )?;
+    let copy = copied(alloc, chosen)?;
+    done.push(copy)?;
+    Ok(())
+}
+
+/// Joins the moves of this thread to the block run.
+fn join_own(
+    alloc: Global,
+    ground: &Ground<'_, '_, '_>,
+    done: &mut Vec<Move>,
+    beside: &mut Shadowed,
+    thread: u32,
+    moves: &[Move],
+) -> Result<(), Memory>
+    requires ground { IsGround ground.now }
+    requires runs { (x : There) × Opens (over ground.now) thread (own mover thread moves.now) beside.old.config x }
+    requires beside { IsBeside ground.now done.old.items beside.old }
+    ensures done { OnOk result (done.new.items ≡ done.old.items ++ own mover thread moves.now) }
+    ensures opens { OnOk result (Opens (over ground.now) thread (own mover thread moves.now) beside.old.config beside.new.config) }
+    ensures beside { OnOk result (IsBeside ground.now done.new.items beside.new) }
+{
+    for chosen in moves {
+        if chosen.thread != thread {
+            continue;
+        }
+        join(alloc, ground, done, beside, chosen)?;
+    }
+    Ok(())
+}
+
+/// Puts the moves of the other threads in front of what is still to come.
+fn put_back(
+    alloc: Global,
+    rest: &mut VecDeque<Move>,
+    thread: u32,
+    moves: &[Move],
+) -> Result<(), Memory>
+    ensures { OnOk result (rest.new.items ≡ others mover thread moves.now ++ rest.old.items) }
+{
+    for at in (0..moves.len()).rev() {
+        let chosen = &moves[at];
+        if chosen.thread != thread {
+            let copy = copied(alloc, chosen)?;
+            rest.push_front(copy)?;
+        }
+    }
+    Ok(())
+}
+
+/// Joins a segment's moves of this thread to the block run, and puts the others back. Whether the block run is then challenged.
+fn take_in(
+    alloc: Global,
+    ground: &Ground<'_, '_, '_>,
+    turning: &mut Turning,
+    thread: u32,
+    segment: &Segment,
+) -> Result<bool, Memory>
+    requires ground { IsGround ground.now }
+    requires gathering { IsGathering ground.now turning.old thread segment.now turning.old.rest.items }
+    requires gathered { Gathered ground.now turning.old.beside.config thread segment.now }
+    ensures going { IfOk result (λ challenged. (IsTrue challenged → ⊥) → (bound before : ℕ) → HasRoom ground.now bound before turning.old (whole_of segment.now turning.old.rest.items) (part_of thread segment.now turning.old.rest.items) → IsNext ground.now bound before turning.new Goes) }
+    ensures done { IfOk result (λ challenged. IsTrue challenged → (bound before : ℕ) → HasRoom ground.now bound before turning.old (whole_of segment.now turning.old.rest.items) (part_of thread segment.now turning.old.rest.items) → IsNext ground.now bound before turning.new Done) }
+{
+    civl_gathered::laws::places_stay();
+    let moves = segment.moves.as_slice();
+    join_own(
+        alloc,
+        ground,
+        &mut turning.done,
+        &mut turning.beside,
+        thread,
+        moves,
+    )?;
+    join(
+        alloc,
+        ground,
+        &mut turning.done,
+        &mut turning.beside,
+        &segment.last,
+    )?;
+    put_back(alloc, &mut turning.rest, thread, moves)?;
+    let program = &ground.plain.program;
+    let place = place_at(alloc, program, ground.layer, &turning.beside.config, thread)?;
+    if is_late(place) {
+        turning.open = Some(thread);
+        return Ok(false);
+    }
+    turning.open = None;
+    let challenged = is_challenged(alloc, ground.plain, ground.layer, &turning.beside)?;
+    Ok(challenged)
+}
+
+/// Goes on with a shorter rest that fails.
+fn shorten(
+    alloc: Global,
+    ground: &Ground<'_, '_, '_>,
+    turning: &mut Turning,
+    thread: u32,
+    moves: &[Move],
+) -> Result<Next, Memory>
+    requires ground { IsGround ground.now }
+    requires shortening { IsShortening ground.now turning.old thread moves.now }
+    ensures { IfOk result (λ next. (bound before : ℕ) → HasRoom ground.now bound before turning.old (length moves.now) (length (others mover thread moves.now)) → IsNext ground.now bound before turning.new next) }
+{
+    let config = &turning.beside.config;
+    let shorter = shortened(alloc, ground, config, thread, moves)?;
+    turning.rest = queue(alloc, &shorter)?;
+    Ok(Next::Goes)
+}
+
+/// Gathers the moves of this thread at the front of a segment, or goes on with a shorter rest.
+fn gather(
+    alloc: Global,
+    ground: &Ground<'_, '_, '_>,
+    turning: &mut Turning,
+    thread: u32,
+    segment: Segment,
+) -> Result<Next, Memory>
+    requires ground { IsGround ground.now }
+    requires gathering { IsGathering ground.now turning.old thread segment turning.old.rest.items }
+    ensures { IfOk result (λ next. (bound before : ℕ) → HasRoom ground.now bound before turning.old (whole_of segment turning.old.rest.items) (part_of thread segment turning.old.rest.items) → IsNext ground.now bound before turning.new next) }
+{
+    if gathers(alloc, ground, &turning.beside.config, thread, &segment)? {
+        if take_in(alloc, ground, turning, thread, &segment)? {
+            return Ok(Next::Done);
+        }
+        return Ok(Next::Goes);
+    }
+    let Segment {
+        mut moves,
+        last,
+        end: _,
+    } = segment;
+    moves.push(last)?;
+    let next = shorten(alloc, ground, turning, thread, &moves)?;
+    Ok(next)
+}
+
+/// Completes the block that is open, which these moves leave unfinished, and gathers its moves.
+fn finish(
+    alloc: Global,
+    ground: &Ground<'_, '_, '_>,
+    turning: &mut Turning,
+    thread: u32,
+    moves: Vec<Move>,
+    end: Config,
+) -> Result<Next, Memory>
+    requires ground { IsGround ground.now }
+    requires finishing { IsFinishing ground.now turning.old thread moves.items end }
+    ensures { IfOk result (λ next. (bound before : ℕ) → HasRoom ground.now bound before turning.old (length moves.items) (length (others mover thread moves.items)) → IsNext ground.now bound before turning.new next) }
+{
+    civl_gathered::laws::places_stay();
+    civl_gathered::laws::moves_gather();
+    civl_gathered::laws::moves_stop();
+    civl_gathered::laws::late_threads_step();
+    let Some(failing) = failing_in(ground, &end)? else {
+        unreachable!()
+    };
+    if failing == thread {
+        let next = shorten(alloc, ground, turning, thread, &moves)?;
+        return Ok(next);
+    }
+    match complete(alloc, ground, thread, moves, end, STEPS)? {
+        Completed::Whole(segment) => gather(alloc, ground, turning, thread, segment),
+        Completed::Stopped(moves) => shorten(alloc, ground, turning, thread, &moves),
+        Completed::Spent(moves) => Ok(Next::Spent(thread, moves)),
+    }
+}
+
+/// Goes on to the end of the block that is open.
+fn go_late(
+    alloc: Global,
+    ground: &Ground<'_, '_, '_>,
+    turning: &mut Turning,
+    thread: u32,
+) -> Result<Next, Memory>
+    requires ground { IsGround ground.now }
+    requires going { IsGoing ground.now turning.old }
+    requires open { turning.old.open ≡ Some thread }
+    ensures { IfOk result (λ next. (bound : ℕ) → IsTurning ground.now bound turning.old → IsNext ground.now bound (measure ground.now turning.old) turning.new next) }
+{
+    civl_gathered::laws::places_stay();
+    civl_gathered::laws::moves_gather();
+    match to_end(
+        alloc,
+        ground,
+        &turning.beside.config,
+        thread,
+        &mut turning.rest,
+    )? {
+        Walked::To(segment) => gather(alloc, ground, turning, thread, segment),
+        Walked::Past(moves, end) => finish(alloc, ground, turning, thread, moves, end),
+    }
+}
+
+/// Goes on to the next turn of a block, where none is open.
+fn go_early(
+    alloc: Global,
+    ground: &Ground<'_, '_, '_>,
+    turning: &mut Turning,
+) -> Result<Next, Memory>
+    requires ground { IsGround ground.now }
+    requires going { IsGoing ground.now turning.old }
+    requires open { turning.old.open ≡ None }
+    ensures { IfOk result (λ next. (bound : ℕ) → IsTurning ground.now bound turning.old → IsNext ground.now bound (measure ground.now turning.old) turning.new next) }
+{
+    civl_gathered::laws::moves_gather();
+    civl_gathered::laws::moves_stop();
+    if failing_in(ground, &turning.beside.config)?.is_some() {
+        return Ok(Next::Done);
+    }
+    match to_turn(alloc, ground, &turning.beside.config, &mut turning.rest)? {
+        Walked::To(segment) => {
+            let thread = segment.last.thread;
+            gather(alloc, ground, turning, thread, segment)
+        }
+        Walked::Past(moves, end) => {
+            let Some(thread) = failing_in(ground, &end)? else {
+                unreachable!()
+            };
+            shorten(alloc, ground, turning, thread, &moves)
+        }
+    }
+}
+
+/// Goes on by one block, or by a shorter rest.
+fn go_on(alloc: Global, ground: &Ground<'_, '_, '_>, turning: &mut Turning) -> Result<Next, Memory>
+    requires ground { IsGround ground.now }
+    requires going { IsGoing ground.now turning.old }
+    ensures { IfOk result (λ next. (bound : ℕ) → IsTurning ground.now bound turning.old → IsNext ground.now bound (measure ground.now turning.old) turning.new next) }
+{
+    match turning.open {
+        None => go_early(alloc, ground, turning),
+        Some(thread) => go_late(alloc, ground, turning, thread),
+    }
+}
+
+/// Turns a failing run into a block run.
+pub fn turn(alloc: Global, ground: &Ground<'_, '_, '_>, turning: Turning) -> Result<Blocked, Memory>
+    requires ground { IsGround ground.now }
+    requires going { IsGoing ground.now turning }
+    ensures { IfOk result (λ blocked. (given : List Given) → IsTurning ground.now (length given) turning → IsBlocked (program_of ground.now) ground.now.layer ground.now.store.now 1000000 given blocked) }
+{
+    let mut turning = turning;
+    loop {
+        match go_on(alloc, ground, &mut turning)? {
+            Next::Goes => {}
+            Next::Done => return Ok(Blocked::Run(List::from_vec(turning.done))),
+            Next::Spent(thread, mut moves) => {
+                turning.done.append(&mut moves)?;
+                return Ok(Blocked::Spent(thread, List::from_vec(turning.done)));
+            }
+        }
+    }
+}

@@ -1,0 +1,6 @@
+mod Walking
+mod Stepping
+mod Same
+mod Codes
+mod Closes
+mod Rounds

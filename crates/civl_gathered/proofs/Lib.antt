@@ -1,0 +1,4 @@
+pub mod Moving
+pub mod Stages
+mod Offering
+mod Gathering

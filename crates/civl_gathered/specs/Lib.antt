@@ -1,0 +1,3 @@
+pub mod System
+pub mod Offered
+pub mod Laws

@@ -1,0 +1,65 @@
+use Rattle.std.specs.Prelude.{◌<◌, ◌^◌, ◌&&◌, length, List}
+use Rattle.std.proofs.Common.{◌∙◌, sym, ap, subst, arith}
+use Rattle.civl_tree.specs.declared.expr.Sort.{Sort}
+use Rattle.civl_firing.specs.declared.store.Store.{Store}
+use Rattle.civl_terms.proofs.Growing.{lengthens_trans, lengthened}
+use Rattle.civl_conditions.specs.Invariants.{is_initial}
+use Rattle.civl_formulas.specs.Given.{given, bits_of_sorts, AreVariablesOf}
+use Rattle.civl_formulas.proofs.Giving.{variables_kept}
+use Rattle.civl_formulas.proofs.Saying.{test_as}
+use Rattle.civl_states.specs.Stores.{global_sorts}
+use Rattle.civl_states.proofs.Limits.{AreSorts, global_sorts_are}
+use Rattle.civl_states.proofs.Formulas.{formula_of}
+use Rattle.civl_states.proofs.Taking.{there}
+use Rattle.civl_interfere.proofs.Starting.{all_sorts, all_stand, sorts_few, all_store}
+use Rattle.civl_goals.specs.declared.goal.Goal.TheVariants as named
+use Rattle.civl_goals.specs.Failed.{failed, thread_fails}
+use Rattle.civl_goal_terms.specs.Formulas.{sorts_of}
+use Rattle.civl_goal_terms.proofs.Beginning.{thread_sorts, thread_is, thread_weighs}
+use Rattle.civl_goal_terms.proofs.begins.thread_begins_astray.Goals as goal
+
+pub store-requires-clause-rules : goal.store-requires-clause-rules
+store-requires-clause-rules c = c.requires.layered.rules
+
+pub store-requires-clause-stand : goal.store-requires-clause-stand
+store-requires-clause-stand c = all_stand c.args.program.now c.args.sorts.now (c.requires.sorts ∙ thread_sorts c.args.program.now c.args.number)
+
+pub store-requires-clause-small : goal.store-requires-clause-small
+store-requires-clause-small c =
+    let p = c.args.program.now in
+    subst (λ (ss : List Sort). length ss < 2 ^ 32) (sym (c.requires.sorts ∙ thread_sorts c.args.program.now c.args.number)) (sorts_few p c.requires.layered.rules)
+
+pub store-requires-clause-limits : goal.store-requires-clause-limits
+store-requires-clause-limits c =
+    let p = c.args.program.now in
+    subst AreSorts (sym (c.requires.sorts ∙ thread_sorts c.args.program.now c.args.number)) (global_sorts_are p c.requires.layered.rules)
+
+pub returns-in_err-id-clause-lengthens : goal.returns-in_err-id-clause-lengthens
+returns-in_err-id-clause-lengthens c = lengthens_trans _ _ _ c.in_ok-globals.ensures.lengthens (lengthened _ _ c.in_err-id.ensures.grows)
+
+pub returns-clause-lengthens : goal.returns-clause-lengthens
+returns-clause-lengthens c = lengthens_trans _ _ _ c.in_ok-globals.ensures.lengthens (lengthened _ _ c.in_ok-id.ensures.grows)
+
+pub returns-clause-says : goal.returns-clause-says
+returns-clause-says c =
+    let p = c.args.program.now in
+    let o = c.args.outline.now in
+    let i = c.args.number in
+    let n1 = c.store.new.terms in
+    let n2 = c.thread_at.new.terms in
+    let sorts = sorts_of p (named.Thread i) in
+    let same = thread_sorts p i in
+    let one = there p.threads i c.requires.number in
+    formula_of n2 c.in_ok-id.id sorts (failed p o (named.Thread i))
+    (variables_kept n1 n2 sorts c.in_ok-id.ensures.grows (subst (AreVariablesOf n1) c.requires.sorts c.in_ok-globals.ensures.variables))
+    (test_as n2 c.in_ok-id.id _ _
+    (λ env.
+    ap (λ (g : Store). is_initial p g && thread_fails p o g one.0) (all_store p env)
+    ∙ (thread_is p o i one.0 (given env 0 (length (global_sorts p))) one.1 ∙ ap (λ (ss : List Sort). failed p o (named.Thread i) (given env 0 (length ss))) (sym same)))
+    (c.in_ok-id.ensures.tells one.0 one.1 _ c.in_ok-globals.ensures.store))
+
+pub returns-clause-weighs : goal.returns-clause-weighs
+returns-clause-weighs c =
+    let p = c.args.program.now in
+    let one = there p.threads c.args.number c.requires.number in
+    omega (arith, c.in_ok-globals.ensures.weighs, c.in_ok-id.ensures.weighs one.0 one.1, ap bits_of_sorts (all_sorts p), thread_weighs p c.args.outline.now c.args.number one.0 one.1)

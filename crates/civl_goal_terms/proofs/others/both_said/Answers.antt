@@ -1,0 +1,43 @@
+use Rattle.std.specs.Prelude.{◌&&◌}
+use Rattle.std.proofs.Common.{arith}
+use Rattle.civl_tree.specs.declared.expr.Sort.TheVariants.{Bool as Truth}
+use Rattle.civl_terms.proofs.Growing.{grows_trans}
+use Rattle.civl_formulas.proofs.Saying.{sort_stays, test_stays}
+use Rattle.civl_formulas.proofs.Listing.{sorts_stay, said_stay}
+use Rattle.civl_goals.specs.Outlines.{invariant_holds, note_holds}
+use Rattle.civl_goal_terms.specs.Others.{other_frame}
+use Rattle.civl_goal_terms.specs.Settings.{frame_at}
+use Rattle.civl_goal_terms.proofs.others.both_said.Goals as goal
+
+pub note_at-requires-clause-proc : goal.note_at-requires-clause-proc
+note_at-requires-clause-proc c = c.requires.other
+
+pub note_at-requires-clause-globals : goal.note_at-requires-clause-globals
+note_at-requires-clause-globals c = sorts_stay _ _ _ _ c.in_ok-said.ensures.grows c.requires.can.globals
+
+pub note_at-requires-clause-locals : goal.note_at-requires-clause-locals
+note_at-requires-clause-locals c = sorts_stay _ _ _ _ c.in_ok-said.ensures.grows c.requires.locals
+
+pub both-requires-clause-a : goal.both-requires-clause-a
+both-requires-clause-a c = sort_stays _ _ _ Truth c.in_ok-note.ensures.grows c.in_ok-said.ensures.sorted
+
+pub returns-clause-tells : goal.returns-clause-tells
+returns-clause-tells c = λ h l says said.
+    let p = c.args.program.now in
+    let o = c.args.outline.now in
+    let u = c.in_ok-said.ensures.grows in
+    c.in_ok-id.ensures.test (λ env. invariant_holds p o (h env).store && note_holds p o (h env).store (frame_at c.args.at.now (h env))) (λ env. note_holds p o (h env).store (other_frame c.args.other.now (l env)))
+    (test_stays _ _ _ _ c.in_ok-note.ensures.grows (c.in_ok-said.ensures.tells h says))
+    (c.in_ok-note.ensures.tells (λ env. (h env).store) l (said_stay _ _ _ _ _ u says.globals) (said_stay _ _ _ _ _ u said))
+
+pub returns-clause-weighs : goal.returns-clause-weighs
+returns-clause-weighs c = omega (arith, c.in_ok-said.ensures.weighs, c.in_ok-note.ensures.weighs, c.in_ok-id.ensures.weighs)
+
+pub returns-clause-grows : goal.returns-clause-grows
+returns-clause-grows c = grows_trans _ _ _ c.in_ok-said.ensures.grows (grows_trans _ _ _ c.in_ok-note.ensures.grows c.in_ok-id.ensures.grows)
+
+pub returns-in_err-note-clause-grows : goal.returns-in_err-note-clause-grows
+returns-in_err-note-clause-grows c = grows_trans _ _ _ c.in_ok-said.ensures.grows c.in_err-note.ensures.grows
+
+pub returns-in_err-id-clause-grows : goal.returns-in_err-id-clause-grows
+returns-in_err-id-clause-grows c = grows_trans _ _ _ c.in_ok-said.ensures.grows (grows_trans _ _ _ c.in_ok-note.ensures.grows c.in_err-id.ensures.grows)

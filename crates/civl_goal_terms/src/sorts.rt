@@ -1,0 +1,299 @@
+// The sorts of the variables of goals.
+ghost use Rattle.std.specs.Prelude.{◌≡◌, ◌++◌, [], map, filter, slice_get, IfOk, OnOk};
+ghost use Rattle.std.specs.Option.{option_map_or};
+ghost use Rattle.civl_tree.specs.declared.stmt.Stmt.{out-Stmt};
+ghost use Rattle.civl_tree.specs.Numbering.{statements_of};
+ghost use Rattle.civl_tree.specs.rules.Uses.{param_sorts};
+ghost use Rattle.civl_meaning.specs.Config.{frame_sorts};
+ghost use Rattle.civl_meaning.specs.Layers.{topmost};
+ghost use Rattle.civl_meaning.specs.Meaning.{called};
+ghost use Rattle.civl_footprints.specs.Agreement.{exists_at};
+ghost use Rattle.civl_conditions.specs.Steps.{of_action};
+ghost use Rattle.civl_conditions.specs.Variables.{choices_of, layer_choices};
+ghost use Rattle.civl_states.specs.Runs.{instance_sorts};
+ghost use Rattle.civl_goal_terms.specs.Formulas.{sorts_of};
+ghost use Rattle.civl_goal_terms.specs.Sorted.{top_sorts, sorts_in_frame, choices_in, chosen_sorts, statement_sorts, grouped_sorts};
+
+use civl_conditions::action_called;
+use civl_goals::Goal;
+use civl_layers::{Layered, program};
+use civl_terms::Memory;
+use civl_tree::{Action, Choice, Global, List, Local, Name, Param, Proc, Program, Sort, Stmt};
+use civl_walks::statements;
+use std::alloc::Global as Alloc;
+
+// ---- groups
+
+fn push_params(sorts: &mut Vec<Sort>, params: &[Param]) -> Result<(), Memory>
+    ensures { OnOk result (sorts.new.items ≡ sorts.old.items ++ param_sorts params.now) }
+{
+    for param in params {
+        sorts.push(param.sort)?;
+    }
+    Ok(())
+}
+
+fn push_choices(sorts: &mut Vec<Sort>, choices: &[Choice]) -> Result<(), Memory>
+    ensures { OnOk result (sorts.new.items ≡ sorts.old.items ++ map (λ c. c.sort) choices.now) }
+{
+    for choice in choices {
+        sorts.push(choice.sort)?;
+    }
+    Ok(())
+}
+
+fn push_locals(sorts: &mut Vec<Sort>, locals: &[Local]) -> Result<(), Memory>
+    ensures { OnOk result (sorts.new.items ≡ sorts.old.items ++ map (λ l. l.sort) locals.now) }
+{
+    for local in locals {
+        sorts.push(local.sort)?;
+    }
+    Ok(())
+}
+
+/// All globals.
+fn push_globals(sorts: &mut Vec<Sort>, globals: &[Global]) -> Result<(), Memory>
+    ensures { OnOk result (sorts.new.items ≡ sorts.old.items ++ map (λ g. g.sort) globals.now) }
+{
+    for global in globals {
+        sorts.push(global.sort)?;
+    }
+    Ok(())
+}
+
+/// Whether a global exists in a layer.
+fn exists_at(layer: u32, global: &Global) -> bool
+    ensures { result ≡ exists_at layer global.now }
+{
+    global.first <= layer && layer <= global.last
+}
+
+/// Those of the globals that exist in a layer.
+fn push_existing(sorts: &mut Vec<Sort>, layer: u32, globals: &[Global]) -> Result<(), Memory>
+    ensures { OnOk result (sorts.new.items ≡ sorts.old.items ++ map (λ g. g.sort) (filter (exists_at layer) globals.now)) }
+{
+    for global in globals {
+        if exists_at(layer, global) {
+            sorts.push(global.sort)?;
+        }
+    }
+    Ok(())
+}
+
+/// The globals of the topmost program.
+fn push_top(sorts: &mut Vec<Sort>, program: &Program) -> Result<(), Memory>
+    ensures { OnOk result (sorts.new.items ≡ sorts.old.items ++ top_sorts program.now) }
+{
+    push_existing(sorts, program.layers, program.globals.as_slice())?;
+    Ok(())
+}
+
+/// The parameters and choices of an action.
+fn push_instance(sorts: &mut Vec<Sort>, action: &Action) -> Result<(), Memory>
+    ensures { OnOk result (sorts.new.items ≡ sorts.old.items ++ instance_sorts action.now) }
+{
+    push_params(sorts, action.params.as_slice())?;
+    push_choices(sorts, action.choices.as_slice())?;
+    Ok(())
+}
+
+/// The parameters and choices of the action with this number, where there is one.
+fn push_action(sorts: &mut Vec<Sort>, program: &Program, number: u32) -> Result<(), Memory>
+    ensures { OnOk result (sorts.new.items ≡ sorts.old.items ++ of_action program.now number [] instance_sorts) }
+{
+    match program.actions.as_slice().get(number as usize) {
+        Some(action) => {
+            push_instance(sorts, action)?;
+            Ok(())
+        }
+        None => Ok(()),
+    }
+}
+
+/// The parameters, outputs and locals of a procedure.
+fn push_frame(sorts: &mut Vec<Sort>, proc: &Proc) -> Result<(), Memory>
+    ensures { OnOk result (sorts.new.items ≡ sorts.old.items ++ frame_sorts proc.now) }
+{
+    push_params(sorts, proc.params.as_slice())?;
+    push_params(sorts, proc.outs.as_slice())?;
+    push_locals(sorts, proc.locals.as_slice())?;
+    Ok(())
+}
+
+/// Those of the procedure with this number, where there is one.
+fn push_frame_of(sorts: &mut Vec<Sort>, program: &Program, number: u32) -> Result<(), Memory>
+    ensures { OnOk result (sorts.new.items ≡ sorts.old.items ++ sorts_in_frame program.now number) }
+{
+    match program.procs.as_slice().get(number as usize) {
+        Some(proc) => {
+            push_frame(sorts, proc)?;
+            Ok(())
+        }
+        None => Ok(()),
+    }
+}
+
+// ---- choices
+
+/// The choices of a call of this name in the topmost program.
+fn called_choices<'a>(program: &'a Program, name: &Name) -> &'a [Choice]
+    ensures { result.now ≡ choices_of (called (topmost program.now) name.now) }
+{
+    match action_called(program, program.layers, name) {
+        Some(action) => action.choices.as_slice(),
+        None => &[],
+    }
+}
+
+/// The choices of a statement's call.
+pub(crate) fn stmt_choices<'a>(program: &'a Program, stmt: &Stmt) -> &'a [Choice]
+    ensures { result.now ≡ layer_choices (topmost program.now) (out-Stmt stmt.now) }
+{
+    match stmt {
+        Stmt::Call(callee, _, _) => called_choices(program, callee),
+        Stmt::Assign(_, _) => &[],
+        Stmt::Assert(_) => &[],
+        Stmt::If(_, _, _) => &[],
+        Stmt::While(_, _) => &[],
+        Stmt::YieldLoop(_, _, _) => &[],
+        Stmt::RankLoop(_, _, _, _) => &[],
+        Stmt::Yield(_) => &[],
+        Stmt::Commit => &[],
+        Stmt::Intro(_, _) => &[],
+        Stmt::Spawn(_, _) => &[],
+    }
+}
+
+/// The choices of the statement that has this number among these.
+fn number_choices<'a>(program: &'a Program, flat: &[&Stmt], number: u32) -> &'a [Choice]
+    ensures { result.now ≡ option_map_or (λ s. layer_choices (topmost program.now) (out-Stmt s)) (slice_get (map (λ s. s.now) flat.now) number) [] }
+{
+    match flat.get(number as usize) {
+        Some(stmt) => stmt_choices(program, stmt),
+        None => &[],
+    }
+}
+
+/// All statements of a procedure.
+fn flat_statements<'a>(alloc: Alloc, proc: &'a Proc) -> Result<Vec<&'a Stmt>, Memory>
+    ensures { IfOk result (λ flat. map (λ stmt. stmt.now) flat.items ≡ statements_of proc.now.body) }
+{
+    match statements(alloc, &proc.body) {
+        Ok(flat) => Ok(flat),
+        Err(_) => Err(Memory),
+    }
+}
+
+/// The choices of the statement of a procedure that has this number.
+fn push_in(
+    alloc: Alloc,
+    sorts: &mut Vec<Sort>,
+    program: &Program,
+    number: u32,
+    proc: &Proc,
+) -> Result<(), Memory>
+    ensures { OnOk result (sorts.new.items ≡ sorts.old.items ++ map (λ c. c.sort) (choices_in program.now proc.now number)) }
+{
+    let flat = flat_statements(alloc, proc)?;
+    push_choices(sorts, number_choices(program, flat.as_slice(), number))?;
+    Ok(())
+}
+
+/// The choices of a statement of the procedure with this number, where there are both.
+fn push_chosen(
+    alloc: Alloc,
+    sorts: &mut Vec<Sort>,
+    program: &Program,
+    proc: u32,
+    statement: u32,
+) -> Result<(), Memory>
+    ensures { OnOk result (sorts.new.items ≡ sorts.old.items ++ chosen_sorts program.now proc statement) }
+{
+    match program.procs.as_slice().get(proc as usize) {
+        Some(proc) => {
+            push_in(alloc, sorts, program, statement, proc)?;
+            Ok(())
+        }
+        None => Ok(()),
+    }
+}
+
+// ---- all
+
+/// The store, the frame of a root, and the choices of its call.
+fn push_statement(
+    alloc: Alloc,
+    sorts: &mut Vec<Sort>,
+    program: &Program,
+    proc: u32,
+    statement: u32,
+) -> Result<(), Memory>
+    ensures { OnOk result (sorts.new.items ≡ sorts.old.items ++ statement_sorts program.now proc statement) }
+{
+    push_top(sorts, program)?;
+    push_frame_of(sorts, program, proc)?;
+    push_chosen(alloc, sorts, program, proc, statement)?;
+    Ok(())
+}
+
+/// The sorts of a goal's variables, group by group.
+#[tactic(auto, using(std::proofs::lemmas::List::append_assoc))]
+fn push_groups(
+    alloc: Alloc,
+    sorts: &mut Vec<Sort>,
+    program: &Program,
+    goal: &Goal,
+) -> Result<(), Memory>
+    ensures { OnOk result (sorts.new.items ≡ sorts.old.items ++ grouped_sorts program.now goal.now) }
+{
+    match *goal {
+        Goal::Invariant => {
+            push_globals(sorts, program.globals.as_slice())?;
+            Ok(())
+        }
+        Goal::Thread(_) => {
+            push_globals(sorts, program.globals.as_slice())?;
+            Ok(())
+        }
+        Goal::Linear(action) => {
+            push_top(sorts, program)?;
+            push_action(sorts, program, action)?;
+            Ok(())
+        }
+        Goal::Safe(proc, statement) => {
+            push_statement(alloc, sorts, program, proc, statement)?;
+            Ok(())
+        }
+        Goal::Keep(proc, statement) => {
+            push_statement(alloc, sorts, program, proc, statement)?;
+            Ok(())
+        }
+        Goal::Spawn(proc, statement) => {
+            push_statement(alloc, sorts, program, proc, statement)?;
+            Ok(())
+        }
+        Goal::Next(proc, statement) => {
+            push_statement(alloc, sorts, program, proc, statement)?;
+            Ok(())
+        }
+        Goal::Other(proc, statement, other, _) => {
+            push_statement(alloc, sorts, program, proc, statement)?;
+            push_frame_of(sorts, program, other)?;
+            Ok(())
+        }
+    }
+}
+
+/// The sorts of a goal's variables, in their order. Where a number in the goal is of no action, procedure or statement, there is
+/// nothing in its place.
+///
+/// # Errors
+///
+/// For want of memory.
+pub fn goal_sorts(alloc: Alloc, src: &Layered, goal: &Goal) -> Result<List<Sort>, Memory>
+    ensures { IfOk result (λ sorts. sorts ≡ sorts_of src.now goal.now) }
+{
+    let mut sorts = Vec::new(alloc);
+    push_groups(alloc, &mut sorts, program(src), goal)?;
+    Ok(List::from_vec(sorts))
+}

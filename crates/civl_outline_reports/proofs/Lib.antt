@@ -1,0 +1,5 @@
+pub mod Agreeing
+pub mod Asked
+pub mod Beginning
+pub mod Sorted
+pub mod Existing

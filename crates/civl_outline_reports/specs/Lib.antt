@@ -1,0 +1,4 @@
+pub mod Proving
+pub mod Reports
+pub mod Agreement
+pub mod Laws

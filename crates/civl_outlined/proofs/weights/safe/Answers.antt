@@ -1,0 +1,14 @@
+use Rattle.std.proofs.Common.{Option, subst}
+use Rattle.civl_weighing.proofs.Capping.{weighs_same}
+use Rattle.civl_outlined.specs.declared.weights.Found.{Found}
+use Rattle.civl_outlined.specs.Sums.{IsFound}
+use Rattle.civl_outlined.proofs.Totals.{safe_is}
+use Rattle.civl_outlined.proofs.weights.safe.Goals as goal
+
+pub returns-in-Some : goal.returns-in-Some
+returns-in-Some c =
+    let of = subst (λ (o : Option Found). IsFound c.args.sums.now.said.program.now c.args.sums.now.said.outline.now c.args.number c.args.statement o) c.in-Some.is c.look_up.ensures in
+    weighs_same (safe_is c.args.sums.now.said.program.now c.args.sums.now.said.outline.now c.args.number c.args.statement) (c.statement_goal.ensures.is c.args.number c.args.statement (λ spot. 0) of c.of.ensures)
+
+pub returns-in-None : goal.returns-in-None
+returns-in-None c = absurd (subst (λ (o : Option Found). IsFound c.args.sums.now.said.program.now c.args.sums.now.said.outline.now c.args.number c.args.statement o) c.in-None.is c.look_up.ensures)

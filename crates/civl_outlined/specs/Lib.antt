@@ -1,0 +1,5 @@
+pub mod Outlined
+pub mod Places
+pub mod Notes
+pub mod Said
+pub mod Sums

@@ -1,0 +1,6 @@
+mod Resting
+pub mod Dropping
+mod Merges
+pub mod Goings
+mod Calls
+mod Effects

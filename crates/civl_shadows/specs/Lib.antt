@@ -1,0 +1,7 @@
+pub mod Rests
+pub mod Frames
+pub mod Notes
+pub mod Merging
+pub mod Shadows
+pub mod Challenging
+pub mod Stepping

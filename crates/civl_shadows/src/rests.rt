@@ -1,0 +1,194 @@
+//! What is still to run from a place of a body.
+ghost use Rattle.std.specs.Prelude.{◌≡◌, ◌+◌, ◌∷◌, [], ◌++◌, ◌<◌, ◌^◌, OnOk, IfOk, IfSome};
+ghost use Rattle.civl_meaning.specs.Rest.{rest_among, rest_inside, rest_at};
+ghost use Rattle.civl_shadows.specs.Rests.{rest_of};
+ghost use Rattle.civl_tree.specs.Numbering.{numbered, size_of, sizes_of};
+
+use civl_tree::{List, Memory, Proc, Stmt};
+use std::alloc::Global;
+
+/// A statement and its number.
+#[derive(Clone, Copy)]
+pub struct Numbered<'a> {
+    pub number: usize,
+    pub stmt: &'a Stmt,
+}
+
+/// How many statements a statement is, with those inside it, where a number says it.
+#[cycle(counted)]
+fn counted(stmt: &Stmt) -> Option<usize>
+    ensures { IfSome result (λ n. n ≡ size_of stmt.now) }
+{
+    match stmt {
+        Stmt::If(_, a, b) => {
+            let first = counted_all(a)?;
+            let second = counted_all(b)?;
+            let both = first.checked_add(second)?;
+            both.checked_add(1)
+        }
+        Stmt::While(_, a) | Stmt::YieldLoop(_, _, a) | Stmt::RankLoop(_, _, _, a) => {
+            let inside = counted_all(a)?;
+            inside.checked_add(1)
+        }
+        _ => Some(1),
+    }
+}
+
+/// How many statements these are, with those inside them, where a number says it.
+#[cycle(counted)]
+fn counted_all(stmts: &List<Stmt>) -> Option<usize>
+    ensures { IfSome result (λ n. n ≡ sizes_of stmts.now) }
+{
+    let mut sum: usize = 0;
+    for stmt in stmts.as_slice() {
+        let size = counted(stmt)?;
+        sum = sum.checked_add(size)?;
+    }
+    Some(sum)
+}
+
+/// How many statements a statement is, with those inside it.
+#[cycle(size)]
+fn size(stmt: &Stmt) -> usize
+    requires { size_of stmt.now < 2 ^ 64 }
+    ensures { result ≡ size_of stmt.now }
+{
+    match stmt {
+        Stmt::If(_, a, b) => 1 + sizes(a) + sizes(b),
+        Stmt::While(_, a) | Stmt::YieldLoop(_, _, a) | Stmt::RankLoop(_, _, _, a) => 1 + sizes(a),
+        _ => 1,
+    }
+}
+
+/// How many statements these are, with those inside them.
+#[cycle(size)]
+fn sizes(stmts: &List<Stmt>) -> usize
+    requires { sizes_of stmts.now < 2 ^ 64 }
+    ensures { result ≡ sizes_of stmts.now }
+{
+    let mut sum = 0;
+    for stmt in stmts.as_slice() {
+        sum += size(stmt);
+    }
+    sum
+}
+
+/// Puts these statements, the first of which has this number, behind others.
+fn push_numbered<'a>(
+    rest: &mut Vec<Numbered<'a>>,
+    stmts: &'a [Stmt],
+    number: usize,
+) -> Result<(), Memory>
+    requires { number + sizes_of stmts.now < 2 ^ 64 }
+    ensures { OnOk result (rest_of rest.new.items ≡ rest_of rest.old.items ++ numbered number stmts.now) }
+{
+    let mut here = number;
+    for stmt in stmts {
+        rest.push(Numbered { number: here, stmt })?;
+        here += size(stmt);
+    }
+    Ok(())
+}
+
+/// Puts a statement that has this number behind others.
+fn push_one<'a>(rest: &mut Vec<Numbered<'a>>, stmt: &'a Stmt, number: usize) -> Result<(), Memory>
+    ensures { OnOk result (rest_of rest.new.items ≡ rest_of rest.old.items ++ (number, stmt.now) ∷ []) }
+{
+    rest.push(Numbered { number, stmt })?;
+    Ok(())
+}
+
+/// Puts what is still to run from a place among these statements, the first of which has the number `at`, behind others.
+/// Behind the body of a loop the loop comes again.
+#[cycle(rest)]
+fn push_among<'a>(
+    rest: &mut Vec<Numbered<'a>>,
+    stmts: &'a List<Stmt>,
+    at: usize,
+    wanted: usize,
+) -> Result<(), Memory>
+    requires { at + sizes_of stmts.now < 2 ^ 64 }
+    ensures { OnOk result (rest_of rest.new.items ≡ rest_of rest.old.items ++ rest_among stmts.now at [] wanted) }
+{
+    let items = stmts.as_slice();
+    let mut here = at;
+    for i in 0..items.len() {
+        let stmt = &items[i];
+        let behind = here + size(stmt);
+        if wanted < behind {
+            if wanted == here {
+                push_numbered(rest, &items[i..], here)?;
+                return Ok(());
+            }
+            push_inside(rest, stmt, here, wanted)?;
+            push_numbered(rest, &items[i + 1..], behind)?;
+            return Ok(());
+        }
+        here = behind;
+    }
+    Ok(())
+}
+
+/// The same from a place inside a statement.
+#[cycle(rest)]
+#[tactic(auto, using(crate::proofs::Resting::resting))]
+fn push_inside<'a>(
+    rest: &mut Vec<Numbered<'a>>,
+    stmt: &'a Stmt,
+    at: usize,
+    wanted: usize,
+) -> Result<(), Memory>
+    requires { at + size_of stmt.now < 2 ^ 64 }
+    ensures { OnOk result (rest_of rest.new.items ≡ rest_of rest.old.items ++ rest_inside stmt.now stmt.now at [] wanted) }
+{
+    match stmt {
+        Stmt::If(_, a, b) => {
+            let second = at + 1 + sizes(a);
+            if wanted < second {
+                push_among(rest, a, at + 1, wanted)
+            } else {
+                push_among(rest, b, second, wanted)
+            }
+        }
+        Stmt::While(_, a) => {
+            push_among(rest, a, at + 1, wanted)?;
+            push_one(rest, stmt, at)?;
+            Ok(())
+        }
+        Stmt::YieldLoop(_, _, a) => {
+            push_among(rest, a, at + 1, wanted)?;
+            push_one(rest, stmt, at)?;
+            Ok(())
+        }
+        Stmt::RankLoop(_, _, _, a) => {
+            push_among(rest, a, at + 1, wanted)?;
+            push_one(rest, stmt, at)?;
+            Ok(())
+        }
+        Stmt::Assign(_, _) => Ok(()),
+        Stmt::Assert(_) => Ok(()),
+        Stmt::Call(_, _, _) => Ok(()),
+        Stmt::Yield(_) => Ok(()),
+        Stmt::Commit => Ok(()),
+        Stmt::Intro(_, _) => Ok(()),
+        Stmt::Spawn(_, _) => Ok(()),
+    }
+}
+
+/// What is still to run from a place of a procedure's body: statements of any kind, each with its number.
+///
+/// # Errors
+///
+/// For want of memory; and where no `usize` says how many statements the body has, since no memory holds so many.
+pub fn rest_at(alloc: Global, proc: &Proc, place: usize) -> Result<Vec<Numbered<'_>>, Memory>
+    ensures { IfOk result (λ rest. rest_of rest.items ≡ rest_at proc.now.body place) }
+{
+    match counted_all(&proc.body) {
+        None => Err(Memory),
+        Some(_) => {
+            let mut rest = Vec::new(alloc);
+            push_among(&mut rest, &proc.body, 0, place)?;
+            Ok(rest)
+        }
+    }
+}
