@@ -1,10 +1,8 @@
 -- An input calls for one outcome, but for what a search leaves open and for the values that violate a condition.
 use Rattle.std.proofs.Common.{◌≡◌, ℕ, ◌≤◌, inl, inr, List, length, refl, sym, ap, ap₂, ◌∙◌, subst, arith, Result, Ok, Err}
-use Rattle.std.specs.Prelude.{Option, None, Some}
+use Rattle.std.specs.Prelude.{Option}
 use Rattle.civl_tree.specs.declared.program.Program.{Program}
-use Rattle.civl_tree.specs.declared.refusal.Refusal.{Refusal}
 use Rattle.civl_tree.specs.declared.script.Script.{Script}
-use Rattle.civl_tree.specs.rules.Rules.{first_of}
 use Rattle.civl_meaning.specs.declared.config.Plain.{Plain}
 use Rattle.civl_firing.specs.declared.store.Store.{Store}
 use Rattle.civl_meaning.specs.declared.config.Move.{Move}
@@ -14,7 +12,6 @@ use Rattle.civl_run.specs.declared.trace.Trace.{Trace}
 use Rattle.civl_script.specs.declared.schedule.Schedule.TheVariants.{Fits, Wrong}
 use Rattle.civl_script.proofs.Only.{one_schedule}
 use Rattle.civl_conditions.specs.declared.condition.Condition.{Condition as Formula}
-use Rattle.civl_conditions.specs.Weights.{heavy}
 use Rattle.civl_verdicts.specs.declared.survey.Survey.{Survey}
 use Rattle.civl_verdicts.specs.declared.verdict.Verdict.{Verdict}
 use Rattle.civl_findings.proofs.Surveying.{surveys_of_one_agree}
@@ -22,15 +19,15 @@ use Rattle.civl_judgements.proofs.Judging.{verdicts_on_one_agree}
 use Rattle.civl_outlines.specs.declared.outline.Outline.{Outline}
 use Rattle.civl_outline_reports.proofs.Agreeing.{provings_agree}
 use Rattle.civl_proof_reports.proofs.Agreeing.{makings_agree, one_replaying}
+use Rattle.civl_frontend.specs.Texts.{IsReading, IsScriptReading, IsOutlineReading}
+use Rattle.civl_frontend.specs.declared.reader.Fault.{Fault}
+use Rattle.civl_frontend.proofs.Reading.{one_reading, one_script_reading, one_outline_reading}
+use Rattle.civl_frontend.proofs.Once.{one_refusal, not_broken, one_weight, not_heavy, wrongs_same, wrong_not_fits, fits_stores, fits_moves}
 use Rattle.civl_command.specs.declared.task.Task.{Task}
 use Rattle.civl_command.specs.declared.task.Task.TheVariants.{Check, Conditions, Fmt, RunLow, RunTop, Prove, Make, Replay}
-use Rattle.civl_command.specs.Rules.{static_refusal, IsLawful}
-use Rattle.civl_command.specs.Texts.{IsReading, IsScriptReading, IsOutlineReading}
 use Rattle.civl_command.specs.Outcome.{Outcome, TooLong, Unread, Broken, Judged, Heavy, Surveyed, Printed, Misfit, Ran, Proven, Asked, Replayed, Checks, Surveys, Proves, Asks, Prints, Runs, RunsBy, OfRead, Finds, FindsReplayed, FindsBy, limit_of}
 use Rattle.civl_command.specs.Alike.{AreAlike}
 use Rattle.civl_command.specs.Laws.{EachInputIsAnsweredOnce}
-use Rattle.civl_command.specs.declared.reader.Fault.{Fault}
-use Rattle.civl_command.proofs.Reading.{one_reading, one_script_reading, one_outline_reading}
 use Rattle.civl_command.proofs.Ways.{Ways, check_way, survey_way, ProveWays, prove_way, AskWays, ask_way, RunWays, run_way}
 
 -- two outcomes are as alike as those that they are
@@ -38,31 +35,7 @@ alike_by : (first second one other : Outcome) → first ≡ one → second ≡ o
 alike_by first second one other f s alike =
     subst (λ (o : Outcome). AreAlike o second) (sym f) (subst (λ (o : Outcome). AreAlike one o) (sym s) alike)
 
--- ---- refusals and schedules
-
-one_refusal : (program : Program) (first second : Refusal) → static_refusal program ≡ Some first → static_refusal program ≡ Some second → first ≡ second
-one_refusal program first second a b = let e : Some first ≡ Some second = sym a ∙ b in cc
-
-not_broken : (program : Program) (refusal : Refusal) → IsLawful program → static_refusal program ≡ Some refusal → ⊥
-not_broken program refusal lawful broken = let e = sym (ap first_of lawful) ∙ broken in cc
-
-one_weight : (program : Program) (first second : Option Formula) → heavy program ≡ Some first → heavy program ≡ Some second → first ≡ second
-one_weight program first second a b = let e : Some first ≡ Some second = sym a ∙ b in cc
-
-not_heavy : (program : Program) (first : Option Formula) → heavy program ≡ None → heavy program ≡ Some first → ⊥
-not_heavy program first light weighs = let e = sym light ∙ weighs in cc
-
-wrongs_same : (m n : ℕ) → Wrong m ≡ Wrong n → m ≡ n
-wrongs_same m n e = cc
-
-wrong_not_fits : (n : ℕ) (store : Store) (moves : List Move) → Wrong n ≡ Fits store moves → ⊥
-wrong_not_fits n store moves e = cc
-
-fits_stores : (s t : Store) (m n : List Move) → Fits s m ≡ Fits t n → s ≡ t
-fits_stores s t m n e = cc
-
-fits_moves : (s t : Store) (m n : List Move) → Fits s m ≡ Fits t n → m ≡ n
-fits_moves s t m n e = cc
+-- ---- schedules
 
 one_trace : (plain : Plain) (script : Script) (first second : Trace) → RunsBy plain script first → RunsBy plain script second → first ≡ second
 one_trace plain script first second a b =

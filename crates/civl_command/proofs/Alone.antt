@@ -1,9 +1,8 @@
 -- No other status of `check` than Done, but for WriteFault, has a report that begins with `accepted`; nor one of `prove` a report that
 -- begins with `safe`.
-use Rattle.std.specs.Prelude.{Option, Some, codes}
+use Rattle.std.specs.Prelude.{Some, codes}
 use Rattle.std.proofs.Common.{◌≡◌, ℕ, ◌⊎◌, inl, inr, List, [], ◌∷◌, ◌++◌, sym, ap, ◌∙◌, subst, arith, Result, Ok, Err}
 use Rattle.std.proofs.lemmas.List.{append_cancel_left}
-use Rattle.std.specs.Io.KnownBytes.{Appends}
 use Rattle.civl_tree.specs.declared.program.Program.{Program}
 use Rattle.civl_verdicts.specs.Verdicts.{IsVerdict}
 use Rattle.civl_verdict_reports.proofs.Beginning.{only_accepted_accepts}
@@ -11,15 +10,19 @@ use Rattle.civl_outlines.specs.declared.outline.Outline.{Outline}
 use Rattle.civl_outline_reports.specs.declared.proving.Proving.{Proving}
 use Rattle.civl_outline_reports.proofs.Beginning.{only_safe_is_safe}
 use Rattle.civl_words.specs.Words.{usual_budget}
+use Rattle.civl_frontend.specs.Report.{fault_text}
+use Rattle.civl_frontend.specs.Texts.{limit}
+use Rattle.civl_frontend.specs.Streams.{ReadState, WriteState}
+use Rattle.civl_frontend.specs.declared.reader.Fault.{Fault}
+use Rattle.civl_frontend.specs.declared.reader.Fault.TheVariants.{NoToken, NotHere, Deep}
+use Rattle.civl_frontend.specs.declared.status.Status.{Status}
+use Rattle.civl_frontend.specs.declared.status.Status.TheVariants.{Done, Rejected, Undecided, Refused, ReadFault, WriteFault, Usage, Memory}
+use Rattle.civl_frontend.proofs.Streaming.{grown_by}
 use Rattle.civl_command.specs.Tasks.{AskFor, AskForTrial, AreTaken}
-use Rattle.civl_command.specs.Report.{fault_text, trial_line}
-use Rattle.civl_command.specs.Outcome.{Outcome, TooLong, Unread, Broken, Judged, Heavy, Proven, Checks, Proves, OfRead, TrialCallsFor, status_of, report_of, limit}
-use Rattle.civl_command.specs.Judge.{ReadState, WriteState, Reads, JudgesInput, JudgesTrial, Fails, Explains}
+use Rattle.civl_command.specs.Report.{trial_line}
+use Rattle.civl_command.specs.Outcome.{Outcome, TooLong, Unread, Broken, Judged, Heavy, Proven, Checks, Proves, OfRead, TrialCallsFor, status_of, report_of}
+use Rattle.civl_command.specs.Judge.{Reads, JudgesInput, JudgesTrial, Fails, Explains}
 use Rattle.civl_command.specs.Promises.{AcceptsAlone, IsSafeAlone}
-use Rattle.civl_command.specs.declared.reader.Fault.{Fault}
-use Rattle.civl_command.specs.declared.reader.Fault.TheVariants.{NoToken, NotHere, Deep}
-use Rattle.civl_command.specs.declared.status.Status.{Status}
-use Rattle.civl_command.specs.declared.status.Status.TheVariants.{Done, Rejected, Undecided, Refused, ReadFault, WriteFault, Usage, Memory}
 use Rattle.civl_command.specs.declared.task.Task.{Task}
 use Rattle.civl_command.specs.declared.task.Task.TheVariants.{Check, Prove}
 use Rattle.civl_command.proofs.Asking.{same_task, same_trial, task_or_trial}
@@ -77,21 +80,14 @@ module _ (words : List (List ℕ)) (before after : ReadState) (sink sink_after :
   failed_alone Usage report f h = f.0 taken_by
   failed_alone Memory report f h = never h.0 (sym f.1 ∙ h.1)
 
-  -- what was written, where it grew by the report
-  grown_by : (taken report rest : List ℕ) → Appends sink.bytes sink_after.bytes report → sink.bytes ≡ Some taken → sink_after.bytes ≡ Some (taken ++ text rest) → report ≡ text rest
-  grown_by taken report rest grown was is =
-      let told_ = subst (λ (b : Option (List ℕ)). Appends b sink_after.bytes report) was grown in
-      let same = subst (λ (b : Option (List ℕ)). Appends (Some taken) b report) is told_ in
-      append_cancel_left taken report (text rest) (sym same)
-
   -- so it is enough to look at the answers that are no failures
   alone_if : ((status : Status) (report : List ℕ) → JudgesInput words before after status report → GoesOn report → status ≡ Done)
       → ((status : Status) (report : List ℕ) → JudgesTrial words before after status report → GoesOn report → status ≡ Done)
       → (status : Status) → Explains words before after sink sink_after status
       → (taken rest : List ℕ) → sink.bytes ≡ Some taken → sink_after.bytes ≡ Some (taken ++ text rest) → (status ≡ Done) ⊎ (status ≡ WriteFault)
-  alone_if on_input on_trial status (inl (report, inl h, grown)) taken rest was is = inl (on_input status report h (rest, grown_by taken report rest grown was is))
-  alone_if on_input on_trial status (inl (report, inr (inl t), grown)) taken rest was is = inl (on_trial status report t (rest, grown_by taken report rest grown was is))
-  alone_if on_input on_trial status (inl (report, inr (inr f), grown)) taken rest was is = absurd (failed_alone status report f (rest, grown_by taken report rest grown was is))
+  alone_if on_input on_trial status (inl (report, inl h, grown)) taken rest was is = inl (on_input status report h (rest, grown_by sink sink_after taken report (text rest) grown was is))
+  alone_if on_input on_trial status (inl (report, inr (inl t), grown)) taken rest was is = inl (on_trial status report t (rest, grown_by sink sink_after taken report (text rest) grown was is))
+  alone_if on_input on_trial status (inl (report, inr (inr f), grown)) taken rest was is = absurd (failed_alone status report f (rest, grown_by sink sink_after taken report (text rest) grown was is))
   alone_if on_input on_trial status (inr h) taken rest was is = inr h.0
 
 module _ (words : List (List ℕ)) (before after : ReadState) (sink sink_after : WriteState) (budget : ℕ) (ask : AskFor (Check budget) words) where

@@ -24,14 +24,14 @@ use Rattle.civl_findings.proofs.Surveying.{each_program_has_a_survey}
 use Rattle.civl_judgements.proofs.Judging.{each_program_has_a_verdict}
 use Rattle.civl_outlines.specs.declared.outline.Outline.{Outline}
 use Rattle.civl_outline_reports.proofs.Existing.{each_outline_is_answered}
+use Rattle.civl_frontend.specs.Rules.{static_refusal, IsLawful}
+use Rattle.civl_frontend.specs.Texts.{IsReading, IsScriptReading, IsOutlineReading, limit}
+use Rattle.civl_frontend.specs.declared.reader.Fault.{Fault}
+use Rattle.civl_frontend.proofs.Reading.{some_reading, some_script_reading, some_outline_reading}
 use Rattle.civl_command.specs.declared.task.Task.{Task}
 use Rattle.civl_command.specs.declared.task.Task.TheVariants.{Check, Conditions, Fmt, RunLow, RunTop, Prove, Make, Replay}
-use Rattle.civl_command.specs.Rules.{static_refusal, IsLawful}
-use Rattle.civl_command.specs.Texts.{IsReading, IsScriptReading, IsOutlineReading}
-use Rattle.civl_command.specs.Outcome.{Outcome, TooLong, Unread, Broken, Judged, Heavy, Surveyed, Printed, Misfit, Ran, Proven, Checks, Surveys, Prints, Proves, Runs, OfRead, Finds, FindsBy, CallsFor, limit, limit_of}
+use Rattle.civl_command.specs.Outcome.{Outcome, TooLong, Unread, Broken, Judged, Heavy, Surveyed, Printed, Misfit, Ran, Proven, Checks, Surveys, Prints, Proves, Runs, OfRead, Finds, FindsBy, CallsFor, limit_of}
 use Rattle.civl_command.specs.Laws.{NeedsNoCertificate, EachInputIsAnswered}
-use Rattle.civl_command.specs.declared.reader.Fault.{Fault}
-use Rattle.civl_command.proofs.Reading.{some_reading, some_script_reading, some_outline_reading}
 
 -- an outcome of which this is so
 abbrev Has : (Outcome → Type 0) → Type 0

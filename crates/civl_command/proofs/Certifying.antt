@@ -21,11 +21,11 @@ use Rattle.civl_proof_reports.specs.Replaying.{IsReplaying}
 use Rattle.civl_proof_reports.specs.Reports.{making_text}
 use Rattle.civl_proof_reports.specs.Laws.{StandsAlone}
 use Rattle.civl_proof_reports.proofs.Alone.{printed_stands_alone, refuted_is_unsatisfiable}
-use Rattle.civl_command.specs.Texts.{SpellsProgram}
+use Rattle.civl_frontend.specs.Texts.{SpellsProgram}
+use Rattle.civl_frontend.specs.declared.status.Status.TheVariants.{Done, Refused}
+use Rattle.civl_frontend.proofs.Lawful.{text_written}
 use Rattle.civl_command.specs.Outcome.{Outcome, Asked, Replayed, FindsReplayed, making_status, replaying_status, status_of}
 use Rattle.civl_command.specs.Promises.{Certifies, IsReplayed}
-use Rattle.civl_command.specs.declared.status.Status.TheVariants.{Done, Refused}
-use Rattle.civl_command.proofs.Lawful.{text_written}
 use Rattle.civl_command.proofs.Ways.{IsAsked}
 
 done_refused : Done ≡ Refused → ⊥

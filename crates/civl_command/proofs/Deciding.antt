@@ -13,7 +13,7 @@ use Rattle.civl_outline_reports.specs.declared.proving.Proving.{Proving}
 use Rattle.civl_outline_reports.specs.Proving.{IsProving}
 use Rattle.civl_proof_reports.specs.declared.making.Making.{Making}
 use Rattle.civl_proof_reports.specs.Making.{IsMaking}
-use Rattle.civl_command.specs.Rules.{IsLawful, IsTaken}
+use Rattle.civl_frontend.specs.Rules.{IsLawful, IsTaken}
 use Rattle.civl_command.specs.Outcome.{Outcome, TooLong, Unread, Broken, Heavy, Judged, Surveyed, Printed, Misfit, Ran, Proven, Asked, Replayed, Breaks, Checks, Surveys, Proves, Asks}
 
 module _ (program src : Program) (budget : ℕ) (same : src ≡ program) (rules : IsLawful program) where

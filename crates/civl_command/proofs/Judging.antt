@@ -1,52 +1,19 @@
 -- From what is found of a program or a script to what is found of its text, and from there to what was read.
 use Rattle.std.proofs.lemmas.Bool.{false≢true}
-use Rattle.std.proofs.Common.{◌≡◌, ◌∙◌, ap, ◌==◌, true, false, ℕ, ◌<◌, ◌≤◌, ◌⊎◌, inl, inr, List, [], ◌++◌, length, refl, sym, subst, Result, Ok, Err}
+use Rattle.std.proofs.Common.{◌≡◌, ◌∙◌, ap, ◌==◌, true, false, ℕ, ◌<◌, ◌⊎◌, inl, inr, List, [], ◌++◌, length, refl, sym, subst}
 use Rattle.civl_outside.specs.Count.{Rose}
+use Rattle.civl_frontend.specs.Streams.{ReadState, ReadsPast, ReadsText}
+use Rattle.civl_frontend.specs.Told.{WantsMemory, Gives}
+use Rattle.civl_frontend.specs.Status.{code_of}
+use Rattle.civl_frontend.specs.Report.{bytes_of}
+use Rattle.civl_frontend.specs.declared.judged.Judged.{Judged}
+use Rattle.civl_frontend.specs.declared.status.Status.{Status}
+use Rattle.civl_frontend.specs.declared.status.Status.TheVariants.{ReadFault, Usage}
 use Rattle.civl_command.specs.Tasks.{AskFor, AskForTrial, AreTaken}
-use Rattle.civl_command.specs.Outcome.{Outcome, TooLong, OfRead, Finds, FindsBy, CallsFor, TrialCallsFor, status_of, report_of, limit, limit_of}
-use Rattle.civl_command.specs.Judge.{IsJudged, ReadState, ReadsPast, ReadsText, WantsMemory, Answers, TrialAnswers, Judges, usage_text}
-use Rattle.civl_command.specs.Status.{code_of}
-use Rattle.civl_command.specs.Report.{bytes_of, trial_line}
-use Rattle.civl_command.specs.declared.judged.Judged.{Judged}
-use Rattle.civl_command.specs.declared.reader.Fault.{Fault}
+use Rattle.civl_command.specs.Outcome.{TooLong, FindsBy, CallsFor, TrialCallsFor, status_of, report_of, telling, limit_of}
+use Rattle.civl_command.specs.Judge.{IsJudged, TrialAnswers, Judges, usage_text}
+use Rattle.civl_command.specs.Report.{trial_line}
 use Rattle.civl_command.specs.declared.task.Task.{Task}
-use Rattle.civl_command.specs.declared.status.Status.{Status}
-use Rattle.civl_command.specs.declared.status.Status.TheVariants.{ReadFault, Usage}
-
-module _ (status : Status) (report : List ℕ) where
-  abbrev pub Gives : (Outcome → Type 0) → Type 0
-  Gives says = Answers says status report ⊎ WantsMemory status report
-
-  -- what is found of what was read is found of the text
-  pub found_in : {A : Type 0} (IsRead : List ℕ → Result A Fault → Type 0) (Says : A → Outcome → Type 0) (input : List ℕ) (reading : Result A Fault)
-      → length input ≤ limit → IsRead input reading → Gives (OfRead Says reading) → Gives (Finds IsRead Says input)
-  found_in IsRead Says input reading short read (inl a) = inl (record {
-    outcome = a.outcome;
-    says_so = record { short = short; reading = reading; read = read; says = a.says_so };
-    status_is = a.status_is;
-    report_is = a.report_is;
-  })
-  found_in IsRead Says input reading short read (inr wants) = inr wants
-
-  -- what is said of one outcome is said of each that it is
-  pub of_one : (says : Outcome → Type 0) (one : Outcome) → says one → Gives (λ outcome. outcome ≡ one) → Gives says
-  of_one says one h (inl a) = inl (record { outcome = a.outcome; says_so = subst says (sym a.says_so) h; status_is = a.status_is; report_is = a.report_is })
-  of_one says one h (inr wants) = inr wants
-
-  -- what is said of what was read is said of the text
-  pub found_more : {A : Type 0} (IsRead : List ℕ → Result A Fault → Type 0) (Says More : A → Outcome → Type 0) (input : List ℕ)
-      → ((value : A) (outcome : Outcome) → Says value outcome → More value outcome) → Gives (Finds IsRead Says input) → Gives (Finds IsRead More input)
-  found_more {A} IsRead Says More input more (inl a) = inl (record {
-    outcome = a.outcome;
-    says_so = record { short = a.says_so.short; reading = a.says_so.reading; read = a.says_so.read; says = by a.says_so.reading a.says_so.says };
-    status_is = a.status_is;
-    report_is = a.report_is;
-  })
-    where
-      by : (reading : Result A Fault) → OfRead Says reading a.outcome → OfRead More reading a.outcome
-      by (Ok value) says = more value a.outcome says
-      by (Err fault) says = says
-  found_more IsRead Says More input more (inr wants) = inr wants
 
 -- what is found of a text by a task is what the text calls for
 pub called_in : (task : Task) (input : List ℕ) (judged : Judged) → IsJudged (FindsBy task input) judged → IsJudged (CallsFor task input) judged
@@ -69,7 +36,7 @@ tried_in number judged report (inr wants) some is =
 
 module _ (words : List (List ℕ)) (task : Task) (before after : ReadState) (report : List ℕ) (words_are : AskFor task words) where
   -- an input that was read past the limit
-  pub long_judged : (most : ℕ) (status : Status) → most ≡ limit_of task → ReadsPast most before after → Gives status report (λ outcome. outcome ≡ TooLong most) → Judges words before after status report
+  pub long_judged : (most : ℕ) (status : Status) → most ≡ limit_of task → ReadsPast most before after → Gives telling (λ outcome. outcome ≡ TooLong most) status report → Judges words before after status report
   long_judged most status same past (inl a) = inl (record {
     task = task;
     words_are = words_are;
@@ -90,7 +57,7 @@ module _ (words : List (List ℕ)) (task : Task) (before after : ReadState) (rep
   input_failed rose is = inr (inr ((task, words_are), rose, is))
 
   -- an input that was read whole
-  pub input_judged : (bytes : List ℕ) (status : Status) → ReadsText before after bytes → Gives status report (FindsBy task bytes) → Judges words before after status report
+  pub input_judged : (bytes : List ℕ) (status : Status) → ReadsText before after bytes → Gives telling (FindsBy task bytes) status report → Judges words before after status report
   input_judged bytes status reads (inl a) = inl (record {
     task = task;
     words_are = words_are;

@@ -1,5 +1,3 @@
-pub mod Lawful
-pub mod Reading
 pub mod Judging
 pub mod Replaying
 pub mod Deciding
@@ -7,7 +5,6 @@ pub mod Asking
 pub mod Ways
 pub mod Agreeing
 pub mod Answering
-pub mod Accepting
 pub mod Outlining
 pub mod Showing
 pub mod Certifying

@@ -11,8 +11,7 @@ use Rattle.civl_phrases.proofs.Tables.{and_parts}
 use Rattle.civl_script.proofs.Counting.{tokens_within, few_tokens}
 use Rattle.civl_outlines.specs.declared.outline.Outline.{Outline}
 use Rattle.civl_outlines.specs.SpellingOutline.{spell_hold, spell_note, spell_outline}
-use Rattle.civl_command.specs.Texts.{SpellsOutline}
-use Rattle.civl_command.specs.Outcome.{limit}
+use Rattle.civl_frontend.specs.Texts.{SpellsOutline, limit}
 
 -- at most as many parts as tokens, where each part takes one
 parts_within : {X : Type 0} (spell : X → List Token) → ((x : X) → 0 < length (spell x)) → (xs : List X) → length xs ≤ length (joined (map spell xs))

@@ -1,9 +1,9 @@
 -- From what each status says of the source and the sink, whatever they tell, to what is promised where they tell their
 -- bytes.
-use Rattle.std.proofs.Common.{◌≡◌, ℕ, ◌<◌, ◌≤◌, ◌⊎◌, inl, inr, List, [], ◌++◌, length, length-append, append-nil, refl, sym, ap, ◌∙◌, subst, arith, Result, Ok, Err}
-use Rattle.std.specs.Prelude.{Option, None, Some}
-use Rattle.std.specs.Io.KnownBytes.{Appends, Consumes, IsAtEnd}
-use Rattle.civl_outside.specs.Count.{Rose, Stayed}
+use Rattle.std.proofs.Common.{◌≡◌, ℕ, ◌<◌, ◌≤◌, ◌⊎◌, inl, inr, List, [], ◌++◌, length, refl, sym, ap, ◌∙◌, subst, arith, Result, Ok, Err}
+use Rattle.std.specs.Prelude.{Option, Some}
+use Rattle.std.specs.Io.KnownBytes.{Appends}
+use Rattle.civl_outside.specs.Count.{Stayed}
 use Rattle.civl_tree.specs.declared.program.Program.{Program}
 use Rattle.civl_tree.specs.declared.script.Script.{Script}
 use Rattle.civl_meaning.specs.declared.config.Plain.{Plain}
@@ -34,64 +34,30 @@ use Rattle.civl_proof_reports.specs.declared.making.Making.TheVariants as making
 use Rattle.civl_proof_reports.specs.declared.replaying.Replaying.{Replaying}
 use Rattle.civl_proof_reports.specs.declared.replaying.Replaying.TheVariants as replaying
 use Rattle.civl_words.specs.Words.{usual_budget}
-use Rattle.civl_command.specs.Tasks.{AskFor, AskForSome, AskForTrial}
-use Rattle.civl_command.specs.Texts.{SpellsOutline, IsReading, IsScriptReading, IsOutlineReading}
-use Rattle.civl_command.specs.Outcome.{Outcome, TooLong, Unread, Broken, Judged, Heavy, Surveyed, Printed, Misfit, Ran, Proven, Asked, Replayed, Checks, Surveys, Proves, Asks, Prints, Runs, OfRead, Finds, FindsBy, CallsFor, TrialCallsFor, verdict_status, survey_status, proved_status, proving_status, making_status, replaying_status, status_of, report_of, trial_text, trial_report, limit}
-use Rattle.civl_command.specs.Status.{code_of}
-use Rattle.civl_command.specs.Judge.{ReadState, WriteState, Reads, ReadsAll, JudgesInput, JudgesTrial, Fails, Judges, Explains}
+use Rattle.civl_frontend.specs.Texts.{SpellsOutline, IsReading, IsScriptReading, IsOutlineReading, limit}
+use Rattle.civl_frontend.specs.Status.{verdict_status, code_of}
+use Rattle.civl_frontend.specs.Streams.{ReadState, WriteState, Writes, ReadsAndWrites}
+use Rattle.civl_frontend.specs.declared.reader.Fault.{Fault}
+use Rattle.civl_frontend.specs.declared.status.Status.{Status}
+use Rattle.civl_frontend.specs.declared.status.Status.TheVariants.{Done, Rejected, Undecided, Refused, ReadFault, WriteFault, Usage, Memory}
+use Rattle.civl_frontend.proofs.Streaming.{grown_as, not_both}
+use Rattle.civl_frontend.proofs.Telling.{verdict_code, silent_failure, all_found, written, called, carried, IsSpelled, spelled as spelled_of}
+use Rattle.civl_frontend.proofs.Lawful.{text_written}
+use Rattle.civl_frontend.proofs.Accepting.{preserved}
+use Rattle.civl_command.specs.Tasks.{AskFor, AskForSome, AskForTrial, AreTaken}
+use Rattle.civl_command.specs.Outcome.{Outcome, TooLong, Unread, Broken, Judged, Heavy, Surveyed, Printed, Misfit, Ran, Proven, Asked, Replayed, Checks, Surveys, Proves, Asks, Prints, Runs, OfRead, Finds, FindsBy, TrialCallsFor, survey_status, proved_status, proving_status, making_status, replaying_status, status_of, report_of, telling, trial_text, trial_report, limit_of}
+use Rattle.civl_command.specs.Judge.{Reads, JudgesInput, JudgesTrial, Fails, Judges, Explains, usage_text}
 use Rattle.civl_command.specs.Report.{run_text, trial_line}
-use Rattle.civl_command.specs.Promises.{Writes, ReadsAndWrites, SpellsTaken, Accepts, AcceptsRightly, TrialAcceptsRightly, IsSafeRightly, Rejects, RejectsProving, RejectsRightly, LeavesOpen, LeavesProvingOpen, LeavesOpenRightly, Tells, SurveysRightly, PrintsRightly, Replays, ReplaysRightly, CertifiesRightly, RefutesRightly, RefusesRightly, Carries, AnswersAs, IsComplete, TrialAnswersAs, IsTrialComplete}
-use Rattle.civl_command.specs.declared.reader.Fault.{Fault}
+use Rattle.civl_command.specs.Promises.{SpellsTaken, Accepts, AcceptsRightly, TrialAcceptsRightly, IsSafeRightly, Rejects, RejectsProving, RejectsRightly, LeavesOpen, LeavesProvingOpen, LeavesOpenRightly, Tells, SurveysRightly, PrintsRightly, Replays, ReplaysRightly, CertifiesRightly, RefutesRightly, RefusesRightly, AnswersAs, IsComplete, TrialAnswersAs, IsTrialComplete}
 use Rattle.civl_command.specs.declared.task.Task.{Task}
 use Rattle.civl_command.specs.declared.task.Task.TheVariants.{Check, Conditions, Fmt, RunLow, RunTop, Prove, Make, Replay}
-use Rattle.civl_command.specs.declared.status.Status.{Status}
-use Rattle.civl_command.specs.declared.status.Status.TheVariants.{Done, Rejected, Undecided, Refused, ReadFault, WriteFault, Usage, Memory}
 use Rattle.civl_command.proofs.Asking.{same_task, same_trial, task_or_trial}
 use Rattle.civl_command.proofs.Agreeing.{one_outcome}
 use Rattle.civl_command.proofs.Certifying.{certifying, replayed_as}
-use Rattle.civl_command.proofs.Lawful.{text_written}
-use Rattle.civl_command.proofs.Accepting.{preserved}
 use Rattle.civl_command.proofs.Showing.{ShowsRejected, ShowsUnproved, ShowsUndecided, ShowsOpen, shown_safe, shown_rejected, shown_undecided}
 use Rattle.civl_command.proofs.Ways.{Ways, IsDecided, check_way, survey_way, ProveWays, IsProven, prove_way, AskWays, IsAsked, ask_way, RunWays, IsRun, run_way}
 
--- ---- the bytes that are told
-
--- what was read to the end is the whole input
-consumed : (input bytes : List ℕ) (after : Option (List ℕ)) → Consumes (Some input) after bytes → IsAtEnd after → (bytes ≡ input) × (after ≡ Some [])
-consumed input bytes None taken at_end = absurd taken
-consumed input bytes (Some left) taken at_end = (sym (append-nil bytes) ∙ ap (λ (w : List ℕ). bytes ++ w) (sym at_end) ∙ sym taken, ap Some at_end)
-
--- what was read is no longer than the input
-consumed_part : (input bytes : List ℕ) (after : Option (List ℕ)) → Consumes (Some input) after bytes → length bytes ≤ length input
-consumed_part input bytes None taken = absurd taken
-consumed_part input bytes (Some left) taken = let size = ap length taken ∙ length-append bytes left in omega arith
-
-appended : (taken report : List ℕ) (after : Option (List ℕ)) → Appends (Some taken) after report → after ≡ Some (taken ++ report)
-appended taken report None grown = absurd grown
-appended taken report (Some now) grown = ap Some grown
-
-grown_as : (sink sink_after : WriteState) (report text : List ℕ) → Appends sink.bytes sink_after.bytes report → report ≡ text → Writes sink sink_after text
-grown_as sink sink_after report text grown is taken told =
-    rw (← is) (appended taken report sink_after.bytes (subst (λ (bytes : Option (List ℕ)). Appends bytes sink_after.bytes report) told grown))
-
--- what was found of the whole input
-record Found (task : Task) (after : ReadState) (input : List ℕ) (outcome : Outcome) : Type 0 where
-  finds : FindsBy task input outcome
-  read : after.left ≡ Some []
-
-all_found : (task : Task) (before after : ReadState) (input : List ℕ) (outcome : Outcome) → before.left ≡ Some input → ReadsAll task before after outcome → Found task after input outcome
-all_found task before after input outcome told reads =
-    let taken = subst (λ (left : Option (List ℕ)). Consumes left after.left reads.0) told reads.1.taken in
-    let whole = consumed input reads.0 after.left taken reads.1.at_end in
-    record { finds = subst (λ (bytes : List ℕ). FindsBy task bytes outcome) whole.0 reads.2; read = whole.1 }
-
 -- ---- what the ends keep
-
-verdict_code : (v : Verdict) → code_of (verdict_status v) ≤ 3
-verdict_code (verdict.Accepted count) = omega arith
-verdict_code (verdict.Rejected counter) = omega arith
-verdict_code (verdict.Undecided formula log) = omega arith
-verdict_code verdict.NoInitial = omega arith
 
 survey_code : (s : Survey) → code_of (survey_status s) ≤ 3
 survey_code survey.NoInitial = omega arith
@@ -138,19 +104,6 @@ outcome_code (Replayed r) = replaying_code r
 no_outcome : (status : Status) (outcome : Outcome) → 3 < code_of status → status ≡ status_of outcome → ⊥
 no_outcome status outcome high is = let code = ap code_of is in omega (arith, outcome_code outcome, code)
 
--- a failed read and want of memory are told by the status alone
-silent_failure : (words : List (List ℕ)) (before after : ReadState) (status : Status) (report : List ℕ) → Fails words before after status report
-    → (status ≡ ReadFault) ⊎ (status ≡ Memory) → report ≡ []
-silent_failure words before after Done report f is = absurd f
-silent_failure words before after Rejected report f is = absurd f
-silent_failure words before after Undecided report f is = absurd f
-silent_failure words before after Refused report f is = absurd f
-silent_failure words before after ReadFault report f is = f.2
-silent_failure words before after WriteFault report f is = absurd f
-silent_failure words before after Usage report f (inl is) = cc
-silent_failure words before after Usage report f (inr is) = cc
-silent_failure words before after Memory report f is = f.1
-
 pub silent : (words : List (List ℕ)) (before after : ReadState) (status : Status) (report : List ℕ) → Judges words before after status report
     → (status ≡ ReadFault) ⊎ (status ≡ Memory) → report ≡ []
 silent words before after status report (inl h) (inl is) =
@@ -161,11 +114,8 @@ silent words before after status report (inr (inl t)) (inl is) =
     let code = ap code_of is in absurd (no_outcome status t.answers.outcome (omega (arith, code)) t.answers.status_is)
 silent words before after status report (inr (inl t)) (inr is) =
     let code = ap code_of is in absurd (no_outcome status t.answers.outcome (omega (arith, code)) t.answers.status_is)
-silent words before after status report (inr (inr f)) is = silent_failure words before after status report f is
-
-pub loud : (WriteFault ≡ ReadFault) ⊎ (WriteFault ≡ Memory) → ⊥
-loud (inl is) = cc
-loud (inr is) = cc
+silent words before after status report (inr (inr f)) is =
+    silent_failure (AskForSome words) (AreTaken words) (AskForSome words ⊎ (after ≡ before)) usage_text before after status report f is
 
 -- on Usage the words ask for nothing of an input
 pub usage_unasked : (words : List (List ℕ)) (before after : ReadState) (sink sink_after : WriteState) → Explains words before after sink sink_after Usage → AskForSome words → ⊥
@@ -173,22 +123,6 @@ usage_unasked words before after sink sink_after (inl (report, inl h, grown)) = 
 usage_unasked words before after sink sink_after (inl (report, inr (inl t), grown)) = λ ask. no_outcome Usage t.answers.outcome (omega arith) t.answers.status_is
 usage_unasked words before after sink sink_after (inl (report, inr (inr f), grown)) = λ ask. f.0 (inl ask)
 usage_unasked words before after sink sink_after (inr h) = let is = h.0 in absurd cc
-
--- ---- each answer
-
-module _ (task : Task) (before after : ReadState) (sink sink_after : WriteState) (input report : List ℕ) (told : before.left ≡ Some input) (grown : Appends sink.bytes sink_after.bytes report) (outcome : Outcome) where
-  written : report ≡ report_of outcome → Writes sink sink_after (report_of outcome)
-  written = grown_as sink sink_after report (report_of outcome) grown
-
-  called : Reads task before after outcome → CallsFor task input outcome
-  called (inl past) =
-      let size = consumed_part input past.1.0 after.left (subst (λ (left : Option (List ℕ)). Consumes left after.left past.1.0) told past.1.1) in
-      inl (past.0, omega (arith, size, past.1.2))
-  called (inr all) = inr (all_found task before after input outcome told all).finds
-
-  carried : Reads task before after outcome → report ≡ report_of outcome → Carries after sink sink_after outcome
-  carried (inl past) text = record { written = written text; read = λ not. absurd (not _ past.0) }
-  carried (inr all) text = record { written = written text; read = λ not. (all_found task before after input outcome told all).read }
 
 -- an input that was read past the limit is refused
 long_refused : (most : ℕ) (outcome : Outcome) (status : Status) → outcome ≡ TooLong most → status ≡ status_of outcome → status ≡ Refused
@@ -205,18 +139,9 @@ undecided_not_refused e = cc
 
 -- ---- what is found of a text that isn't refused
 
-record IsSpelled {A : Type 0} (IsRead : List ℕ → Result A Fault → Type 0) (Says : A → Outcome → Type 0) (input : List ℕ) (outcome : Outcome) : Type 0 where
-  value : A
-  read : IsRead input (Ok value)
-  says : Says value outcome
-
 module _ {A : Type 0} (IsRead : List ℕ → Result A Fault → Type 0) (Says : A → Outcome → Type 0) (input : List ℕ) (outcome : Outcome) (status : Status) (some : status ≡ Refused → ⊥) (is : status ≡ status_of outcome) where
-  spelled_as : (reading : Result A Fault) → IsRead input reading → OfRead Says reading outcome → IsSpelled IsRead Says input outcome
-  spelled_as (Ok value) read says = record { value = value; read = read; says = says }
-  spelled_as (Err fault) read says = absurd (some (is ∙ ap status_of says))
-
   spelled : Finds IsRead Says input outcome → IsSpelled IsRead Says input outcome
-  spelled found = spelled_as found.reading found.read found.says
+  spelled found = spelled_of telling IsRead Says input outcome (λ fault e. some (is ∙ ap status_of e)) found
 
 -- and is neither refused nor heavy
 decided : {D : Type 0} (tell : D → Outcome) (IsRight : D → Type 0) (program : Program) (outcome : Outcome) (status : Status) → (status ≡ Refused → ⊥) → status ≡ status_of outcome
@@ -437,10 +362,6 @@ asked_by : (at budget : ℕ) (program : Program) (outcome : Outcome) → Done �
 asked_by at budget program outcome is (inl a) = absurd (done_not_refused (is ∙ ap status_of a.is))
 asked_by at budget program outcome is (inr a) = a
 
--- a count that stayed didn't rise
-not_both : (before now : ℕ) → Stayed before now → Rose before now → ⊥
-not_both before now stayed rose = omega (arith, stayed.0, stayed.1, rose)
-
 module _ (words : List (List ℕ)) (before after : ReadState) (sink sink_after : WriteState) where
   -- what was found of the whole input for a task, where it isn't refused
   record Judgement (task : Task) (input : List ℕ) (status : Status) : Type 0 where
@@ -456,12 +377,12 @@ module _ (words : List (List ℕ)) (before after : ReadState) (sink sink_after :
       by : Reads h.task before after h.outcome → Judgement h.task input status
       by (inl past) = absurd (some (long_refused _ h.outcome status past.0 h.status_is))
       by (inr all) =
-          let found = all_found h.task before after input h.outcome told all in
+          let found = all_found (FindsBy h.task) before after input h.outcome told all in
           record {
             outcome = h.outcome;
             finds = found.finds;
             status_is = h.status_is;
-            does = record { read = found.read; written = written h.task before after sink sink_after input report told grown h.outcome h.report_is };
+            does = record { read = found.read; written = written telling (limit_of h.task) (FindsBy h.task) before after sink sink_after input report told grown h.outcome h.report_is };
           }
 
   -- what was found of the text of a trial
@@ -685,9 +606,9 @@ module _ (words : List (List ℕ)) (before after : ReadState) (sink sink_after :
             h.words_are,
             λ input told. (
               h.outcome,
-              called h.task before after sink sink_after input report told grown h.outcome h.reads,
+              called telling (limit_of h.task) (FindsBy h.task) before after sink sink_after input report told grown h.outcome h.reads,
               sym h.status_is,
-              carried h.task before after sink sink_after input report told grown h.outcome h.reads h.report_is,
+              carried telling (limit_of h.task) (FindsBy h.task) before after sink sink_after input report told grown h.outcome h.reads h.report_is,
             ),
           )
       by (inr (number, trial, t)) = inr (number, trial, t.outcome, t.calls, sym t.status_is, t.writes)
@@ -698,13 +619,13 @@ module _ (words : List (List ℕ)) (before after : ReadState) (sink sink_after :
     judged : (status : Status) (report : List ℕ) → Appends sink.bytes sink_after.bytes report → JudgesInput words before after status report → AnswersAs task input after sink sink_after status ⊎ (status ≡ Memory)
     judged status report grown h =
         let reads = subst (λ (t : Task). Reads t before after h.outcome) (same_task words h.task task h.words_are ask) h.reads in
-        let found = called task before after sink sink_after input report told grown h.outcome reads in
+        let found = called telling (limit_of task) (FindsBy task) before after sink sink_after input report told grown h.outcome reads in
         inl (record {
           found = h.outcome;
           calls = found;
           status_is = h.status_is;
           alike = λ outcome calls. one_outcome task input h.outcome outcome found calls;
-          carries = carried task before after sink sink_after input report told grown h.outcome reads h.report_is;
+          carries = carried telling (limit_of task) (FindsBy task) before after sink sink_after input report told grown h.outcome reads h.report_is;
         })
 
     failed : (status : Status) (report : List ℕ) → Fails words before after status report → AnswersAs task input after sink sink_after status ⊎ (status ≡ Memory)

@@ -23,11 +23,12 @@ use Rattle.civl_outline_reports.specs.declared.proving.Proving.{Proving}
 use Rattle.civl_outline_reports.specs.declared.proving.Proving.TheVariants.{Note, Roots, Heavy, HeavyGoal, Judged, Decided}
 use Rattle.civl_outline_reports.specs.Proving.{IsReady, IsNoAcceptance, IsProving}
 use Rattle.civl_outline_reports.specs.Reports.{safe_text, unproved_text, open_text}
-use Rattle.civl_command.specs.Texts.{SpellsOutline}
-use Rattle.civl_command.specs.Outcome.{Outcome, Proven, verdict_status, proving_status, status_of, report_of, limit}
+use Rattle.civl_frontend.specs.Texts.{SpellsOutline, limit}
+use Rattle.civl_frontend.specs.Status.{verdict_status}
+use Rattle.civl_frontend.specs.declared.status.Status.TheVariants.{Done, Rejected, Undecided}
+use Rattle.civl_frontend.proofs.Accepting.{accepted_by}
+use Rattle.civl_command.specs.Outcome.{Outcome, Proven, proving_status, status_of, report_of}
 use Rattle.civl_command.specs.Promises.{SpellsReady, IsSafe, AcceptsOutlined, RejectsOutlined, Unproves, LeavesOpenOutlined, LeavesGoalOpen}
-use Rattle.civl_command.specs.declared.status.Status.TheVariants.{Done, Rejected, Undecided}
-use Rattle.civl_command.proofs.Accepting.{accepted_by}
 use Rattle.civl_command.proofs.Outlining.{outline_numbered, outline_written}
 use Rattle.civl_command.proofs.Ways.{IsProven}
 

@@ -17,7 +17,7 @@ use Rattle.civl_outline_reports.specs.declared.proving.Proving.{Proving}
 use Rattle.civl_outline_reports.specs.Proving.{IsProving}
 use Rattle.civl_proof_reports.specs.declared.making.Making.{Making}
 use Rattle.civl_proof_reports.specs.Making.{IsMaking}
-use Rattle.civl_command.specs.Rules.{static_refusal, IsLawful, IsTaken}
+use Rattle.civl_frontend.specs.Rules.{static_refusal, IsLawful, IsTaken}
 use Rattle.civl_command.specs.Outcome.{Outcome, TooLong, Unread, Broken, Heavy, Judged, Surveyed, Printed, Misfit, Ran, Proven, Asked, Replayed, Checks, Surveys, Proves, Asks, Runs, RunsBy}
 
 -- ---- of a program whose conditions are decided

@@ -1,8 +1,4 @@
-pub mod Status
 pub mod Report
-pub mod Texts
-pub mod Reader
-pub mod Rules
 pub mod Replay
 pub mod Tasks
 pub mod Outcome

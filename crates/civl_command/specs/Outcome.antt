@@ -1,5 +1,5 @@
 -- What the bytes of an input call for: the status and the report that they deserve.
-use Rattle.std.specs.Prelude.{◌≡◌, ℕ, ◌<◌, ◌≤◌, List, ◌++◌, length, Result, Ok, Err, Option, Some, ◌⊎◌}
+use Rattle.std.specs.Prelude.{◌≡◌, ℕ, ◌≤◌, List, ◌++◌, length, Result, Option, Some}
 use Rattle.civl_tree.specs.Raised.{raised}
 use Rattle.civl_tree.specs.SpellingProgram.{spell_program}
 use Rattle.civl_tree.specs.SpellingText.{canonical_text}
@@ -41,18 +41,17 @@ use Rattle.civl_proof_reports.specs.Replaying.{IsReplaying}
 use Rattle.civl_proof_reports.specs.Reports.{making_text, replaying_text}
 use Rattle.civl_words.specs.Words.{usual_budget}
 use Rattle.civl_trial.specs.Trial.{trial}
-use Rattle.civl_command.specs.Report.{too_long_text, fault_text, refusal_text, misfit_text, run_text, trial_line}
-use Rattle.civl_command.specs.Rules.{static_refusal, IsLawful, IsTaken}
-use Rattle.civl_command.specs.Texts.{IsReading, IsScriptReading, IsOutlineReading}
-use Rattle.civl_command.specs.declared.reader.Fault.{Fault}
+use Rattle.civl_frontend.specs.Report.{too_long_text, fault_text, refusal_text, misfit_text}
+use Rattle.civl_frontend.specs.Rules.{static_refusal, IsLawful, IsTaken}
+use Rattle.civl_frontend.specs.Status.{verdict_status}
+use Rattle.civl_frontend.specs.Texts.{IsReading, IsScriptReading, IsOutlineReading, limit}
+use Rattle.civl_frontend.specs.Told.{Telling, OfRead as OfReadOf, Finds as FindsOf, CallsFor as CallsForOf}
+use Rattle.civl_frontend.specs.declared.reader.Fault.{Fault}
+use Rattle.civl_frontend.specs.declared.status.Status.{Status}
+use Rattle.civl_frontend.specs.declared.status.Status.TheVariants.{Done, Rejected, Undecided, Refused}
+use Rattle.civl_command.specs.Report.{run_text, trial_line}
 use Rattle.civl_command.specs.declared.task.Task.{Task}
 use Rattle.civl_command.specs.declared.task.Task.TheVariants.{Check, Conditions, Fmt, RunLow, RunTop, Prove, Make, Replay}
-use Rattle.civl_command.specs.declared.status.Status.{Status}
-use Rattle.civl_command.specs.declared.status.Status.TheVariants.{Done, Rejected, Undecided, Refused}
-
--- the most bytes that an input with a program, a script or an outline may have
-abbrev pub limit : ℕ
-limit = 1048576
 
 -- the most bytes that a certificate may have
 abbrev pub certificate_limit : ℕ
@@ -82,104 +81,11 @@ pub data Outcome : Type 0 where
   Asked : Program → ℕ → ℕ → Making → Outcome
   Replayed : Replaying → Outcome
 
--- ---- what is found of what is read
-
--- of a program that breaks a static rule
-abbrev pub Breaks : Program → Outcome → Type 0
-Breaks program (Broken refusal) = static_refusal program ≡ Some refusal
-Breaks program _ = ⊥
-
--- `check`, of a program, under a budget
-abbrev pub Checks : ℕ → Program → Outcome → Type 0
-Checks budget program (Broken refusal) = static_refusal program ≡ Some refusal
-Checks budget program (Heavy weighed first) = (weighed ≡ program) × IsLawful program × (heavy program ≡ Some first)
-Checks budget program (Judged judged told verdict) = (judged ≡ program) × (told ≡ budget) × IsTaken program × IsVerdict program budget verdict
-Checks budget program _ = ⊥
-
--- `conditions`, of a program, under a budget
-abbrev pub Surveys : ℕ → Program → Outcome → Type 0
-Surveys budget program (Broken refusal) = static_refusal program ≡ Some refusal
-Surveys budget program (Heavy weighed first) = (weighed ≡ program) × IsLawful program × (heavy program ≡ Some first)
-Surveys budget program (Surveyed surveyed told survey) = (surveyed ≡ program) × (told ≡ budget) × IsTaken program × IsSurvey program budget survey
-Surveys budget program _ = ⊥
-
--- `prove`, of an outline, under a budget
-abbrev pub Proves : ℕ → Outline → Outcome → Type 0
-Proves budget outline (Broken refusal) = static_refusal outline.program ≡ Some refusal
-Proves budget outline (Proven proven told found) = (proven ≡ outline) × (told ≡ budget) × IsLawful outline.program × IsProving outline.program outline budget found
-Proves budget outline _ = ⊥
-
--- `proof make`, of a program and the number of a condition, under a budget
-abbrev pub Asks : ℕ → ℕ → Program → Outcome → Type 0
-Asks at budget program (Broken refusal) = static_refusal program ≡ Some refusal
-Asks at budget program (Asked asked place told making) = (asked ≡ program) × (place ≡ at) × (told ≡ budget) × IsLawful program × IsMaking program budget at making
-Asks at budget program _ = ⊥
-
--- `fmt`, of a program
-abbrev pub Prints : Program → Outcome → Type 0
-Prints program outcome = outcome ≡ Printed program
-
--- the moves of a schedule that fits give this trace
-pub record RunsBy (plain : Plain) (script : Script) (trace : Trace) : Type 0 where
-  pub store : Store
-  pub moves : List Move
-  pub fits : IsSchedule script.program.globals script.store script.moves (Fits store moves)
-  pub trace_is : trace ≡ trace_of plain store moves
-
--- `run`, of a script, on this plain program of it
-abbrev pub Runs : (Program → Plain) → Script → Outcome → Type 0
-Runs plain_of script (Broken refusal) = static_refusal script.program ≡ Some refusal
-Runs plain_of script (Misfit number) = IsLawful script.program × IsSchedule script.program.globals script.store script.moves (Wrong number)
-Runs plain_of script (Ran program trace) = (program ≡ script.program) × IsLawful script.program × RunsBy (plain_of script.program) script trace
-Runs plain_of script _ = ⊥
-
--- of what is read: as this says of the program, script or outline, or its first fault
-abbrev pub OfRead : {A : Type 0} → (A → Outcome → Type 0) → Result A Fault → Outcome → Type 0
-OfRead Says (Ok value) outcome = Says value outcome
-OfRead Says (Err fault) outcome = outcome ≡ Unread fault
-
--- ---- what an input calls for
-
--- it is no longer than it may be, it is read as this, and that is found of it
-pub record Finds {A : Type 0} (IsRead : List ℕ → Result A Fault → Type 0) (Says : A → Outcome → Type 0) (input : List ℕ) (outcome : Outcome) : Type 0 where
-  pub short : length input ≤ limit
-  pub reading : Result A Fault
-  pub read : IsRead input reading
-  pub says : OfRead Says reading outcome
-
--- `proof replay`, of an input as a certificate
-pub record FindsReplayed (input : List ℕ) (outcome : Outcome) : Type 0 where
-  pub short : length input ≤ certificate_limit
-  pub replaying_ : Replaying
-  pub is : IsReplaying input replaying_
-  pub outcome_is : outcome ≡ Replayed replaying_
-
--- by a task, of an input that may be read
-abbrev pub FindsBy : Task → List ℕ → Outcome → Type 0
-FindsBy (Check budget) input outcome = Finds IsReading (Checks budget) input outcome
-FindsBy (Conditions budget) input outcome = Finds IsReading (Surveys budget) input outcome
-FindsBy Fmt input outcome = Finds IsReading Prints input outcome
-FindsBy RunLow input outcome = Finds IsScriptReading (Runs lowest) input outcome
-FindsBy RunTop input outcome = Finds IsScriptReading (Runs topmost) input outcome
-FindsBy (Prove budget) input outcome = Finds IsOutlineReading (Proves budget) input outcome
-FindsBy (Make at budget) input outcome = Finds IsReading (Asks at budget) input outcome
-FindsBy Replay input outcome = FindsReplayed input outcome
-
--- for a task the input calls for this outcome
-abbrev pub CallsFor : Task → List ℕ → Outcome → Type 0
-CallsFor task input outcome = ((outcome ≡ TooLong (limit_of task)) × (limit_of task < length input)) ⊎ FindsBy task input outcome
-
 -- ---- the status and the report
 
 -- the text in which `fmt` writes a program
 abbrev pub printed_text : Program → List ℕ
 printed_text program = canonical_text (spell_program (raised program))
-
-abbrev pub verdict_status : Verdict → Status
-verdict_status (verdict.Accepted count) = Done
-verdict_status (verdict.Rejected counter) = Rejected
-verdict_status (verdict.Undecided formula log) = Undecided
-verdict_status verdict.NoInitial = Refused
 
 abbrev pub survey_status : Survey → Status
 survey_status survey.NoInitial = Refused
@@ -237,6 +143,93 @@ report_of (Ran program trace) = run_text program trace
 report_of (Proven outline budget found) = proving_text outline.program budget found
 report_of (Asked program at budget making) = making_text program budget at making
 report_of (Replayed replaying) = replaying_text replaying
+
+-- how it tells them
+abbrev pub telling : Telling Outcome
+telling = record { status = status_of; report = report_of; too_long = TooLong; unread = Unread }
+
+-- ---- what is found of what is read
+
+-- of a program that breaks a static rule
+abbrev pub Breaks : Program → Outcome → Type 0
+Breaks program (Broken refusal) = static_refusal program ≡ Some refusal
+Breaks program _ = ⊥
+
+-- `check`, of a program, under a budget
+abbrev pub Checks : ℕ → Program → Outcome → Type 0
+Checks budget program (Broken refusal) = static_refusal program ≡ Some refusal
+Checks budget program (Heavy weighed first) = (weighed ≡ program) × IsLawful program × (heavy program ≡ Some first)
+Checks budget program (Judged judged told verdict) = (judged ≡ program) × (told ≡ budget) × IsTaken program × IsVerdict program budget verdict
+Checks budget program _ = ⊥
+
+-- `conditions`, of a program, under a budget
+abbrev pub Surveys : ℕ → Program → Outcome → Type 0
+Surveys budget program (Broken refusal) = static_refusal program ≡ Some refusal
+Surveys budget program (Heavy weighed first) = (weighed ≡ program) × IsLawful program × (heavy program ≡ Some first)
+Surveys budget program (Surveyed surveyed told survey) = (surveyed ≡ program) × (told ≡ budget) × IsTaken program × IsSurvey program budget survey
+Surveys budget program _ = ⊥
+
+-- `prove`, of an outline, under a budget
+abbrev pub Proves : ℕ → Outline → Outcome → Type 0
+Proves budget outline (Broken refusal) = static_refusal outline.program ≡ Some refusal
+Proves budget outline (Proven proven told found) = (proven ≡ outline) × (told ≡ budget) × IsLawful outline.program × IsProving outline.program outline budget found
+Proves budget outline _ = ⊥
+
+-- `proof make`, of a program and the number of a condition, under a budget
+abbrev pub Asks : ℕ → ℕ → Program → Outcome → Type 0
+Asks at budget program (Broken refusal) = static_refusal program ≡ Some refusal
+Asks at budget program (Asked asked place told making) = (asked ≡ program) × (place ≡ at) × (told ≡ budget) × IsLawful program × IsMaking program budget at making
+Asks at budget program _ = ⊥
+
+-- `fmt`, of a program
+abbrev pub Prints : Program → Outcome → Type 0
+Prints program outcome = outcome ≡ Printed program
+
+-- the moves of a schedule that fits give this trace
+pub record RunsBy (plain : Plain) (script : Script) (trace : Trace) : Type 0 where
+  pub store : Store
+  pub moves : List Move
+  pub fits : IsSchedule script.program.globals script.store script.moves (Fits store moves)
+  pub trace_is : trace ≡ trace_of plain store moves
+
+-- `run`, of a script, on this plain program of it
+abbrev pub Runs : (Program → Plain) → Script → Outcome → Type 0
+Runs plain_of script (Broken refusal) = static_refusal script.program ≡ Some refusal
+Runs plain_of script (Misfit number) = IsLawful script.program × IsSchedule script.program.globals script.store script.moves (Wrong number)
+Runs plain_of script (Ran program trace) = (program ≡ script.program) × IsLawful script.program × RunsBy (plain_of script.program) script trace
+Runs plain_of script _ = ⊥
+
+-- of what is read: as this says of the program, script or outline, or its first fault
+abbrev pub OfRead : {A : Type 0} → (A → Outcome → Type 0) → Result A Fault → Outcome → Type 0
+OfRead Says reading outcome = OfReadOf telling Says reading outcome
+
+-- ---- what an input calls for
+
+-- it is no longer than it may be, it is read as this, and that is found of it
+abbrev pub Finds : {A : Type 0} → (List ℕ → Result A Fault → Type 0) → (A → Outcome → Type 0) → List ℕ → Outcome → Type 0
+Finds IsRead Says input outcome = FindsOf telling IsRead Says input outcome
+
+-- `proof replay`, of an input as a certificate
+pub record FindsReplayed (input : List ℕ) (outcome : Outcome) : Type 0 where
+  pub short : length input ≤ certificate_limit
+  pub replaying_ : Replaying
+  pub is : IsReplaying input replaying_
+  pub outcome_is : outcome ≡ Replayed replaying_
+
+-- by a task, of an input that may be read
+abbrev pub FindsBy : Task → List ℕ → Outcome → Type 0
+FindsBy (Check budget) input outcome = Finds IsReading (Checks budget) input outcome
+FindsBy (Conditions budget) input outcome = Finds IsReading (Surveys budget) input outcome
+FindsBy Fmt input outcome = Finds IsReading Prints input outcome
+FindsBy RunLow input outcome = Finds IsScriptReading (Runs lowest) input outcome
+FindsBy RunTop input outcome = Finds IsScriptReading (Runs topmost) input outcome
+FindsBy (Prove budget) input outcome = Finds IsOutlineReading (Proves budget) input outcome
+FindsBy (Make at budget) input outcome = Finds IsReading (Asks at budget) input outcome
+FindsBy Replay input outcome = FindsReplayed input outcome
+
+-- for a task the input calls for this outcome
+abbrev pub CallsFor : Task → List ℕ → Outcome → Type 0
+CallsFor task input outcome = CallsForOf telling (limit_of task) (FindsBy task) input outcome
 
 -- ---- trials
 

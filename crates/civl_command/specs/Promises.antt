@@ -1,5 +1,5 @@
 -- What `command` promises where the source tells the bytes still to come and the sink those that it took.
-use Rattle.std.specs.Prelude.{◌≡◌, ◌≢◌, ℕ, ◌+◌, ◌≤◌, ◌⊎◌, List, [], ◌++◌, length, codes, Option, Some}
+use Rattle.std.specs.Prelude.{◌≡◌, ℕ, ◌+◌, ◌≤◌, ◌⊎◌, List, ◌++◌, length, codes, Option, Some}
 use Rattle.civl_outside.specs.Count.{Stayed}
 use Rattle.civl_tree.specs.declared.program.Program.{Program}
 use Rattle.civl_tree.specs.declared.script.Script.{Script}
@@ -44,26 +44,18 @@ use Rattle.civl_verdicts.specs.Verdicts.{HasInitial, IsReached, AllHold, IsSpent
 use Rattle.civl_reports.specs.Lines.{HasLineThatBegins}
 use Rattle.civl_reports.specs.Findings.{survey_text}
 use Rattle.civl_verdict_reports.specs.Verdicts.{accepted_text, rejected_text, undecided_text}
-use Rattle.civl_command.specs.Rules.{IsLawful, IsTaken}
-use Rattle.civl_command.specs.Texts.{SpellsProgram, SpellsScript, SpellsOutline}
+use Rattle.civl_frontend.specs.Rules.{IsLawful, IsTaken}
+use Rattle.civl_frontend.specs.Texts.{SpellsProgram, SpellsScript, SpellsOutline}
+use Rattle.civl_frontend.specs.Streams.{ReadState, WriteState, Writes, ReadsAndWrites, IsAlone}
+use Rattle.civl_frontend.specs.Told.{Carries as CarriesOf, AnswersAs as AnswersAsOf}
+use Rattle.civl_frontend.specs.declared.status.Status.{Status}
+use Rattle.civl_frontend.specs.declared.status.Status.TheVariants.{Refused, Memory}
 use Rattle.civl_command.specs.Tasks.{AskFor, AskForTrial}
-use Rattle.civl_command.specs.Outcome.{Outcome, TooLong, Replayed, RunsBy, FindsBy, CallsFor, TrialCallsFor, certificate_limit, printed_text, trial_text, status_of, report_of, trial_report}
+use Rattle.civl_command.specs.Outcome.{Outcome, Replayed, RunsBy, FindsBy, CallsFor, TrialCallsFor, certificate_limit, printed_text, trial_text, status_of, telling, trial_report}
 use Rattle.civl_command.specs.Alike.{AreAlike}
-use Rattle.civl_command.specs.Judge.{ReadState, WriteState}
 use Rattle.civl_command.specs.Report.{run_text, trial_line}
 use Rattle.civl_command.specs.declared.task.Task.{Task}
 use Rattle.civl_command.specs.declared.task.Task.TheVariants.{Check, Prove, Replay}
-use Rattle.civl_command.specs.declared.status.Status.{Status}
-use Rattle.civl_command.specs.declared.status.Status.TheVariants.{Done, Refused, WriteFault, Memory}
-
--- what was written grew by the report
-abbrev pub Writes : WriteState → WriteState → List ℕ → Type 0
-Writes sink sink_after report = (taken : List ℕ) → sink.bytes ≡ Some taken → sink_after.bytes ≡ Some (taken ++ report)
-
--- the whole input was read, and what was written grew by the report
-pub record ReadsAndWrites (after : ReadState) (sink sink_after : WriteState) (report : List ℕ) : Type 0 where
-  pub read : after.left ≡ Some []
-  pub written : Writes sink sink_after report
 
 -- The input spells exactly one program, which breaks no static rule and no formula of which weighs too much.
 pub record SpellsTaken (input : List ℕ) (program : Program) : Type 0 where
@@ -93,9 +85,7 @@ TrialAcceptsRightly number sink sink_after =
 -- Where what was written grew by these lines and a text that begins with `accepted`, the status is Done, or such a report couldn't be
 -- written whole.
 abbrev pub AcceptsAlone : List ℕ → WriteState → WriteState → Status → Type 0
-AcceptsAlone lines sink sink_after status =
-    (taken rest : List ℕ) → sink.bytes ≡ Some taken → sink_after.bytes ≡ Some (taken ++ (lines ++ (codes "accepted" ++ rest)))
-    → (status ≡ Done) ⊎ (status ≡ WriteFault)
+AcceptsAlone lines sink sink_after status = IsAlone (λ rest. lines ++ (codes "accepted" ++ rest)) sink sink_after status
 
 -- The input spells exactly one outline, whose program breaks no static rule. The outline fits the program, and neither a formula of the
 -- program nor a goal weighs too much.
@@ -122,9 +112,7 @@ IsSafeRightly before after sink sink_after =
 
 -- Where what was written grew by a text that begins with `safe`, the status is Done, or such a report couldn't be written whole.
 abbrev pub IsSafeAlone : WriteState → WriteState → Status → Type 0
-IsSafeAlone sink sink_after status =
-    (taken rest : List ℕ) → sink.bytes ≡ Some taken → sink_after.bytes ≡ Some (taken ++ (codes "safe" ++ rest))
-    → (status ≡ Done) ⊎ (status ≡ WriteFault)
+IsSafeAlone sink sink_after status = IsAlone (λ rest. codes "safe" ++ rest) sink sink_after status
 
 -- Some store is initial in the program that the input spells. The condition has this place in its list, and each condition before it
 -- holds; it doesn't hold itself, since these values violate it, one of the right sort for each of its variables.
@@ -283,9 +271,8 @@ RefutesRightly before after sink sink_after =
     (set : ClauseSet) × (log : List (List Literal)) × (found : Replay_) × IsReplayed input set log found × ReadsAndWrites after sink sink_after (replaying_text (Read found))
 
 -- what was written grew by the report of the outcome, and, but for a longer input, the whole was read
-pub record Carries (after : ReadState) (sink sink_after : WriteState) (outcome : Outcome) : Type 0 where
-  pub written : Writes sink sink_after (report_of outcome)
-  pub read : ((most : ℕ) → outcome ≢ TooLong most) → after.left ≡ Some []
+abbrev pub Carries : ReadState → WriteState → WriteState → Outcome → Type 0
+Carries after sink sink_after outcome = CarriesOf telling after sink sink_after outcome
 
 -- Refused: the words ask for a task or for a trial, the input or the trial's text calls for a refusal, and the report says which.
 abbrev pub RefusesRightly : List (List ℕ) → ReadState → ReadState → WriteState → WriteState → Type 0
@@ -298,12 +285,8 @@ RefusesRightly words before after sink sink_after =
 
 -- the status and the report are those of an outcome for which the input calls, and which is alike each other one for which it does: the
 -- two are verdicts, surveys or findings of an outline or of a condition that don't speak against each other, or they are one
-pub record AnswersAs (task : Task) (input : List ℕ) (after : ReadState) (sink sink_after : WriteState) (status : Status) : Type 0 where
-  pub found : Outcome
-  pub calls : CallsFor task input found
-  pub status_is : status ≡ status_of found
-  pub alike : (outcome : Outcome) → CallsFor task input outcome → AreAlike found outcome
-  pub carries : Carries after sink sink_after found
+abbrev pub AnswersAs : Task → List ℕ → ReadState → WriteState → WriteState → Status → Type 0
+AnswersAs task input after sink sink_after status = AnswersAsOf telling (CallsFor task input) AreAlike after sink sink_after status
 
 -- Where the words ask for a task and nothing failed or stalled, the answer is the one that the input calls for, but for want
 -- of memory.

@@ -1,15 +1,14 @@
 // Certificates: one condition of a program, and the replay of a log.
 ghost use Rattle.std.specs.Prelude.{◌≡◌, ◌≤◌, length, IsTrue};
 ghost use Rattle.civl_tree.specs.SpellingDomain.{allows_program};
-ghost use Rattle.civl_command.specs.Rules.{IsLawful};
-ghost use Rattle.civl_command.specs.Texts.{IsReading};
-ghost use Rattle.civl_command.specs.Outcome.{Asked, Replayed, Asks, Finds, FindsReplayed, making_status, replaying_status, limit, certificate_limit};
+ghost use Rattle.civl_frontend.specs.Rules.{IsLawful};
+ghost use Rattle.civl_frontend.specs.Texts.{IsReading, limit};
+ghost use Rattle.civl_command.specs.Outcome.{Asked, Replayed, Asks, Finds, FindsReplayed, making_status, replaying_status, certificate_limit};
 ghost use Rattle.civl_command.specs.Judge.{IsJudged};
 
 use crate::admission::read_admitted;
-use crate::judged::{Judged, Report};
-use crate::status::Status;
 use civl_certify::Certified;
+use civl_frontend::{Judged, Report, Status};
 use civl_layers::Layered;
 use civl_maker::Maker;
 use civl_portfolio::Prover;

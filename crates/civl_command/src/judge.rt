@@ -1,23 +1,23 @@
 // What the words and the input call for.
-ghost use Rattle.std.specs.Prelude.{◌≡◌, ◌≤◌, ◌⊎◌, ℕ, List, length, map, string_bytes};
+ghost use Rattle.std.specs.Prelude.{◌≡◌, ◌≤◌, ℕ, List, length, map, string_bytes};
 ghost use Rattle.civl_words.specs.Words.{AreWordsOf, HasFitNumbers};
-ghost use Rattle.civl_command.specs.Texts.{IsReading, IsScriptReading};
+ghost use Rattle.civl_frontend.specs.Texts.{IsReading, IsScriptReading, limit};
+ghost use Rattle.civl_frontend.specs.Streams.{reading};
+ghost use Rattle.civl_frontend.specs.Report.{bytes_of};
 ghost use Rattle.civl_command.specs.Replay.{plain_for};
-ghost use Rattle.civl_command.specs.Outcome.{Printed, Prints, Runs, Finds, FindsBy, limit, limit_of};
+ghost use Rattle.civl_command.specs.Outcome.{Printed, Prints, Runs, Finds, FindsBy, limit_of};
 ghost use Rattle.civl_command.specs.Tasks.{command_for, AskFor, AskForSome, AsksProvers, AskProvers};
-ghost use Rattle.civl_command.specs.Judge.{reading, IsJudged, Judges};
-ghost use Rattle.civl_command.specs.Report.{bytes_of};
+ghost use Rattle.civl_command.specs.Judge.{IsJudged, Judges};
 
 use crate::certificates::{make_text, replay_bytes};
-use crate::judged::{CERTIFICATE_LIMIT, Judged, LIMIT, Report, judge_fault, too_long};
+use crate::judged::{CERTIFICATE_LIMIT, judge_fault, too_long, usage};
 use crate::proving::prove_text;
-use crate::reader::{Text, read_program, read_script};
 use crate::replay::{End, judge_script};
-use crate::status::Status;
 use crate::survey::survey_text;
 use crate::task::Task;
 use crate::trial::judge_trial;
 use crate::verdict::check_text;
+use civl_frontend::{Judged, LIMIT, Report, Status, Text, read_program, read_script};
 use civl_outside::{Source, Whole, read_whole};
 use civl_portfolio::Prover;
 use civl_printer::print;
@@ -167,7 +167,7 @@ pub(crate) fn judge<S: Source>(
     match command_of(alloc, words) {
         Ok(found) => match found {
             Some(command) => judge_command(alloc, command, source, provers),
-            None => Judged::usage(),
+            None => usage(),
         },
         Err(_) => Judged::wanting(),
     }

@@ -14,15 +14,13 @@ mod judge;
 mod judged;
 pub mod laws;
 mod proving;
-mod reader;
 mod replay;
 mod report;
-mod status;
 mod survey;
 mod task;
 mod top;
 mod trial;
 mod verdict;
 
-pub use status::Status;
+pub use civl_frontend::Status;
 pub use top::command;

@@ -2,16 +2,13 @@
 ghost use Rattle.std.specs.Prelude.{◌≡◌, ◌≤◌, ◌+◌, ◌<◌, ◌^◌, length, IsTrue};
 ghost use Rattle.civl_tree.specs.Numbered.{IsNumbered};
 ghost use Rattle.civl_tree.specs.SpellingDomain.{allows_program};
-ghost use Rattle.civl_command.specs.Rules.{IsLawful};
-ghost use Rattle.civl_command.specs.Texts.{IsOutlineReading};
-ghost use Rattle.civl_command.specs.Outcome.{Proven, Proves, Finds, proved_status, proving_status, limit};
+ghost use Rattle.civl_frontend.specs.Rules.{IsLawful};
+ghost use Rattle.civl_frontend.specs.Texts.{IsOutlineReading, limit};
+ghost use Rattle.civl_command.specs.Outcome.{Proven, Proves, Finds, proved_status, proving_status};
 ghost use Rattle.civl_command.specs.Judge.{IsJudged};
 
-use crate::admission::admitted;
-use crate::judged::{Judged, Report, judge_fault, refuse};
-use crate::reader::{Text, read_outline};
-use crate::status::Status;
-use crate::verdict::verdict_status;
+use crate::judged::{judge_fault, refuse};
+use civl_frontend::{Judged, Report, Status, Text, admitted, read_outline, verdict_status};
 use civl_layers::Layered;
 use civl_maker::Maker;
 use civl_outline_reports::{Proving, prove_outline, report_proving};

@@ -2,15 +2,14 @@
 ghost use Rattle.std.specs.Prelude.{◌≡◌, ◌+◌, ◌<◌, ◌^◌, length, IfOk};
 ghost use Rattle.civl_tree.specs.Numbered.{IsNumbered};
 ghost use Rattle.civl_run.specs.Trace.{trace_of};
+ghost use Rattle.civl_frontend.specs.Rules.{IsLawful};
 ghost use Rattle.civl_command.specs.Replay.{plain_for};
-ghost use Rattle.civl_command.specs.Rules.{IsLawful};
 ghost use Rattle.civl_command.specs.Outcome.{Misfit, Ran, Runs};
 ghost use Rattle.civl_command.specs.Judge.{IsJudged};
 
-use crate::admission::admitted;
-use crate::judged::{Judged, Report, refuse};
-use crate::report::{report_misfit, report_run};
-use crate::status::Status;
+use crate::judged::refuse;
+use crate::report::report_run;
+use civl_frontend::{Judged, Report, Status, admitted, report_misfit};
 use civl_layers::{Layered, low, program, top};
 use civl_meaning::{Move, Plain, Store};
 use civl_run::run;

@@ -1,14 +1,14 @@
 // What is found of the conditions of a program.
 ghost use Rattle.std.specs.Prelude.{◌≡◌, ◌≤◌, length, IsTrue};
 ghost use Rattle.civl_tree.specs.SpellingDomain.{allows_program};
-ghost use Rattle.civl_command.specs.Rules.{IsLawful};
-ghost use Rattle.civl_command.specs.Texts.{IsReading};
-ghost use Rattle.civl_command.specs.Outcome.{Surveyed, Surveys, Finds, survey_status, limit};
+ghost use Rattle.civl_frontend.specs.Rules.{IsLawful};
+ghost use Rattle.civl_frontend.specs.Texts.{IsReading, limit};
+ghost use Rattle.civl_command.specs.Outcome.{Surveyed, Surveys, Finds, survey_status};
 ghost use Rattle.civl_command.specs.Judge.{IsJudged};
 
 use crate::admission::read_admitted;
-use crate::judged::{Judged, Report, too_heavy};
-use crate::status::Status;
+use crate::judged::too_heavy;
+use civl_frontend::{Judged, Report, Status};
 use civl_judging::survey;
 use civl_layers::Layered;
 use civl_maker::Maker;

@@ -1,14 +1,15 @@
 // The top call.
 ghost use Rattle.std.specs.Prelude.{◌≡◌, ◌⊎◌, ℕ, [], map, string_bytes};
 ghost use Rattle.civl_meaning.specs.Layers.{lowest, topmost};
+ghost use Rattle.civl_frontend.specs.Streams.{reading, writing};
 ghost use Rattle.civl_command.specs.Tasks.{AskFor, AskForSome, AskForTrial, AskProvers};
-ghost use Rattle.civl_command.specs.Judge.{reading, writing, Explains};
+ghost use Rattle.civl_command.specs.Judge.{Explains};
 ghost use Rattle.civl_command.specs.Report.{trial_line};
 ghost use Rattle.civl_command.specs.Promises.{AcceptsRightly, TrialAcceptsRightly, AcceptsAlone, IsSafeRightly, IsSafeAlone, SurveysRightly, PrintsRightly, ReplaysRightly, CertifiesRightly, RefutesRightly, RejectsRightly, LeavesOpenRightly, RefusesRightly, IsComplete, IsTrialComplete};
 ghost use Rattle.civl_command.specs.declared.task.Task.TheVariants.{Check, Conditions, Fmt, RunLow, RunTop, Prove, Make, Replay};
 
 use crate::judge::judge;
-use crate::status::Status;
+use civl_frontend::Status;
 use civl_outside::{Sent, Sink, Source, write_all};
 use civl_portfolio::Prover;
 use civl_safety::laws::lowest_is_safe;

@@ -6,9 +6,10 @@ ghost use Rattle.civl_command.specs.Outcome.{CallsFor, TrialCallsFor, trial_text
 ghost use Rattle.civl_command.specs.Judge.{IsJudged, IsTried};
 ghost use Rattle.civl_command.specs.declared.task.Task.TheVariants.{Check};
 
-use crate::judged::{Judged, LIMIT, Report, too_long};
+use crate::judged::too_long;
 use crate::report::report_trial;
 use crate::verdict::check_text;
+use civl_frontend::{Judged, LIMIT, Report};
 use civl_portfolio::Prover;
 use civl_printer::print;
 use civl_tree::Memory;

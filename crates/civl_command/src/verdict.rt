@@ -1,14 +1,14 @@
 // The verdict on a program.
 ghost use Rattle.std.specs.Prelude.{◌≡◌, ◌≤◌, length, IsTrue};
 ghost use Rattle.civl_tree.specs.SpellingDomain.{allows_program};
-ghost use Rattle.civl_command.specs.Rules.{IsLawful};
-ghost use Rattle.civl_command.specs.Texts.{IsReading};
-ghost use Rattle.civl_command.specs.Outcome.{Judged as JudgedBy, Checks, Finds, verdict_status, limit};
+ghost use Rattle.civl_frontend.specs.Rules.{IsLawful};
+ghost use Rattle.civl_frontend.specs.Texts.{IsReading, limit};
+ghost use Rattle.civl_command.specs.Outcome.{Judged as JudgedBy, Checks, Finds};
 ghost use Rattle.civl_command.specs.Judge.{IsJudged};
 
 use crate::admission::read_admitted;
-use crate::judged::{Judged, Report, too_heavy};
-use crate::status::Status;
+use crate::judged::too_heavy;
+use civl_frontend::{Judged, Report, verdict_status};
 use civl_judging::verify;
 use civl_layers::Layered;
 use civl_maker::Maker;
@@ -18,18 +18,6 @@ use civl_verdicts::Verdict;
 use civl_verify::{Admitted, locals_held, source};
 use civl_weights::TooMuch;
 use std::alloc::Global;
-
-/// The status of a verdict.
-pub(crate) fn verdict_status(verdict: &Verdict) -> Status
-    ensures { result ≡ verdict_status verdict.now }
-{
-    match verdict {
-        Verdict::Accepted(_) => Status::Done,
-        Verdict::Rejected(_) => Status::Rejected,
-        Verdict::Undecided(_, _) => Status::Undecided,
-        Verdict::NoInitial => Status::Refused,
-    }
-}
 
 /// What is written of a verdict.
 fn decided(alloc: Global, src: &Layered, budget: u32, verdict: &Verdict) -> Judged

@@ -4,8 +4,8 @@ use Rattle.civl_tree.specs.rules.Rules.{Keeps}
 use Rattle.civl_linear.specs.LinearRules.{linear_rules}
 use Rattle.civl_yields.specs.YieldRules.{yield_rules}
 use Rattle.civl_verify.proofs.Admitting.{keeps_first}
-use Rattle.civl_command.specs.Outcome.{Asked, Asks}
-use Rattle.civl_command.proofs.Judging.{of_one}
+use Rattle.civl_frontend.proofs.Telling.{of_one}
+use Rattle.civl_command.specs.Outcome.{Asked, Asks, telling}
 use Rattle.civl_command.proofs.Deciding.{asked_of}
 use Rattle.civl_command.proofs.certificates.make_admitted.Goals as goal
 
@@ -14,5 +14,5 @@ make_proof-requires-clause-linear g c = subst (λ (p : Program). Keeps linear_ru
 
 pub returns-in-Ok : goal.returns-in-Ok
 returns-in-Ok g c =
-    of_one _ _ (Asks c.args.at c.args.budget c.args.admitted.now) (Asked c.source-src.result.now c.args.at c.args.budget c.in-Ok.making)
+    of_one telling _ _ (Asks c.args.at c.args.budget c.args.admitted.now) (Asked c.source-src.result.now c.args.at c.args.budget c.in-Ok.making)
     (asked_of c.args.admitted.now c.source-src.result.now c.args.budget c.source-src.ensures.same c.requires.rules c.args.at c.in-Ok.making c.in-Ok.ensures.making) c.asked.ensures

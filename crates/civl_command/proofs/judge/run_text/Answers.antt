@@ -1,9 +1,9 @@
 use Rattle.std.proofs.Common.{Ok, Err}
-use Rattle.civl_command.specs.Texts.{IsScriptReading}
-use Rattle.civl_command.specs.Outcome.{Runs}
+use Rattle.civl_frontend.specs.Texts.{IsScriptReading}
+use Rattle.civl_frontend.proofs.Telling.{found_in}
+use Rattle.civl_frontend.proofs.Lawful.{script_numbered, script_few}
+use Rattle.civl_command.specs.Outcome.{Runs, telling}
 use Rattle.civl_command.specs.Replay.{plain_for}
-use Rattle.civl_command.proofs.Judging.{found_in}
-use Rattle.civl_command.proofs.Lawful.{script_numbered, script_few}
 use Rattle.civl_command.proofs.judge.run_text.Goals as goal
 
 pub judge_script-requires-clause-numbered : goal.judge_script-requires-clause-numbered
@@ -13,7 +13,7 @@ pub judge_script-requires-clause-few : goal.judge_script-requires-clause-few
 judge_script-requires-clause-few c = script_few c.args.bytes.now c.in-Spelled.script c.in-Spelled.ensures.0 c.requires
 
 pub returns-in-Spelled : goal.returns-in-Spelled
-returns-in-Spelled c = found_in _ _ IsScriptReading (Runs (plain_for c.args.end)) c.args.bytes.now (Ok c.in-Spelled.script) c.requires c.in-Spelled.ensures c.judge_script.ensures
+returns-in-Spelled c = found_in telling _ _ IsScriptReading (Runs (plain_for c.args.end)) c.args.bytes.now (Ok c.in-Spelled.script) c.requires c.in-Spelled.ensures c.judge_script.ensures
 
 pub returns-in-Unread : goal.returns-in-Unread
-returns-in-Unread c = found_in _ _ IsScriptReading (Runs (plain_for c.args.end)) c.args.bytes.now (Err c.in-Unread.fault) c.requires c.in-Unread.ensures c.judge_fault.ensures
+returns-in-Unread c = found_in telling _ _ IsScriptReading (Runs (plain_for c.args.end)) c.args.bytes.now (Err c.in-Unread.fault) c.requires c.in-Unread.ensures c.judge_fault.ensures

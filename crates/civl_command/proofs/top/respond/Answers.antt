@@ -1,5 +1,6 @@
 use Rattle.std.proofs.Common.{◌∙◌}
-use Rattle.civl_command.proofs.Promising.{silent, loud}
+use Rattle.civl_frontend.proofs.Streaming.{loud}
+use Rattle.civl_command.proofs.Promising.{silent}
 use Rattle.civl_command.proofs.top.respond.Goals as goal
 
 pub returns-in-All-clause-unwritten : goal.returns-in-All-clause-unwritten

@@ -4,8 +4,8 @@ use Rattle.civl_tree.specs.rules.Rules.{Keeps}
 use Rattle.civl_linear.specs.LinearRules.{linear_rules}
 use Rattle.civl_yields.specs.YieldRules.{yield_rules}
 use Rattle.civl_verify.proofs.Admitting.{keeps_first}
-use Rattle.civl_command.specs.Outcome.{Heavy, Judged, Checks}
-use Rattle.civl_command.proofs.Judging.{of_one}
+use Rattle.civl_frontend.proofs.Telling.{of_one}
+use Rattle.civl_command.specs.Outcome.{Heavy, Judged, Checks, telling}
 use Rattle.civl_command.proofs.Deciding.{judged_of, heavy_of}
 use Rattle.civl_command.proofs.verdict.check_admitted.Goals as goal
 
@@ -14,10 +14,10 @@ verify-requires-clause-linear g c = subst (λ (p : Program). Keeps linear_rules 
 
 pub returns-in-Ok : goal.returns-in-Ok
 returns-in-Ok g c =
-    of_one _ _ (Checks c.args.budget c.args.admitted.now) (Judged c.source-src.result.now c.args.budget c.in-Ok.verdict)
+    of_one telling _ _ (Checks c.args.budget c.args.admitted.now) (Judged c.source-src.result.now c.args.budget c.in-Ok.verdict)
     (judged_of c.args.admitted.now c.source-src.result.now c.args.budget c.source-src.ensures.same c.requires.rules c.in-Ok.verdict c.in-Ok.ensures.light c.in-Ok.ensures.verdict) c.decided.ensures
 
 pub returns-in-Err-Weight : goal.returns-in-Err-Weight
 returns-in-Err-Weight g c =
-    of_one _ _ (Checks c.args.budget c.args.admitted.now) (Heavy c.source-src.result.now c.in-Err-Weight.formula)
+    of_one telling _ _ (Checks c.args.budget c.args.admitted.now) (Heavy c.source-src.result.now c.in-Err-Weight.formula)
     (heavy_of c.args.admitted.now c.source-src.result.now c.args.budget c.source-src.ensures.same c.requires.rules c.in-Err-Weight.formula (rw c.in-Err-Weight.field-0-is at c.in-Err-Weight.ensures.heavy)) c.too_heavy.ensures

@@ -4,8 +4,8 @@ use Rattle.civl_tree.specs.SpellingDomain.{HasSpelling}
 use Rattle.civl_tree.specs.SpellingProgram.{spell_program}
 use Rattle.civl_lex.specs.Spelled.{spelled}
 use Rattle.civl_lex.specs.Text.{HasTokens}
-use Rattle.civl_command.proofs.Reading.{reading}
-use Rattle.civl_command.proofs.reader.read_program.Goals as goal
+use Rattle.civl_frontend.proofs.Reading.{reading}
+use Rattle.civl_frontend.proofs.reader.read_program.Goals as goal
 
 pub returns-in-Ok-parse : goal.returns-in-Ok-parse
 returns-in-Ok-parse c =

@@ -1,5 +1,5 @@
 // The program, the script or the outline that a text spells.
-ghost use Rattle.civl_command.specs.Reader.{TellsProgram, TellsScript, TellsOutline};
+ghost use Rattle.civl_frontend.specs.Reader.{TellsProgram, TellsScript, TellsOutline};
 
 use civl_lex::{LexFault, tokens};
 use civl_outlines::{Outline, parse_outline};
@@ -9,7 +9,7 @@ use std::alloc::Global;
 
 /// Why a text is no program, no script or no outline: the first fault in it.
 #[derive(Clone, Copy, Debug, Drop)]
-pub(crate) enum Fault {
+pub enum Fault {
     /// No token begins at this byte.
     NoToken(usize),
     /// This token can't stand where it does.
@@ -20,7 +20,7 @@ pub(crate) enum Fault {
 
 /// What reading a text gives.
 #[derive(Drop)]
-pub(crate) enum Text<T> {
+pub enum Text<T> {
     /// What the text spells, and nothing else.
     Spelled(T),
     /// The text spells nothing, or has too many brackets open at some place.
@@ -30,7 +30,7 @@ pub(crate) enum Text<T> {
 }
 
 /// The program that these bytes spell, or the first fault in them.
-pub(crate) fn read_program(alloc: Global, bytes: &[u8]) -> Text<Program>
+pub fn read_program(alloc: Global, bytes: &[u8]) -> Text<Program>
     ensures { TellsProgram bytes.now result }
 {
     match tokens(alloc, bytes) {
@@ -46,7 +46,7 @@ pub(crate) fn read_program(alloc: Global, bytes: &[u8]) -> Text<Program>
 }
 
 /// The script that these bytes spell, or the first fault in them.
-pub(crate) fn read_script(alloc: Global, bytes: &[u8]) -> Text<Script>
+pub fn read_script(alloc: Global, bytes: &[u8]) -> Text<Script>
     ensures { TellsScript bytes.now result }
 {
     match tokens(alloc, bytes) {
@@ -62,7 +62,7 @@ pub(crate) fn read_script(alloc: Global, bytes: &[u8]) -> Text<Script>
 }
 
 /// The outline that these bytes spell, or the first fault in them.
-pub(crate) fn read_outline(alloc: Global, bytes: &[u8]) -> Text<Outline>
+pub fn read_outline(alloc: Global, bytes: &[u8]) -> Text<Outline>
     ensures { TellsOutline bytes.now result }
 {
     match tokens(alloc, bytes) {

@@ -1,20 +1,19 @@
 use Rattle.std.proofs.Common.{◌≡◌, List, sym, ap, ◌∙◌, subst, Ok, Err}
 use Rattle.civl_tree.specs.Token.{Token}
-use Rattle.civl_tree.specs.SpellingDomain.{ScriptHasSpelling}
-use Rattle.civl_tree.specs.SpellingScript.{spell_script}
+use Rattle.civl_outlines.specs.SpellingOutline.{spell_outline, OutlineHasSpelling}
 use Rattle.civl_lex.specs.Spelled.{spelled}
 use Rattle.civl_lex.specs.Text.{HasTokens}
-use Rattle.civl_command.proofs.Reading.{reading}
-use Rattle.civl_command.proofs.reader.read_script.Goals as goal
+use Rattle.civl_frontend.proofs.Reading.{reading}
+use Rattle.civl_frontend.proofs.reader.read_outline.Goals as goal
 
-pub returns-in-Ok-parse_script : goal.returns-in-Ok-parse_script
-returns-in-Ok-parse_script c =
+pub returns-in-Ok-parse_outline : goal.returns-in-Ok-parse_outline
+returns-in-Ok-parse_outline c =
     let bytes = c.args.bytes.now in
     let tokens = spelled c.as_slice.result.now in
     let e : tokens ≡ spelled c.in-Ok.tokens.items = ap spelled c.as_slice.ensures.value in
     let has : HasTokens bytes tokens = subst (λ (ts : List Token). HasTokens bytes ts) (sym e) c.in-Ok.ensures.tokens in
     let only : (other : List Token) → HasTokens bytes other → tokens ≡ other = λ other h. e ∙ c.in-Ok.ensures.only_tokens other h in
-    reading spell_script ScriptHasSpelling bytes tokens only c.in-Ok-parse_script.script has c.in-Ok-parse_script.ensures.right (λ other read. let is : Ok other ≡ Ok c.in-Ok-parse_script.script = c.in-Ok-parse_script.ensures.only (Ok other) read in cc)
+    reading spell_outline OutlineHasSpelling bytes tokens only c.in-Ok-parse_outline.outline has c.in-Ok-parse_outline.ensures.right (λ other read. let is : Ok other ≡ Ok c.in-Ok-parse_outline.outline = c.in-Ok-parse_outline.ensures.only (Ok other) read in cc)
 
 pub returns-in-Err-NotHere : goal.returns-in-Err-NotHere
 returns-in-Err-NotHere c = record {

@@ -12,10 +12,14 @@ use Rattle.civl_lex.specs.Spells.{SpellsOnly}
 use Rattle.civl_lex.specs.Text.{HasTokens, NoTokenAt}
 use Rattle.civl_phrases.specs.Bracket.{IsShallow}
 use Rattle.civl_phrases.specs.Exact.{IsNotHere, IsDeep}
-use Rattle.civl_command.specs.declared.reader.Fault.{Fault}
-use Rattle.civl_command.specs.declared.reader.Fault.TheVariants.{NoToken, NotHere, Deep}
+use Rattle.civl_frontend.specs.declared.reader.Fault.{Fault}
+use Rattle.civl_frontend.specs.declared.reader.Fault.TheVariants.{NoToken, NotHere, Deep}
 
 -- ---- texts, where `spell` gives the tokens of a value, and `fits` says which values have a spelling
+
+-- the most bytes that an input with a program, a script or an outline may have
+abbrev pub limit : ℕ
+limit = 1048576
 
 -- how many brackets may be unclosed at once
 abbrev pub bracket_limit : ℕ

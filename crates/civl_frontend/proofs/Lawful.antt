@@ -15,10 +15,9 @@ use Rattle.civl_layers.specs.LayerRules.{layer_rules}
 use Rattle.civl_layers.specs.Layered.{IsAt}
 use Rattle.civl_verify.specs.Admitted.{admission_rules}
 use Rattle.civl_verify.proofs.Admitting.{keeps_both, cause_of_first, cause_of_second}
-use Rattle.civl_command.specs.Rules.{static_refusal, IsLawful}
+use Rattle.civl_frontend.specs.Rules.{static_refusal, IsLawful}
 use Rattle.civl_script.proofs.Counting.{text_numbers, script_numbers, script_counts}
-use Rattle.civl_command.specs.Texts.{SpellsProgram, SpellsScript}
-use Rattle.civl_command.specs.Outcome.{limit}
+use Rattle.civl_frontend.specs.Texts.{SpellsProgram, SpellsScript, limit}
 
 pub text_numbered : (bytes : List ℕ) (program : Program) → SpellsProgram bytes program → length bytes ≤ limit → IsNumbered program
 text_numbered bytes program h short = text_numbers bytes h.spells.tokens program h.spells.has h.spells.spelled short

@@ -5,8 +5,8 @@ use Rattle.civl_types.specs.Checked.{IsCause}
 use Rattle.civl_layers.specs.LayerRules.{layer_rules}
 use Rattle.civl_layers.specs.Layered.{IsAt}
 use Rattle.civl_verify.specs.Admitted.{admission_rules}
-use Rattle.civl_command.proofs.Lawful.{lawful, by_types, by_layers, by_admission}
-use Rattle.civl_command.proofs.admission.admitted.Goals as goal
+use Rattle.civl_frontend.proofs.Lawful.{lawful, by_types, by_layers, by_admission}
+use Rattle.civl_frontend.proofs.admission.admitted.Goals as goal
 
 pub returns-clause-lawful : goal.returns-clause-lawful
 returns-clause-lawful c =

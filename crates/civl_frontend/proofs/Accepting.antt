@@ -19,10 +19,9 @@ use Rattle.civl_conditions.specs.Violated.{Holds}
 use Rattle.civl_verdicts.specs.Verdicts.{HasInitial, AllHold}
 use Rattle.civl_simulation.specs.Followed.{IsAccepted}
 use Rattle.civl_simulation.specs.Preserved.{AcceptedProgramsPreserve}
-use Rattle.civl_command.specs.Rules.{IsLawful}
-use Rattle.civl_command.specs.Texts.{SpellsProgram}
-use Rattle.civl_command.specs.Outcome.{limit}
-use Rattle.civl_command.proofs.Lawful.{text_numbered, text_written}
+use Rattle.civl_frontend.specs.Rules.{IsLawful}
+use Rattle.civl_frontend.specs.Texts.{SpellsProgram, limit}
+use Rattle.civl_frontend.proofs.Lawful.{text_numbered, text_written}
 
 holds_of : (program : Program) → AllHold program → (condition : Condition) → Contains (conditions program) condition → Holds program condition
 holds_of program hold condition listed = hold listed.0 condition (slice_get_read (conditions program) (length (conditions program)) listed.0 condition refl listed.1 (sym listed.2))

@@ -8,9 +8,9 @@ use Rattle.civl_tree.specs.declared.program.Program.{Program}
 use Rattle.civl_tree.specs.declared.script.Script.{Script}
 use Rattle.civl_outlines.specs.declared.outline.Outline.{Outline}
 use Rattle.civl_outlines.specs.SpellingOutline.{spell_outline, OutlineHasSpelling}
-use Rattle.civl_command.specs.Texts.{IsReadAs}
-use Rattle.civl_command.specs.declared.reader.Text.{Text}
-use Rattle.civl_command.specs.declared.reader.Text.TheVariants.{Spelled, Unread, Memory}
+use Rattle.civl_frontend.specs.Texts.{IsReadAs}
+use Rattle.civl_frontend.specs.declared.reader.Text.{Text}
+use Rattle.civl_frontend.specs.declared.reader.Text.TheVariants.{Spelled, Unread, Memory}
 
 -- the value that the bytes spell, or the first fault in them
 abbrev pub Tells : {A : Type 0} → (A → List Token) → (A → Type 0) → List ℕ → Text A → Type 0

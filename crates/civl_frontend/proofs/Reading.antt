@@ -22,9 +22,9 @@ use Rattle.civl_phrases.specs.declared.halt.Stop.TheVariants as stops
 use Rattle.civl_phrases.proofs.Exactly.{is_exact}
 use Rattle.civl_parser.proofs.OfPrograms.{program_text_is}
 use Rattle.civl_parser.proofs.OfScripts.{script_text_is}
-use Rattle.civl_command.specs.Texts.{IsShallowText, IsReadAs, IsReading, IsScriptReading, IsOutlineReading, bracket_limit}
-use Rattle.civl_command.specs.declared.reader.Fault.{Fault}
-use Rattle.civl_command.specs.declared.reader.Fault.TheVariants as faults
+use Rattle.civl_frontend.specs.Texts.{IsShallowText, IsReadAs, IsReading, IsScriptReading, IsOutlineReading, bracket_limit}
+use Rattle.civl_frontend.specs.declared.reader.Fault.{Fault}
+use Rattle.civl_frontend.specs.declared.reader.Fault.TheVariants as faults
 
 -- these are the only tokens that the bytes have
 abbrev pub HasOnly : List ℕ → List Token → Type 0

@@ -1,8 +1,10 @@
 // How the program ends.
 ghost use Rattle.std.specs.Prelude.{◌≡◌, ◌==◌};
-ghost use Rattle.civl_command.specs.Status.{code_of};
+ghost use Rattle.civl_frontend.specs.Status.{code_of, verdict_status};
 
-/// How a call of [`command`](crate::command) ended.
+use civl_verdicts::Verdict;
+
+/// How a call of a command ended.
 #[derive(Clone, Copy, Debug, PartialEq, Eq)]
 pub enum Status {
     /// The program was accepted, or the command did what it says. The code is 0.
@@ -41,9 +43,21 @@ impl Status {
     }
 
     /// Whether memory is wanting.
-    pub(crate) fn wants_memory(self) -> bool
+    pub fn wants_memory(self) -> bool
         ensures { result ≡ (code_of self == 7) }
     {
         self.code() == 7
+    }
+}
+
+/// The status of a verdict.
+pub fn verdict_status(verdict: &Verdict) -> Status
+    ensures { result ≡ verdict_status verdict.now }
+{
+    match verdict {
+        Verdict::Accepted(_) => Status::Done,
+        Verdict::Rejected(_) => Status::Rejected,
+        Verdict::Undecided(_, _) => Status::Undecided,
+        Verdict::NoInitial => Status::Refused,
     }
 }
