@@ -3,10 +3,13 @@ use Rattle.std.proofs.Common.{◌≡◌, ℕ, zero, suc, ◌≤◌, Bool, List, 
 use Rattle.std.specs.Prelude.{Option, slice_get}
 use Rattle.std.specs.Option.{option_map_or}
 use Rattle.std.proofs.lemmas.Option.{slice_get_read, slice_get_past}
-use Rattle.std.proofs.lemmas.List.{get_or_past}
+use Rattle.std.proofs.lemmas.List.{get_or_past, length-map}
 use Rattle.civl_tree.specs.declared.name.Name.{Name}
+use Rattle.civl_tree.specs.declared.stmt.Stmt.{Stmt}
 use Rattle.civl_tree.specs.declared.program.Proc.{Proc}
 use Rattle.civl_tree.specs.declared.program.Program.{Program}
+use Rattle.civl_tree.specs.Numbering.{sizes_of, statements_of}
+use Rattle.civl_tree.proofs.Numbers.{sizes_are_counts}
 use Rattle.civl_linear.specs.Cuts.{held_numbers}
 use Rattle.civl_conditions.specs.Steps.{of_proc}
 
@@ -38,3 +41,9 @@ pub counted : (counts : List ℕ) (names lent : List Name) (befores shown wanted
 counted counts names lent befores shown wanted at e n s w =
     ap (λ (ns : List ℕ). get_or ns at 0) (e ∙ ap (λ (ms : List Name). map (λ held. length (held_numbers 0 ms held)) shown) n ∙ ap (λ (bs : List (List Bool)). map (λ held. length (held_numbers 0 names held)) bs) (s ∙ w))
     ∙ counts_at names wanted at
+
+-- one count for each statement
+pub counted_each : (counts : List ℕ) (names : List Name) (befores shown wanted : List (List Bool)) (body : List Stmt) → counts ≡ map (λ held. length (held_numbers 0 names held)) shown → shown ≡ befores → befores ≡ wanted →
+    length wanted ≡ length (statements_of body) → length counts ≡ sizes_of body
+counted_each counts names befores shown wanted body e s w each =
+    ap length e ∙ length-map shown (λ held. length (held_numbers 0 names held)) ∙ ap length (s ∙ w) ∙ each ∙ sizes_are_counts body

@@ -1,5 +1,6 @@
 // What a procedure holds before its statements.
 ghost use Rattle.std.specs.Prelude.{ℕ, ◌≡◌, ◌<◌, ◌^◌, ◌∷◌, ◌++◌, [], map, false, length, get_or, IfOk, OnOk};
+ghost use Rattle.civl_tree.specs.Numbering.{sizes_of};
 ghost use Rattle.civl_tree.specs.rules.Names.{has_name, names_in_proc};
 ghost use Rattle.civl_types.specs.Views.{signature_of};
 ghost use Rattle.civl_layers.specs.Layered.{IsLayered};
@@ -484,7 +485,8 @@ fn counts_of(alloc: Global, names: &[&Name], befores: &[List<bool>]) -> Result<V
 /// How many a procedure holds before each of its statements.
 fn counts_in(alloc: Global, program: &Program, proc: &Proc) -> Result<Vec<usize>, Memory>
     requires { length (names_in_proc proc.now) < 2 ^ 32 }
-    ensures { IfOk result (λ counts. (statement : ℕ) → get_or counts.items statement 0 ≡ length (held_before program.now proc.now statement)) }
+    ensures counts { IfOk result (λ counts. (statement : ℕ) → get_or counts.items statement 0 ≡ length (held_before program.now proc.now statement)) }
+    ensures statements { IfOk result (λ counts. length counts.items ≡ sizes_of proc.now.body) }
 {
     let names = names_in_proc(alloc, proc)?;
     let befores = befores_in(alloc, program, names.as_slice(), proc)?;
@@ -495,7 +497,8 @@ fn counts_in(alloc: Global, program: &Program, proc: &Proc) -> Result<Vec<usize>
 /// The same of the procedure with this number, where there is one.
 fn counts_at(alloc: Global, program: &Program, number: u32) -> Result<Vec<usize>, Memory>
     requires { IsLayered program.now }
-    ensures { IfOk result (λ counts. (statement : ℕ) → get_or counts.items statement 0 ≡ of_proc program.now number 0 (λ proc. length (held_before program.now proc statement))) }
+    ensures counts { IfOk result (λ counts. (statement : ℕ) → get_or counts.items statement 0 ≡ of_proc program.now number 0 (λ proc. length (held_before program.now proc statement))) }
+    ensures statements { IfOk result (λ counts. length counts.items ≡ of_proc program.now number 0 (λ proc. sizes_of proc.body)) }
 {
     match program.procs.as_slice().get(number as usize) {
         Some(proc) => {
@@ -506,14 +509,15 @@ fn counts_at(alloc: Global, program: &Program, number: u32) -> Result<Vec<usize>
     }
 }
 
-/// How many locals a procedure holds before each of its statements, in text order, as [`held_before`] has them. Where there
-/// is no procedure with this number the answer is empty. It goes once over the body.
+/// How many locals a procedure holds before each of its statements, in text order, as [`held_before`] has them: one number a
+/// statement. Where there is no procedure with this number the answer is empty. It goes once over the body.
 ///
 /// # Errors
 ///
 /// For want of memory.
 pub fn held_counts(alloc: Global, src: &Layered, proc_number: u32) -> Result<Vec<usize>, Memory>
-    ensures { IfOk result (λ counts. (statement : ℕ) → get_or counts.items statement 0 ≡ of_proc src.now proc_number 0 (λ proc. length (held_before src.now proc statement))) }
+    ensures counts { IfOk result (λ counts. (statement : ℕ) → get_or counts.items statement 0 ≡ of_proc src.now proc_number 0 (λ proc. length (held_before src.now proc statement))) }
+    ensures statements { IfOk result (λ counts. length counts.items ≡ of_proc src.now proc_number 0 (λ proc. sizes_of proc.body)) }
 {
     let counts = counts_at(alloc, program(src), proc_number)?;
     Ok(counts)

@@ -27,5 +27,5 @@ statement_list-requires-clause-few c =
 
 pub statement_list-requires-clause-counts : goal.statement_list-requires-clause-counts
 statement_list-requires-clause-counts c = λ number.
-    ap (λ (ns : List ℕ). get_or ns number 0) c.as_slice-2.ensures.value ∙ c.in_ok-counts.ensures number
+    ap (λ (ns : List ℕ). get_or ns number 0) c.as_slice-2.ensures.value ∙ c.in_ok-counts.ensures.counts number
     ∙ counts_are c.args.said.now.program.now c.args.src.now c.args.number c.args.proc.now number c.requires.of.in_program c.requires.proc
