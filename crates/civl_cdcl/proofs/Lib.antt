@@ -4,3 +4,4 @@ mod Turning
 pub mod Outcomes
 pub mod Examples
 mod Counting
+pub mod Placing

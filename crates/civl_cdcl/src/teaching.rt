@@ -1,5 +1,6 @@
 // The clause that a conflict teaches.
 ghost use Rattle.std.specs.Prelude.{◌≡◌, ◌⊎◌, ◌<◌, ◌≤◌, ◌^◌, None, Some, false, length, slice_index_or, All, IfOk, OnOk, IsTrue};
+ghost use Rattle.std.specs.List.Sorted.{IsPermutation};
 ghost use Rattle.civl_cnf.specs.ClauseSet.{IsBelow, AreBelow};
 ghost use Rattle.civl_units.specs.Propagation.{IsFalsified};
 ghost use Rattle.civl_units.specs.Marks.{marked};
@@ -157,6 +158,19 @@ fn collect(
     Ok(lits)
 }
 
+/// The place of a variable among the steps, or 0.
+fn place_or_first(places: &[usize], variable: u32) -> usize {
+    let at = variable as usize;
+    if at < places.len() { places[at] } else { 0 }
+}
+
+/// Puts literals into the order in which their variables got their values. Propagation looks through a clause from its front, so it finds those that were decided on low levels first, which stay longest.
+fn by_place(lits: &mut Vec<Lit>, places: &[usize])
+    ensures { IsPermutation lits.old.items lits.new.items }
+{
+    lits.sort_unstable_by_key(|lit| place_or_first(places, lit.variable()));
+}
+
 /// Sees nothing any more.
 fn forget(seen: &mut [bool], found: &[u32])
     requires { AreFound seen.old found.now }
@@ -210,7 +224,8 @@ fn teach(
     requires found { AreFound seen.now found.now }
     ensures { IfOk result (λ learned. LearnSays trail.now clauses.now learned.clause learned.levels) }
 {
-    let lits = collect(alloc, trail, clauses, one, start, root, seen, found)?;
+    let mut lits = collect(alloc, trail, clauses, one, start, root, seen, found)?;
+    by_place(&mut lits, trail.places());
     let limit = reach(trail.places(), lits.as_slice(), start);
     let levels = levels_below(trail.starts(), limit);
     let clause = Clause::from_slice(alloc, lits.as_slice())?;
