@@ -2,3 +2,4 @@ pub mod Trail
 pub mod Propagation
 pub mod Engine
 pub mod Watches
+pub mod Pairs

@@ -68,6 +68,11 @@ abbrev pub IsPairBelow : ℕ → Option Pair → Type 0
 IsPairBelow n None = ⊤
 IsPairBelow n (Some pair) = (pair.first.variable < n) × (pair.second.variable < n)
 
+-- both literals differ
+abbrev pub IsPairApart : Option Pair → Type 0
+IsPairApart None = ⊤
+IsPairApart (Some pair) = pair.first ≢ pair.second
+
 -- with one clause more that watches these literals, if it has two: its number stands last in their lists
 abbrev pub with_pair : WatchState → Option Pair → WatchState
 with_pair w None = record w { pairs = w.pairs ++ None ∷ [] }

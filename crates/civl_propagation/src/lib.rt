@@ -4,6 +4,7 @@
 mod choice;
 mod engine;
 mod memory;
+mod pairs;
 mod propagation;
 mod trail;
 mod visits;

@@ -4,7 +4,7 @@ ghost use Rattle.civl_cnf.specs.ClauseSet.{IsBelow, AreBelow};
 ghost use Rattle.civl_units.specs.Propagation.{Holds};
 ghost use Rattle.civl_units.specs.Marks.{marked};
 ghost use Rattle.civl_propagation.specs.Trail.{before};
-ghost use Rattle.civl_propagation.specs.Watches.{watchers, AllKeepUp, IsHeld, IsVisiting, VisitSays, OtherSays, ReplacementSays, ForceSays, StepSays};
+ghost use Rattle.civl_propagation.specs.Watches.{watchers, AllKeepUp, IsHeld, IsVisiting, VisitSays, ReplacementSays, ForceSays, StepSays};
 
 use crate::Memory;
 use crate::propagation::Ended;
@@ -28,24 +28,6 @@ fn is_true(marks: &[Option<bool>], lit: Lit) -> bool
     match marks[lit.variable() as usize] {
         None => false,
         Some(value) => value == lit.positive(),
-    }
-}
-
-/// The other literal of a pair.
-fn other_of(pair: Option<Pair>, lit: Lit) -> Option<Lit>
-    ensures { OtherSays pair lit result }
-{
-    match pair {
-        None => None,
-        Some(two) => {
-            if two.first == lit {
-                Some(two.second)
-            } else if two.second == lit {
-                Some(two.first)
-            } else {
-                None
-            }
-        }
     }
 }
 
@@ -93,7 +75,7 @@ fn visit(
     ensures { IfOk result (λ did. (step : ℕ) → IsVisiting trail.old clauses.now watches.old falsified step at → VisitSays trail.old watches.old trail.new watches.new clauses.now falsified step at did) }
 {
     let number = watches.at(falsified, at);
-    match other_of(watches.pair(number), falsified) {
+    match watches.other(number, falsified) {
         None => Ok(Visit::Stays),
         Some(other) => {
             if is_true(trail.marks(), other) {

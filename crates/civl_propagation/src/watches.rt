@@ -1,9 +1,10 @@
 // The literals of clauses that are watched.
 ghost use Rattle.std.specs.Prelude.{◌≡◌, ◌≢◌, ◌<◌, ◌++◌, ◌∷◌, [], None, Some, length, replicate, slice_set, slice_index_or, IfOk, OnOk};
 ghost use Rattle.civl_units.specs.Occurrences.{nowhere, of_sign, with_number};
-ghost use Rattle.civl_propagation.specs.Watches.{watchers, without_number, with_listed, with_unlisted, with_pair, IsPairBelow, IsRewatched};
+ghost use Rattle.civl_propagation.specs.Watches.{watchers, without_number, with_listed, with_unlisted, with_pair, IsPairBelow, IsPairApart, OtherSays, IsRewatched};
 
 use crate::Memory;
+use crate::pairs::Watched;
 use civl_cnf::Lit;
 use smallvec::SmallVec;
 use std::alloc::Global;
@@ -89,7 +90,7 @@ impl Signs {
 /// For each clause the two literals that are watched, if it has two, and for each literal the clauses that are to be visited when it becomes false. Contracts see it as the record of both.
 #[derive(Drop)]
 pub struct Watches {
-    pairs: Vec<Option<Pair>>,
+    pairs: Vec<Watched>,
     lists: Vec<Signs>,
 }
 
@@ -141,20 +142,21 @@ impl Watches {
         self.of(lit)[at]
     }
 
-    /// The watched literals of the clause with a number.
-    pub fn pair(&self, number: u32) -> Option<Pair>
+    /// The other watched literal of the clause with a number, if this one is watched.
+    pub fn other(&self, number: u32, lit: Lit) -> Option<Lit>
         requires { number < length self.now.pairs }
-        ensures { result ≡ slice_index_or self.now.pairs number None }
+        ensures { OtherSays (slice_index_or self.now.pairs number None) lit result }
     {
-        self.pairs[number as usize]
+        self.pairs[number as usize].other(lit)
     }
 
-    /// The clause with a number has these watched literals.
+    /// The clause with a number has these watched literals, which differ.
     fn set(&mut self, number: u32, pair: Pair)
-        requires { number < length self.old.pairs }
+        requires number { number < length self.old.pairs }
+        requires apart { pair.first ≢ pair.second }
         ensures { self.new ≡ record self.old { pairs = slice_set self.old.pairs number (Some pair) } }
     {
-        self.pairs[number as usize] = Some(pair);
+        self.pairs[number as usize] = Watched::two(pair.first, pair.second);
     }
 
     /// Adds a clause at the end of a literal's list.
@@ -174,8 +176,9 @@ impl Watches {
         self.lists[lit.variable() as usize].remove(lit.positive(), at);
     }
 
-    /// The next clause watches these literals.
+    /// The next clause watches these literals, which differ.
     fn push_pair(&mut self, first: Lit, second: Lit) -> Result<(), Memory>
+        requires apart { first ≢ second }
         requires first { first.variable < length self.old.lists }
         requires second { second.variable < length self.old.lists }
         ensures { OnOk result (self.new ≡ with_pair self.old (Some (record { first = first; second = second }))) }
@@ -186,18 +189,19 @@ impl Watches {
         }
         self.list(first, number as u32)?;
         self.list(second, number as u32)?;
-        self.pairs.push(Some(Pair { first, second }))?;
+        self.pairs.push(Watched::two(first, second))?;
         Ok(())
     }
 
     /// The next clause watches these literals, if it has two. Numbers of clauses have 32 bits.
     pub fn watch(&mut self, pair: Option<Pair>) -> Result<(), Memory>
-        requires { IsPairBelow (length self.old.lists) pair }
+        requires below { IsPairBelow (length self.old.lists) pair }
+        requires apart { IsPairApart pair }
         ensures { OnOk result (self.new ≡ with_pair self.old pair) }
     {
         match pair {
             None => {
-                self.pairs.push(None)?;
+                self.pairs.push(Watched::none())?;
                 Ok(())
             }
             Some(two) => self.push_pair(two.first, two.second),
@@ -211,6 +215,7 @@ impl Watches {
         requires first { pair.first.variable < length self.old.lists }
         requires number { slice_index_or (watchers self.old.lists lit) at 0 < length self.old.pairs }
         requires other { pair.first ≢ lit }
+        requires apart { pair.first ≢ pair.second }
         ensures { OnOk result (IsRewatched self.old self.new lit at pair) }
     {
         let number = self.at(lit, at);

@@ -1,4 +1,4 @@
-use Rattle.std.proofs.Common.{◌∙◌, sym, ap, subst, List, Bool}
+use Rattle.std.proofs.Common.{refl, ◌∙◌, sym, ap, subst, get_or, List, Bool}
 use Rattle.std.specs.Prelude.{Option, None, Some}
 use Rattle.civl_cnf.specs.Literal.{Literal}
 use Rattle.civl_units.specs.Marks.{marked}
@@ -8,12 +8,12 @@ use Rattle.civl_propagation.proofs.visits.visit.Goals as goal
 
 pub returns-in-None : goal.returns-in-None
 returns-in-None c step v =
-    visit_unwatched c.args.trail.now c.args.clauses.now c.args.watches.now c.args.falsified step c.args.at c.at-number.result c.pair.result v c.requires.place c.at-number.ensures c.pair.ensures c.in-None.ensures
+    visit_unwatched c.args.trail.now c.args.clauses.now c.args.watches.now c.args.falsified step c.args.at c.at-number.result (get_or c.args.watches.now.pairs c.at-number.result None) v c.requires.place c.at-number.ensures refl c.in-None.ensures
 
 pub returns-then-is_true : goal.returns-then-is_true
 returns-then-is_true c step v =
     let other = c.in-Some.other in
-    visit_true c.args.trail.now c.args.clauses.now c.args.watches.now c.args.falsified other step c.args.at c.at-number.result c.pair.result v c.requires.place c.at-number.ensures c.pair.ensures c.in-Some.ensures
+    visit_true c.args.trail.now c.args.clauses.now c.args.watches.now c.args.falsified other step c.args.at c.at-number.result (get_or c.args.watches.now.pairs c.at-number.result None) v c.requires.place c.at-number.ensures refl c.in-Some.ensures
     (ap (λ (m : List (Option Bool)). marked m other.variable other.positive) (sym c.marks.ensures) ∙ sym c.is_true.ensures ∙ c.if-is_true.true)
 
 pub rewatch-requires-clause-other : goal.rewatch-requires-clause-other
@@ -31,7 +31,7 @@ returns-in_ok-rewatch-in-Some-replacement c step v =
     let next = c.in-Some-replacement.next in
     let found = subst (λ (m : List (Option Bool)). ReplacementSays m c.lits_of.result.now other (Some next)) c.marks-in-Some.ensures c.in-Some-replacement.ensures in
     let says = subst (λ (x : List Literal). ReplacementSays t.marks x other (Some next)) c.lits_of.ensures found in
-    visit_moved t c.args.clauses.now c.args.watches.now c.rewatch.new.self c.args.falsified other next step c.args.at c.at-number.result c.pair.result v c.requires.place c.at-number.ensures c.pair.ensures c.in-Some.ensures says c.in_ok-rewatch-in-Some-replacement.ensures
+    visit_moved t c.args.clauses.now c.args.watches.now c.rewatch.new.self c.args.falsified other next step c.args.at c.at-number.result (get_or c.args.watches.now.pairs c.at-number.result None) v c.requires.place c.at-number.ensures refl c.in-Some.ensures says c.in_ok-rewatch-in-Some-replacement.ensures
 
 pub returns-in_ok-did-in-None-replacement : goal.returns-in_ok-did-in-None-replacement
 returns-in_ok-did-in-None-replacement c step v =
@@ -39,4 +39,4 @@ returns-in_ok-did-in-None-replacement c step v =
     let other = c.in-Some.other in
     let found = subst (λ (m : List (Option Bool)). ReplacementSays m c.lits_of.result.now other None) c.marks-in-Some.ensures c.in-None-replacement.ensures in
     let says = subst (λ (x : List Literal). ReplacementSays t.marks x other None) c.lits_of.ensures found in
-    visit_forced t c.force.new.trail c.args.clauses.now c.args.watches.now c.args.falsified other step c.args.at c.at-number.result c.pair.result c.in_ok-did-in-None-replacement.did v c.requires.below c.requires.place c.at-number.ensures c.pair.ensures c.in-Some.ensures says c.in_ok-did-in-None-replacement.ensures
+    visit_forced t c.force.new.trail c.args.clauses.now c.args.watches.now c.args.falsified other step c.args.at c.at-number.result (get_or c.args.watches.now.pairs c.at-number.result None) c.in_ok-did-in-None-replacement.did v c.requires.below c.requires.place c.at-number.ensures refl c.in-Some.ensures says c.in_ok-did-in-None-replacement.ensures
