@@ -163,6 +163,96 @@ class Circuit:
         return self.odd(half, carry), self.either(self.both(a, b), self.both(half, carry))
 
 
+    def choice(self, condition, a, b):
+        return self.gate((False, [-condition, a]), (True, [-condition, -a]), (False, [condition, b]), (True, [condition, -b]))
+
+    def bits(self, number, width):
+        """The bits of a number, as variables with one value."""
+        true = self.gate()
+        self.clauses.append([true])
+        return [true if number >> at & 1 else -true for at in range(width)]
+
+
+def added(circuit, x, y, carry):
+    """The bits of the sum, and the carry."""
+    total = []
+    for a, b in zip(x, y):
+        bit, carry = circuit.sum(a, b, carry)
+        total.append(bit)
+    return total, carry
+
+
+def moved(circuit, x, by, left):
+    """The word moved to the left or the right by a word, with zeros behind it."""
+    zero = circuit.bits(0, 1)[0]
+    for stage, bit in enumerate(by):
+        step = 2**stage
+        source = [zero] * step + x if left else x[step:] + [zero] * step
+        x = [circuit.choice(bit, source[at], x[at]) for at in range(len(x))]
+    return x
+
+
+def divided(circuit, x, y):
+    """Quotient and remainder, bit by bit from the top."""
+    zero, one = circuit.bits(0, 1)[0], circuit.bits(1, 1)[0]
+    rest, quotient = [zero] * (len(x) + 1), [zero] * len(x)
+    turned = [-bit for bit in y] + [one]
+    for at in reversed(range(len(x))):
+        rest = [x[at]] + rest[:-1]
+        less, fits = added(circuit, rest, turned, one)
+        quotient[at] = fits
+        rest = [circuit.choice(fits, a, b) for a, b in zip(less, rest)]
+    return quotient, rest[:-1]
+
+
+def differ(circuit, left, right):
+    """The words differ in a bit."""
+    circuit.clauses.append([circuit.odd(a, b) for a, b in zip(left, right)])
+    return circuit.variables, circuit.clauses
+
+
+def word(first, width):
+    return list(range(first, first + width))
+
+
+def shift_of_sum(width):
+    """A shift of a sum is no sum of shifts."""
+    places = width.bit_length() - 1
+    circuit = Circuit(2 * width + places)
+    x, y, by = word(1, width), word(width + 1, width), word(2 * width + 1, places)
+    zero = circuit.bits(0, 1)[0]
+    left = moved(circuit, added(circuit, x, y, zero)[0], by, True)
+    right, _ = added(circuit, moved(circuit, x, by, True), moved(circuit, y, by, True), zero)
+    return differ(circuit, left, right)
+
+
+def shift_and_back(width):
+    """A word that is shifted to the left, back and to the left again isn't the word that is shifted once."""
+    places = width.bit_length() - 1
+    circuit = Circuit(width + places)
+    x, by = word(1, width), word(width + 1, places)
+    once = moved(circuit, x, by, True)
+    return differ(circuit, once, moved(circuit, moved(circuit, once, by, False), by, True))
+
+
+def times_ten(width):
+    """Ten times a word isn't the sum of two shifts."""
+    circuit = Circuit(width)
+    x = word(1, width)
+    zero = circuit.bits(0, 1)[0]
+    right, _ = added(circuit, [zero] + x[:-1], [zero] * 3 + x[:-3], zero)
+    return differ(circuit, product(circuit, width, x, circuit.bits(10, width)), right)
+
+
+def division_by(width, divisor):
+    """A quotient times the divisor and the remainder isn't the word that was divided."""
+    circuit = Circuit(width)
+    x, y = word(1, width), circuit.bits(divisor, width)
+    quotient, rest = divided(circuit, x, y)
+    total, _ = added(circuit, product(circuit, width, quotient, y), rest, circuit.bits(0, 1)[0])
+    return differ(circuit, total, x)
+
+
 def product(circuit, width, x, y):
     """The low bits of the product, by rows that are added one after the other."""
     total = [circuit.both(x[0], y[at]) for at in range(width)]

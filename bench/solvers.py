@@ -111,6 +111,11 @@ def sets():
         yield f"{places + 1} pigeons in {places} holes", *search.pigeons(places)
     for width in (5, 6, 7, 8):
         yield f"a product of {width} bits commutes", *search.commutes(width)
+    for width in (16, 32):
+        yield f"ten times a word of {width} bits is two shifts", *search.times_ten(width)
+        yield f"a shift of {width} bits and back", *search.shift_and_back(width)
+        yield f"a shift of a sum of {width} bits", *search.shift_of_sum(width)
+        yield f"a division of {width} bits by 10", *search.division_by(width, 10)
     for variables in (100, 150, 200):
         for seed in (1, 2, 3):
             yield f"3-SAT of {variables} variables, seed {seed}", *search.random_clauses(variables, seed)

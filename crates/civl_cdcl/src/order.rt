@@ -10,8 +10,11 @@ use civl_propagation::{Step, Trail};
 use std::alloc::Global;
 use std::collections::BinaryHeap;
 
-/// So many conflicts pass before decisions go by activity.
+/// So many conflicts pass at most before decisions go by activity.
 const FIXED: u64 = 1_000;
+
+/// After each so many conflicts it is looked whether the fixed order is worth keeping.
+const ROUND: u64 = 100;
 
 /// The activity that the first conflict gives.
 const FIRST: u64 = 1_024;
@@ -19,7 +22,7 @@ const FIRST: u64 = 1_024;
 /// Where a conflict would give more, all activities are made smaller.
 const LIMIT: u64 = 72_057_594_037_927_936;
 
-/// The order in which variables are decided. For the first conflicts the first variable without a value is made false. From then on it is the variable of the greatest activity, the sum of what conflicts gave it that it played a part in, each a twentieth more than the one before (Moskewicz and others, "Chaff: engineering an efficient SAT solver", 2001; Een and Sorensson, "An extensible SAT-solver", 2003), and it gets the value that it had last (Pipatsrisawat and Darwiche, "A lightweight component caching scheme for satisfiability solvers", 2007). All of this are hints: a variable is taken only where it has no value.
+/// The order in which variables are decided. For the first conflicts the first variable without a value is made false, as long as what is learned takes the search far back. From then on it is the variable of the greatest activity, the sum of what conflicts gave it that it played a part in, each a twentieth more than the one before (Moskewicz and others, "Chaff: engineering an efficient SAT solver", 2001; Een and Sorensson, "An extensible SAT-solver", 2003), and it gets the value that it had last (Pipatsrisawat and Darwiche, "A lightweight component caching scheme for satisfiability solvers", 2007). All of this are hints: a variable is taken only where it has no value.
 #[derive(Drop)]
 pub struct Order {
     variables: u32,
@@ -35,6 +38,10 @@ pub struct Order {
     increment: u64,
     /// How many conflicts there were.
     conflicts: u64,
+    /// How many levels were taken back in all.
+    taken: u64,
+    /// Whether decisions go by the fixed order still.
+    fixed: bool,
     /// No variable before this one had no value, in the fixed order.
     lowest: usize,
 }
@@ -115,6 +122,8 @@ impl Order {
             phases,
             increment: FIRST,
             conflicts: 0,
+            taken: 0,
+            fixed: true,
             lowest: 0,
         })
     }
@@ -143,7 +152,15 @@ impl Order {
 
     /// Whether decisions go by the fixed order still.
     pub fn is_fixed(&self) -> bool {
-        self.conflicts < FIXED
+        self.fixed
+    }
+
+    /// Whether the fixed order is to be given up: conflicts take back less than five levels in three. Where each takes back about one, what is learned only rules out one case after the other.
+    fn is_poor(&self) -> bool {
+        if self.conflicts >= FIXED {
+            return true;
+        }
+        self.conflicts % ROUND == 0 && self.taken.saturating_mul(3) < self.conflicts * 5
     }
 
     /// Notes a conflict, in which these variables play a part.
@@ -156,7 +173,8 @@ impl Order {
             self.increment = FIRST;
             self.refill()?;
         }
-        if self.conflicts == FIXED {
+        if self.fixed && self.is_poor() {
+            self.fixed = false;
             self.refill()?;
         }
         Ok(())
@@ -166,7 +184,7 @@ impl Order {
     fn free(&mut self, lit: Lit) -> Result<(), Memory> {
         let place = lit.variable() as usize;
         self.lowest = self.lowest.min(place);
-        if self.conflicts < FIXED {
+        if self.fixed {
             return Ok(());
         }
         if place < self.phases.len() {
@@ -190,7 +208,9 @@ impl Order {
     /// Notes that the levels of a trail are taken back until there are so many.
     pub fn take_back(&mut self, trail: &Trail, levels: usize) -> Result<(), Memory> {
         let starts = trail.starts();
-        if levels < starts.len() {
+        let count = starts.len();
+        if levels < count {
+            self.taken = self.taken.saturating_add((count - levels) as u64);
             self.free_all(trail.steps(), starts[levels])?;
         }
         Ok(())
@@ -210,7 +230,7 @@ impl Order {
     fn most_active(&mut self, marks: &[Option<bool>]) -> Option<u32>
         ensures { IfSome result (λ v. IsFree marks.now v) }
     {
-        if self.conflicts < FIXED {
+        if self.fixed {
             return None;
         }
         pop_open(&mut self.queue, &mut self.queued, marks)
