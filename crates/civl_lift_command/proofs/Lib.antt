@@ -1,0 +1,10 @@
+pub mod Beside
+pub mod Running
+pub mod Starting
+pub mod Raising
+pub mod Asking
+pub mod Ways
+pub mod Agreeing
+pub mod Alone
+pub mod Judging
+pub mod Promising

@@ -1,0 +1,21 @@
+//! The program `civl_lift` as one call: from the words of its command line and the bytes of its input to its report and its status.
+//!
+//! The input is a script: a program, a store and moves. Where the program is accepted, and the moves run in its lowest program from the
+//! store, which is initial, to a failing configuration, they are lifted to moves of its topmost program that do so there
+//! ([`lift_command`], over `lift` of `civl_lifting`).
+//!
+//! What may be found stands in specs/ (`Outcome`, `Lifting`), and what each status says in `Judge` and `Promises`.
+#![tactic(auto)]
+
+mod initial;
+mod judge;
+mod judged;
+mod permissions;
+mod report;
+mod schedule;
+mod script;
+mod top;
+mod words;
+
+pub use civl_frontend::Status;
+pub use top::lift_command;
