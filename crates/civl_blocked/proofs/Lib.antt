@@ -13,3 +13,4 @@ mod Prolonged
 mod Joinings
 mod Rooms
 mod Starts
+mod Wholes

@@ -6,3 +6,4 @@ pub mod Walked
 pub mod Shortened
 pub mod Completed
 pub mod Turning
+pub mod Arranged

@@ -106,7 +106,7 @@ fn ahead(program: &Program, stmt: &Stmt, later: bool) -> bool
     ensures { result ≡ ahead program.now stmt.now later }
 {
     match stmt {
-        Stmt::Call(name, _, _) => stops(program, name) || later,
+        Stmt::Call(name, _, _) => later || stops(program, name),
         Stmt::If(_, a, b) => ahead_list(program, a, later) || ahead_list(program, b, later),
         Stmt::While(_, a) => ahead_list(program, a, false) || later,
         Stmt::RankLoop(_, _, _, a) => ahead_list(program, a, false) || later,

@@ -8,6 +8,7 @@ ghost use Rattle.civl_blocked.specs.Blocked.{Fails, IsBlocked};
 use crate::blocked::Blocked;
 use crate::copying::queue;
 use crate::ground::Ground;
+use crate::pacing::Pace;
 use crate::turning::{Turning, turn};
 use civl_firing::Store;
 use civl_layers::{Layered, at, program};
@@ -48,6 +49,7 @@ fn turned(
         beside,
         rest,
         open: None,
+        pace: Pace::full(),
     };
     let blocked = turn(alloc, &ground, turning)?;
     Ok(blocked)

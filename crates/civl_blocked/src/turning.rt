@@ -1,5 +1,7 @@
 // A failing run is turned into a block run, block by block.
-ghost use Rattle.std.specs.Prelude.{ℕ, ◌≡◌, ◌+◌, ◌<◌, ◌≤◌, ◌∷◌, [], ◌++◌, List, Some, None, length, IfOk, OnOk, IsTrue};
+ghost use Rattle.std.specs.Prelude.{ℕ, ◌≡◌, ◌+◌, ◌<◌, ◌≤◌, ◌∷◌, [], ◌++◌, List, Some, None, length, drop, IfOk, OnOk, IsTrue};
+ghost use Rattle.std.specs.VecDeque.{deque_len};
+ghost use Rattle.civl_blocked.specs.Arranged.{IsArranged};
 ghost use Rattle.civl_meaning.specs.declared.config.Config.{Config as There};
 ghost use Rattle.civl_meaning.specs.declared.config.Move.{Move as Given};
 ghost use Rattle.civl_interleavings.specs.Runs.{Opens};
@@ -9,18 +11,21 @@ ghost use Rattle.civl_blocked.specs.declared.turning.Next.TheVariants.{Goes, Don
 ghost use Rattle.civl_blocked.specs.Blocked.{IsBlocked};
 ghost use Rattle.civl_blocked.specs.Turning.{IsBeside, IsTurning, IsGoing, IsNext, IsGathering, IsShortening, IsFinishing, HasRoom, whole_of, part_of, measure};
 
+use crate::arranging::Arranged;
 use crate::blocked::Blocked;
 use crate::completing::{Completed, complete};
 use crate::copying::{copied, queue};
 use crate::gathering::gathers;
 use crate::ground::Ground;
+use crate::joining::{join, join_blocks, join_own};
+use crate::pacing::{Pace, arrange};
 use crate::place::{is_late, place_at};
 use crate::segment::Segment;
 use crate::shortening::shortened;
 use crate::stepping::failing_in;
 use crate::walking::{Walked, to_end, to_turn};
 use civl_meaning::{Config, Move};
-use civl_shadows::{Shadowed, is_challenged, shadowed_step};
+use civl_shadows::{Shadowed, is_challenged};
 use civl_tree::{List, Memory};
 use std::alloc::Global;
 use std::collections::VecDeque;
@@ -39,6 +44,8 @@ pub struct Turning {
     pub rest: VecDeque<Move>,
     /// The thread whose block is open, if one is.
     pub open: Option<u32>,
+    /// How many moves are arranged at once.
+    pub pace: Pace,
 }
 
 /// What comes next.
@@ -50,59 +57,6 @@ pub enum Next {
     Done,
     /// The thread's block is open, and isn't ended by its next steps; these moves lead to where that is so.
     Spent(u32, Vec<Move>),
-}
-
-/// Joins one more move to the block run.
-fn join(
-    alloc: Global,
-    ground: &Ground<'_, '_, '_>,
-    done: &mut Vec<Move>,
-    beside: &mut Shadowed,
-    chosen: &Move,
-) -> Result<(), Memory>
-    requires ground { IsGround ground.now }
-    requires runs { (d : There) × ((over ground.now).step beside.old.config chosen.now ≡ Some d) }
-    requires beside { IsBeside ground.now done.old.items beside.old }
-    ensures done { OnOk result (done.new.items ≡ done.old.items ++ chosen.now ∷ []) }
-    ensures step { OnOk result ((over ground.now).step beside.old.config chosen.now ≡ Some beside.new.config) }
-    ensures beside { OnOk result (IsBeside ground.now done.new.items beside.new) }
-{
-    shadowed_step(
-        alloc,
-        ground.plain,
-        ground.places,
-        ground.layer,
-        beside,
-        chosen,
-    )?;
-    let copy = copied(alloc, chosen)?;
-    done.push(copy)?;
-    Ok(())
-}
-
-/// Joins the moves of this thread to the block run.
-fn join_own(
-    alloc: Global,
-    ground: &Ground<'_, '_, '_>,
-    done: &mut Vec<Move>,
-    beside: &mut Shadowed,
-    thread: u32,
-    moves: &[Move],
-) -> Result<(), Memory>
-    requires ground { IsGround ground.now }
-    requires runs { (x : There) × Opens (over ground.now) thread (own mover thread moves.now) beside.old.config x }
-    requires beside { IsBeside ground.now done.old.items beside.old }
-    ensures done { OnOk result (done.new.items ≡ done.old.items ++ own mover thread moves.now) }
-    ensures opens { OnOk result (Opens (over ground.now) thread (own mover thread moves.now) beside.old.config beside.new.config) }
-    ensures beside { OnOk result (IsBeside ground.now done.new.items beside.new) }
-{
-    for chosen in moves {
-        if chosen.thread != thread {
-            continue;
-        }
-        join(alloc, ground, done, beside, chosen)?;
-    }
-    Ok(())
 }
 
 /// Puts the moves of the other threads in front of what is still to come.
@@ -182,6 +136,7 @@ fn shorten(
     let config = &turning.beside.config;
     let shorter = shortened(alloc, ground, config, thread, moves)?;
     turning.rest = queue(alloc, &shorter)?;
+    turning.pace = Pace::full();
     Ok(Next::Goes)
 }
 
@@ -270,6 +225,47 @@ fn go_late(
     }
 }
 
+/// Puts these moves in the place of the first ones of the rest, so many.
+fn put_others(rest: &mut VecDeque<Move>, count: usize, others: Vec<Move>) -> Result<(), Memory>
+    requires { count ≤ deque_len rest.old }
+    ensures { OnOk result (rest.new.items ≡ others.items ++ drop count rest.old.items) }
+{
+    let mut behind = rest.split_off(count)?;
+    let mut whole = VecDeque::from(others);
+    whole.append(&mut behind)?;
+    *rest = whole;
+    Ok(())
+}
+
+/// Goes on by whole blocks that stand, with the others behind them, for the first moves of the rest.
+fn take_blocks(
+    alloc: Global,
+    ground: &Ground<'_, '_, '_>,
+    turning: &mut Turning,
+    arranged: Arranged,
+) -> Result<Next, Memory>
+    requires ground { IsGround ground.now }
+    requires going { IsGoing ground.now turning.old }
+    requires open { turning.old.open ≡ None }
+    requires arranged { IsArranged ground.now turning.old.beside.config turning.old.rest.items arranged }
+    ensures { IfOk result (λ next. (bound : ℕ) → IsTurning ground.now bound turning.old → IsNext ground.now bound (measure ground.now turning.old) turning.new next) }
+{
+    let Arranged { blocks, others } = arranged;
+    let count = blocks.len() + others.len();
+    let challenged = join_blocks(
+        alloc,
+        ground,
+        &mut turning.done,
+        &mut turning.beside,
+        &blocks,
+    )?;
+    if challenged {
+        return Ok(Next::Done);
+    }
+    put_others(&mut turning.rest, count, others)?;
+    Ok(Next::Goes)
+}
+
 /// Goes on to the next turn of a block, where none is open.
 fn go_early(
     alloc: Global,
@@ -285,6 +281,17 @@ fn go_early(
     civl_gathered::laws::moves_stop();
     if failing_in(ground, &turning.beside.config)?.is_some() {
         return Ok(Next::Done);
+    }
+    let whole = arrange(
+        alloc,
+        ground,
+        &turning.beside.config,
+        &turning.rest,
+        &mut turning.pace,
+    )?;
+    if let Some(arranged) = whole {
+        let next = take_blocks(alloc, ground, turning, arranged)?;
+        return Ok(next);
     }
     match to_turn(alloc, ground, &turning.beside.config, &mut turning.rest)? {
         Walked::To(segment) => {

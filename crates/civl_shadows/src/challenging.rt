@@ -266,9 +266,12 @@ fn frame_challenged(
             if done {
                 return Ok(false);
             }
-            let rest = rest_at(alloc, framed.proc, framed.frame.place)?;
             let locals = framed.frame.locals.as_slice();
-            Ok(at_yield(&rest) && !allows(program, store, framed.proc, locals))
+            if allows(program, store, framed.proc, locals) {
+                return Ok(false);
+            }
+            let rest = rest_at(alloc, framed.proc, framed.frame.place)?;
+            Ok(at_yield(&rest))
         }
     }
 }

@@ -185,8 +185,8 @@ pub fn rest_at(alloc: Global, proc: &Proc, place: usize) -> Result<Vec<Numbered<
 {
     match counted_all(&proc.body) {
         None => Err(Memory),
-        Some(_) => {
-            let mut rest = Vec::new(alloc);
+        Some(count) => {
+            let mut rest = Vec::with_capacity(alloc, count)?;
             push_among(&mut rest, &proc.body, 0, place)?;
             Ok(rest)
         }

@@ -4,7 +4,7 @@ use Rattle.civl_interleavings.specs.Runs.{Opens}
 use Rattle.civl_gathering.specs.Gathered.{own}
 use Rattle.civl_blocked.specs.Segments.{over, mover}
 use Rattle.civl_blocked.specs.Turning.{IsBeside}
-use Rattle.civl_blocked.proofs.turning.join_own.Given as goal
+use Rattle.civl_blocked.proofs.joining.join_own.Given as goal
 
 abbrev pub invariant-loop-chosen : goal.invariant-loop-chosen
 invariant-loop-chosen l = record {

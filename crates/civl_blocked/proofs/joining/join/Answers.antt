@@ -1,7 +1,7 @@
 use Rattle.std.proofs.Common.{◌≡◌, ◌∙◌, [], ◌∷◌, ◌++◌, ap}
 use Rattle.civl_meaning.specs.declared.config.Move.{Move}
 use Rattle.civl_blocked.proofs.Besides.{beside_more}
-use Rattle.civl_blocked.proofs.turning.join.Goals as goal
+use Rattle.civl_blocked.proofs.joining.join.Goals as goal
 
 pub returns-clause-beside : goal.returns-clause-beside
 returns-clause-beside c =

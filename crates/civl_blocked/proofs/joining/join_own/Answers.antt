@@ -3,7 +3,7 @@ use Rattle.civl_gathering.specs.Gathered.{own}
 use Rattle.civl_blocked.specs.Segments.{over, mover}
 use Rattle.civl_blocked.proofs.Strides.{same_end}
 use Rattle.civl_blocked.proofs.Picking.{skips_made, skips_left, goes_made, goes_left, goes_at, own_done_on, own_done_stays}
-use Rattle.civl_blocked.proofs.turning.join_own.Goals as goal
+use Rattle.civl_blocked.proofs.joining.join_own.Goals as goal
 
 pub loop-chosen-preserved-then-chosen-thread : goal.loop-chosen-preserved-then-chosen-thread
 loop-chosen-preserved-then-chosen-thread c =
