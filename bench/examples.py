@@ -1,7 +1,8 @@
 #!/usr/bin/env python3
-"""Runs what the documents show on a built program: the tables of examples/README.md, and each mistake of the tutorials of docs/LANGUAGE.md.
+"""Runs what the documents show on the built programs: the tables of examples/README.md, and each mistake of the tutorials of docs/LANGUAGE.md.
 
-Usage: examples.py BINARY        (crates/civl/out/civl after `rt run` in crates/civl)
+Usage: examples.py BINARY [LIFT]     (crates/civl/out/civl after `rt run` in crates/civl, and crates/civl_lift/out/civl_lift; without the
+second, its rows are left out)
 
 It prints a line for each text whose report is another than the documents say, and at last how many were tried. The exit code is 1 where some report was another.
 """
@@ -133,10 +134,13 @@ def has(lines, wanted):
     return all(line in rest for line in wanted)
 
 
-def other_reports(binary):
+def other_reports(binary, lift):
     """For each text, what is told of its report where it is another, and else None."""
     for name, words, wanted in tables():
-        found = run(binary, words, example(name))[:len(wanted)]
+        program = lift if words == ["lift"] else binary
+        if not program:
+            continue
+        found = run(program, words, example(name))[:len(wanted)]
         yield None if found == wanted else f"{name}: {' '.join(words)} prints {found}"
     for name, changes, wanted in MISTAKES:
         lines = run(binary, ["conditions"], with_changes(example(name), changes))
@@ -147,9 +151,9 @@ def other_reports(binary):
 
 
 def main():
-    if len(sys.argv) != 2:
+    if len(sys.argv) not in (2, 3):
         sys.exit(__doc__)
-    told = list(other_reports(sys.argv[1]))
+    told = list(other_reports(sys.argv[1], (*sys.argv[2:], None)[0]))
     wrong = [line for line in told if line]
     print(*wrong, f"{len(told)} texts tried, {len(wrong)} with another report", sep="\n")
     sys.exit(bool(wrong))
