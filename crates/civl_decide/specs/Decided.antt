@@ -1,5 +1,5 @@
 -- What the decision of a formula says (satisfiability: a model, or that there is none, or a search that was stopped by its budget).
-use Rattle.std.specs.Prelude.{◌≡◌, ℕ, ◌*◌, ◌≤◌, false, List, IsTrue}
+use Rattle.std.specs.Prelude.{◌≡◌, ℕ, zero, suc, ◌*◌, ◌≤◌, false, List, IsTrue}
 use Rattle.civl_bits.specs.declared.value.Value.{Value}
 use Rattle.civl_tree.specs.declared.expr.Sort.{Sort}
 use Rattle.civl_values.specs.Values.{HaveSorts}
@@ -34,3 +34,8 @@ pub record WasAsked {B : Type 0} (before after : List B) (budget : ℕ) (m : Mea
   pub retired : ℕ
   pub outcome : Outcome
   pub round : IsRound before after retired set budget outcome m
+
+-- and so in so many rounds, one after the other
+abbrev pub WereAsked : {B : Type 0} → List B → List B → ℕ → ℕ → Meanings B → Type 0
+WereAsked before after zero budget m = after ≡ before
+WereAsked {B} before after (suc rounds) budget m = (between : List B) × WereAsked before between rounds budget m × WasAsked between after budget m

@@ -1,3 +1,4 @@
 pub mod Numbered
 pub mod Decided
 pub mod Answered
+pub mod Laws

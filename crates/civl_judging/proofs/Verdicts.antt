@@ -100,6 +100,3 @@ reached program list i d initial e l before = record { initial = initial; there 
 
 pub violates : (program : Program) (budget : ℕ) (c : Condition) (values : List Value) → IsDecided budget (violation_formula program c) (At values) → Violates program c values
 violates program budget c values h = record { fit = h.0; fail = h.1 }
-
-pub asked_as : {B : Type 0} (m : Meanings B) (olds news : List B) (n k : ℕ) → n ≡ k → KeepsFirst olds news n m → KeepsFirst olds news k m
-asked_as m olds news n k e h = subst (λ (j : ℕ). KeepsFirst olds news j m) e h

@@ -6,13 +6,12 @@ ghost use Rattle.civl_tree.specs.rules.Rules.{Keeps};
 ghost use Rattle.civl_linear.specs.LinearRules.{linear_rules};
 ghost use Rattle.civl_linear.specs.Cuts.{all_held};
 ghost use Rattle.civl_bodies.specs.Bodies.{AreBodies};
-ghost use Rattle.civl_portfolio.specs.First.{KeepsFirst};
 ghost use Rattle.civl_conditions.specs.Listed.{conditions};
 ghost use Rattle.civl_conditions.specs.Weights.{weight, weight_limit, heavy};
 ghost use Rattle.civl_weights.specs.Heavy.{IsHeavy};
 ghost use Rattle.civl_verdicts.specs.Surveys.{IsFound, AreFound, IsSurvey};
-ghost use Rattle.civl_decide.specs.Decided.{WasAsked};
-ghost use Rattle.civl_judging.specs.Searches.{SurveyedBy};
+ghost use Rattle.civl_decide.specs.Decided.{WasAsked, WereAsked};
+ghost use Rattle.civl_judging.specs.Searches.{SurveyedBy, UnaskedWhereHeavy};
 
 use crate::formula::Makes;
 use crate::memory::Memory;
@@ -75,7 +74,7 @@ fn find_each<M: Makes>(
     requires listed { list.now ≡ conditions src.now }
     requires light { heavy src.now ≡ None }
     ensures found { IfOk result (AreFound src.now budget list.now) }
-    ensures asked { IfOk result (λ found. KeepsFirst provers.old.items provers.new.items (length list.now) (record { asked = asked; lacks = lacks; honest = honest; plan = plan })) }
+    ensures asked { IfOk result (λ found. WereAsked provers.old.items provers.new.items (length list.now) budget (record { asked = asked; lacks = lacks; honest = honest; plan = plan })) }
 {
     let mut findings = Vec::new(alloc);
     for condition in list.as_slice() {
@@ -101,7 +100,7 @@ fn find_all<M: Makes>(
     requires listed { list.now ≡ conditions src.now }
     requires light { heavy src.now ≡ None }
     ensures found { IfOk result (AreFound src.now budget list.now) }
-    ensures asked { IfOk result (λ found. KeepsFirst provers.old.items provers.new.items (length list.now) (record { asked = asked; lacks = lacks; honest = honest; plan = plan })) }
+    ensures asked { IfOk result (λ found. WereAsked provers.old.items provers.new.items (length list.now) budget (record { asked = asked; lacks = lacks; honest = honest; plan = plan })) }
 {
     let bodies = bodies_of(alloc, src)?;
     let findings = find_each(alloc, makes, src, held, &bodies, list, provers, budget)?;
@@ -124,7 +123,7 @@ fn look<M: Makes>(
     requires listed { list.now ≡ conditions src.now }
     requires light { heavy src.now ≡ None }
     ensures survey { IfOk result (IsSurvey src.now budget) }
-    ensures searched { IfOk result (λ survey. SurveyedBy src.now survey provers.old.items provers.new.items (record { asked = asked; lacks = lacks; honest = honest; plan = plan })) }
+    ensures searched { IfOk result (λ survey. SurveyedBy src.now survey budget provers.old.items provers.new.items (record { asked = asked; lacks = lacks; honest = honest; plan = plan })) }
 {
     match decide_initial(alloc, makes, src, provers, budget)? {
         Decision::Never => Ok(Survey::NoInitial),
@@ -160,7 +159,8 @@ pub fn survey<M: Makes>(
     ensures survey { IfOk result (IsSurvey src.now budget) }
     ensures light { IfOk result (λ survey. heavy src.now ≡ None) }
     ensures heavy { IfErr result (IsHeavy (heavy src.now)) }
-    ensures searched { IfOk result (λ survey. SurveyedBy src.now survey provers.old.items provers.new.items (record { asked = asked; lacks = lacks; honest = honest; plan = plan })) }
+    ensures unasked { IfErr result (UnaskedWhereHeavy provers.old.items provers.new.items) }
+    ensures searched { IfOk result (λ survey. SurveyedBy src.now survey budget provers.old.items provers.new.items (record { asked = asked; lacks = lacks; honest = honest; plan = plan })) }
 {
     let list = weighed_conditions(alloc, src, held)?;
     match look(alloc, makes, src, held, &list, provers, budget) {

@@ -12,7 +12,7 @@ ghost use Rattle.civl_weights.specs.Heavy.{IsHeavy};
 ghost use Rattle.civl_verdicts.specs.Formulas.{initial_formula, violation_formula};
 ghost use Rattle.civl_verdicts.specs.Verdicts.{IsVerdict, HasInitial};
 ghost use Rattle.civl_decide.specs.Decided.{IsDecided, WasAsked};
-ghost use Rattle.civl_judging.specs.Searches.{Searched, SearchedOn};
+ghost use Rattle.civl_judging.specs.Searches.{Searched, SearchedOn, UnaskedWhereHeavy};
 
 use crate::formula::{Made, Makes};
 use crate::memory::Memory;
@@ -96,7 +96,7 @@ fn judge_conditions<M: Makes>(
     requires light { heavy src.now ≡ None }
     requires initial { HasInitial src.now }
     ensures verdict { IfOk result (IsVerdict src.now budget) }
-    ensures searched { IfOk result (λ verdict. SearchedOn src.now verdict provers.old.items provers.new.items (record { asked = asked; lacks = lacks; honest = honest; plan = plan })) }
+    ensures searched { IfOk result (λ verdict. SearchedOn src.now verdict budget provers.old.items provers.new.items (record { asked = asked; lacks = lacks; honest = honest; plan = plan })) }
 {
     for condition in list.as_slice() {
         match decide_violation(alloc, makes, src, held, bodies, condition, provers, budget)? {
@@ -128,7 +128,7 @@ fn judge_all<M: Makes>(
     requires light { heavy src.now ≡ None }
     requires initial { HasInitial src.now }
     ensures verdict { IfOk result (IsVerdict src.now budget) }
-    ensures searched { IfOk result (λ verdict. SearchedOn src.now verdict provers.old.items provers.new.items (record { asked = asked; lacks = lacks; honest = honest; plan = plan })) }
+    ensures searched { IfOk result (λ verdict. SearchedOn src.now verdict budget provers.old.items provers.new.items (record { asked = asked; lacks = lacks; honest = honest; plan = plan })) }
 {
     let bodies = bodies_of(alloc, src)?;
     let verdict = judge_conditions(alloc, makes, src, held, &bodies, list, provers, budget)?;
@@ -151,7 +151,7 @@ fn judge<M: Makes>(
     requires listed { list.now ≡ conditions src.now }
     requires light { heavy src.now ≡ None }
     ensures verdict { IfOk result (IsVerdict src.now budget) }
-    ensures searched { IfOk result (λ verdict. Searched src.now verdict provers.old.items provers.new.items (record { asked = asked; lacks = lacks; honest = honest; plan = plan })) }
+    ensures searched { IfOk result (λ verdict. Searched src.now verdict budget provers.old.items provers.new.items (record { asked = asked; lacks = lacks; honest = honest; plan = plan })) }
 {
     match decide_initial(alloc, makes, src, provers, budget)? {
         Decision::Never => Ok(Verdict::NoInitial),
@@ -185,7 +185,8 @@ pub fn verify<M: Makes>(
     ensures verdict { IfOk result (IsVerdict src.now budget) }
     ensures light { IfOk result (λ verdict. heavy src.now ≡ None) }
     ensures heavy { IfErr result (IsHeavy (heavy src.now)) }
-    ensures searched { IfOk result (λ verdict. Searched src.now verdict provers.old.items provers.new.items (record { asked = asked; lacks = lacks; honest = honest; plan = plan })) }
+    ensures unasked { IfErr result (UnaskedWhereHeavy provers.old.items provers.new.items) }
+    ensures searched { IfOk result (λ verdict. Searched src.now verdict budget provers.old.items provers.new.items (record { asked = asked; lacks = lacks; honest = honest; plan = plan })) }
 {
     let list = weighed_conditions(alloc, src, held)?;
     match judge(alloc, makes, src, held, &list, provers, budget) {

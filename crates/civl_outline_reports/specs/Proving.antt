@@ -11,7 +11,7 @@ use Rattle.civl_outlined.specs.Outlined.{Fits, IsFault}
 use Rattle.civl_outlined.specs.declared.answer.OutlineFault.TheVariants as fault
 use Rattle.civl_prove.specs.Proved.{Proves}
 use Rattle.civl_portfolio.specs.Prover.{Meanings}
-use Rattle.civl_portfolio.specs.First.{KeepsFirst}
+use Rattle.civl_decide.specs.Decided.{WereAsked}
 use Rattle.civl_judging.specs.Searches.{Searched}
 use Rattle.civl_prove.specs.Searches.{SearchesFor, Searched as SearchedGoals}
 use Rattle.civl_outline_reports.specs.declared.proving.Proving.{Proving}
@@ -41,29 +41,20 @@ IsProving program outline budget (HeavyGoal goal) = (heavy program ≡ None) × 
 IsProving program outline budget (Judged verdict) = IsReady program outline × IsVerdict program budget verdict × IsNoAcceptance verdict
 IsProving program outline budget (Decided count proved) = IsReady program outline × IsVerdict program budget (Accepted count) × Proves program outline budget proved
 
--- Where the first prover is honest it is still the first where something was searched, and was asked as often: for the verdict, and
--- behind acceptance, which takes one search more than there are conditions, for the goals.
-abbrev pub SearchedBy : {B : Type 0} → Program → Outline → Proving → List B → List B → Meanings B → Type 0
-SearchedBy program outline (Note number) before after m = ⊤
-SearchedBy program outline (Roots item statement) before after m = ⊤
-SearchedBy program outline (Heavy first) before after m = ⊤
-SearchedBy program outline (HeavyGoal goal) before after m = ⊤
-SearchedBy program outline (Judged verdict) before after m = Searched program verdict before after m
-SearchedBy program outline (Decided count proved) before after m = (goals : ℕ) × SearchesFor program outline proved goals × KeepsFirst before after (count + 1 + goals) m
+-- Where they are refused the provers are as they were. Else they were asked in as many rounds as searches were made: for the verdict,
+-- and behind acceptance, which takes one search more than there are conditions, for the goals.
+abbrev pub SearchedBy : {B : Type 0} → Program → Outline → Proving → ℕ → List B → List B → Meanings B → Type 0
+SearchedBy program outline (Note number) budget before after m = after ≡ before
+SearchedBy program outline (Roots item statement) budget before after m = after ≡ before
+SearchedBy program outline (Heavy first) budget before after m = after ≡ before
+SearchedBy program outline (HeavyGoal goal) budget before after m = after ≡ before
+SearchedBy program outline (Judged verdict) budget before after m = Searched program verdict budget before after m
+SearchedBy program outline (Decided count proved) budget before after m = (goals : ℕ) × SearchesFor program outline proved goals × WereAsked before after (count + 1 + goals) budget m
 
--- serves private functions: the same of the goals alone
-abbrev pub GoalsSearchedBy : {B : Type 0} → Program → Outline → Proving → List B → List B → Meanings B → Type 0
-GoalsSearchedBy program outline (Note number) before after m = ⊤
-GoalsSearchedBy program outline (Roots item statement) before after m = ⊤
-GoalsSearchedBy program outline (Heavy first) before after m = ⊤
-GoalsSearchedBy program outline (HeavyGoal goal) before after m = ⊤
-GoalsSearchedBy program outline (Judged verdict) before after m = ⊥
-GoalsSearchedBy program outline (Decided count proved) before after m = SearchedGoals program outline proved before after m
-
--- serves private functions: where the goals were decided, there were so many conditions
-abbrev pub HasCount : ℕ → Proving → Type 0
-HasCount count (Decided other proved) = other ≡ count
-HasCount count _ = ⊤
+-- serves private functions: so many conditions hold, and the provers were asked about the goals
+abbrev pub GoalsSearchedBy : {B : Type 0} → Program → Outline → ℕ → Proving → ℕ → List B → List B → Meanings B → Type 0
+GoalsSearchedBy program outline count (Decided other proved) budget before after m = (other ≡ count) × SearchedGoals program outline proved budget before after m
+GoalsSearchedBy program outline count _ budget before after m = ⊥
 
 -- serves private functions: nothing is searched
 abbrev pub IsRefusal : Proving → Type 0

@@ -10,7 +10,7 @@ ghost use Rattle.civl_verdicts.specs.Verdicts.{IsVerdict};
 ghost use Rattle.civl_verdicts.specs.declared.verdict.Verdict.TheVariants.{Accepted};
 ghost use Rattle.civl_goals.specs.Weights.{heavy as heavy_goal};
 ghost use Rattle.civl_outlined.specs.Outlined.{Fits};
-ghost use Rattle.civl_outline_reports.specs.Proving.{IsProving, SearchedBy, GoalsSearchedBy, HasCount, IsRefusal};
+ghost use Rattle.civl_outline_reports.specs.Proving.{IsProving, SearchedBy, GoalsSearchedBy, IsRefusal};
 
 use civl_conditions::Condition;
 use civl_goals::Goal;
@@ -63,7 +63,8 @@ fn heavy(
     }
 }
 
-/// What is found of the goals of an outline that fits, where the program is accepted and has so many conditions.
+/// What is found of the goals of an outline that fits, none of which weighs too much, where the program is accepted and has so many
+/// conditions.
 fn decide_goals(
     alloc: Global,
     src: &Layered,
@@ -75,11 +76,12 @@ fn decide_goals(
     requires written { IsTrue (allows_program src.now) }
     requires yields { Keeps yield_rules src.now }
     requires few { length outline.now.holds + length outline.now.notes < 2 ^ 32 }
+    requires fits { Fits src.now outline.now }
     requires light { heavy_formula src.now ≡ None }
+    requires light_goals { heavy_goal src.now outline.now ≡ None }
     requires accepted { IsVerdict src.now budget (Accepted count) }
     ensures proving { IfOk result (IsProving src.now outline.now budget) }
-    ensures count { IfOk result (HasCount count) }
-    ensures searched { IfOk result (λ proving. GoalsSearchedBy src.now outline.now proving provers.old.items provers.new.items (record { asked = asked; lacks = lacks; honest = honest; plan = plan })) }
+    ensures searched { IfOk result (λ proving. GoalsSearchedBy src.now outline.now count proving budget provers.old.items provers.new.items (record { asked = asked; lacks = lacks; honest = honest; plan = plan })) }
 {
     match prove(alloc, src, outline, provers, budget) {
         Ok(proved) => Ok(Proving::Decided(count, proved)),
@@ -109,7 +111,7 @@ fn judge<M: Makes>(
     requires fits { Fits src.now outline.now }
     requires light { heavy_goal src.now outline.now ≡ None }
     ensures proving { IfOk result (IsProving src.now outline.now budget) }
-    ensures searched { IfOk result (λ proving. SearchedBy src.now outline.now proving provers.old.items provers.new.items (record { asked = asked; lacks = lacks; honest = honest; plan = plan })) }
+    ensures searched { IfOk result (λ proving. SearchedBy src.now outline.now proving budget provers.old.items provers.new.items (record { asked = asked; lacks = lacks; honest = honest; plan = plan })) }
 {
     match verify(alloc, makes, src, held, provers, budget) {
         Ok(Verdict::Accepted(count)) => {
@@ -149,7 +151,7 @@ pub fn prove_outline<M: Makes>(
     requires held { held.now.cuts ≡ all_held src.now }
     requires few { length outline.now.holds + length outline.now.notes < 2 ^ 32 }
     ensures proving { IfOk result (IsProving src.now outline.now budget) }
-    ensures searched { IfOk result (λ proving. SearchedBy src.now outline.now proving provers.old.items provers.new.items (record { asked = asked; lacks = lacks; honest = honest; plan = plan })) }
+    ensures searched { IfOk result (λ proving. SearchedBy src.now outline.now proving budget provers.old.items provers.new.items (record { asked = asked; lacks = lacks; honest = honest; plan = plan })) }
 {
     match outlined(alloc, src, outline) {
         Ok(_goals) => judge(alloc, makes, src, held, outline, provers, budget),

@@ -11,7 +11,7 @@ ghost use Rattle.civl_goals.specs.Weights.{weight, heavy};
 ghost use Rattle.civl_decide.specs.Decided.{IsDecided, WasAsked};
 ghost use Rattle.civl_outlined.specs.Outlined.{Fits, IsFault};
 ghost use Rattle.civl_prove.specs.Proved.{goal_formula, Proves};
-ghost use Rattle.civl_prove.specs.Searches.{Searched};
+ghost use Rattle.civl_prove.specs.Searches.{Searched, UnaskedWhereRefused};
 
 use crate::making::make;
 use crate::proved::Proved;
@@ -67,7 +67,7 @@ fn prove_goals(
     requires listed { list.now ≡ goals src.now outline.now }
     requires light { heavy src.now outline.now ≡ None }
     ensures proved { IfOk result (Proves src.now outline.now budget) }
-    ensures searched { IfOk result (λ proved. Searched src.now outline.now proved provers.old.items provers.new.items (record { asked = asked; lacks = lacks; honest = honest; plan = plan })) }
+    ensures searched { IfOk result (λ proved. Searched src.now outline.now proved budget provers.old.items provers.new.items (record { asked = asked; lacks = lacks; honest = honest; plan = plan })) }
 {
     for goal in list.as_slice() {
         match decide_goal(alloc, src, outline, goal, provers, budget)? {
@@ -102,7 +102,8 @@ pub fn prove(
     ensures fits { IfOk result (λ proved. Fits src.now outline.now) }
     ensures light { IfOk result (λ proved. heavy src.now outline.now ≡ None) }
     ensures fault { IfErr result (IsFault src.now outline.now) }
-    ensures searched { IfOk result (λ proved. Searched src.now outline.now proved provers.old.items provers.new.items (record { asked = asked; lacks = lacks; honest = honest; plan = plan })) }
+    ensures unasked { IfErr result (UnaskedWhereRefused provers.old.items provers.new.items) }
+    ensures searched { IfOk result (λ proved. Searched src.now outline.now proved budget provers.old.items provers.new.items (record { asked = asked; lacks = lacks; honest = honest; plan = plan })) }
 {
     let list = outlined(alloc, src, outline)?;
     match prove_goals(alloc, src, outline, &list, provers, budget) {

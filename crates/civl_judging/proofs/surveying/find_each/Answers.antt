@@ -1,15 +1,16 @@
 use Rattle.std.specs.Prelude.{length, get_or, List}
-use Rattle.std.proofs.Common.{◌≡◌, ◌+◌, ◌∙◌, ℕ, sym, ap, subst, arith}
+use Rattle.std.proofs.Common.{◌≡◌, ◌+◌, ◌∙◌, ℕ, refl, sym, ap, subst, arith}
 use Rattle.civl_conditions.specs.declared.condition.Condition.TheVariants.{Start}
 use Rattle.civl_conditions.specs.declared.condition.Condition.{Condition}
 use Rattle.civl_verdicts.specs.Surveys.{IsFound}
 use Rattle.civl_judging.proofs.Lightness.{conditions_are_light}
-use Rattle.civl_judging.proofs.Verdicts.{not_asked, asked_more, asked_as, here_in}
+use Rattle.civl_decide.proofs.Rounds.{asked_more, asked_as}
+use Rattle.civl_judging.proofs.Verdicts.{here_in}
 use Rattle.civl_judging.proofs.Surveys.{found_more}
 use Rattle.civl_judging.proofs.surveying.find_each.Goals as goal
 
 pub loop-condition-init : goal.loop-condition-init
-loop-condition-init g c = (rw c.new-findings.ensures.items tt, not_asked _ _)
+loop-condition-init g c = (rw c.new-findings.ensures.items tt, refl)
 
 pub find-requires-clause-light : goal.find-requires-clause-light
 find-requires-clause-light g c =
@@ -22,11 +23,11 @@ loop-condition-preserved g c =
     let l = ap length c.as_slice-condition-items.ensures in (
       found_more c.args.src.now c.args.budget c.args.list.now i (Start 0 0) _ _ c.in_ok-found.found (omega (arith, l)) c.loop-condition.invariant.0
           (subst (λ (cs : List Condition). IsFound c.args.src.now c.args.budget (get_or cs i (Start 0 0)) c.in_ok-found.found) c.as_slice-condition-items.ensures c.in_ok-found.ensures.found) c.in_ok-push.ensures.items,
-      asked_more _ _ _ _ i c.args.budget c.loop-condition.invariant.1 c.in_ok-found.ensures.asked,
+      asked_more _ c.args.budget _ _ _ i c.loop-condition.invariant.1 c.in_ok-found.ensures.asked,
     )
 
 pub returns-clause-asked : goal.returns-clause-asked
 returns-clause-asked g c =
     let l = ap length c.as_slice-condition-items.ensures in
     let end : c.loop-condition.condition-index ≡ length c.args.list.now = omega (arith, l, c.loop-condition.auto.condition-index-end) in
-    asked_as _ _ _ _ _ end c.loop-condition.invariant.1
+    asked_as _ c.args.budget _ _ _ _ end c.loop-condition.invariant.1

@@ -1,14 +1,15 @@
 use Rattle.std.proofs.Common.{refl, ℕ, ◌+◌}
-use Rattle.civl_judging.proofs.Verdicts.{not_asked, asked_more, asked_then, found_initial}
+use Rattle.civl_decide.proofs.Rounds.{asked_more, asked_then}
+use Rattle.civl_judging.proofs.Verdicts.{found_initial}
 use Rattle.civl_judging.proofs.verifying.judge.Goals as goal
 
 pub returns-in-Never-clause-searched : goal.returns-in-Never-clause-searched
-returns-in-Never-clause-searched g c = (1, refl, asked_more _ _ _ _ 0 c.args.budget (not_asked _ _) c.in_ok-decide_initial.ensures.asked)
+returns-in-Never-clause-searched g c = (1, refl, asked_more _ c.args.budget _ _ _ 0 refl c.in_ok-decide_initial.ensures.asked)
 
 pub returns-in-Spent-clause-searched : goal.returns-in-Spent-clause-searched
-returns-in-Spent-clause-searched g c = (1, refl, asked_more _ _ _ _ 0 c.args.budget (not_asked _ _) c.in_ok-decide_initial.ensures.asked)
+returns-in-Spent-clause-searched g c = (1, refl, asked_more _ c.args.budget _ _ _ 0 refl c.in_ok-decide_initial.ensures.asked)
 
 pub returns-in_ok-verdict-in-At-clause-searched : goal.returns-in_ok-verdict-in-At-clause-searched
 returns-in_ok-verdict-in-At-clause-searched g c =
     let s = c.in_ok-verdict-in-At.ensures.searched in
-    (s.0 + 1, s.1, asked_then _ _ _ _ s.0 c.args.budget c.in_ok-decide_initial.ensures.asked s.2)
+    (s.0 + 1, s.1, asked_then _ c.args.budget _ _ _ s.0 c.in_ok-decide_initial.ensures.asked s.2)

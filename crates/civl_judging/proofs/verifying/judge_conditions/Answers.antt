@@ -1,14 +1,15 @@
 use Rattle.std.specs.Prelude.{length}
-use Rattle.std.proofs.Common.{◌+◌, ◌∙◌, ap, subst, arith}
+use Rattle.std.proofs.Common.{◌+◌, ◌∙◌, refl, ap, subst, arith}
 use Rattle.civl_conditions.specs.declared.condition.Condition.TheVariants.{Start}
 use Rattle.civl_verdicts.specs.Formulas.{violation_formula}
 use Rattle.civl_decide.specs.Decided.{IsDecided}
 use Rattle.civl_judging.proofs.Lightness.{conditions_are_light}
-use Rattle.civl_judging.proofs.Verdicts.{none_before, one_more, all_hold, not_asked, asked_more, here_in, reached, violates}
+use Rattle.civl_decide.proofs.Rounds.{asked_more}
+use Rattle.civl_judging.proofs.Verdicts.{none_before, one_more, all_hold, here_in, reached, violates}
 use Rattle.civl_judging.proofs.verifying.judge_conditions.Goals as goal
 
 pub loop-condition-init : goal.loop-condition-init
-loop-condition-init g c = (none_before c.args.src.now, not_asked _ _)
+loop-condition-init g c = (none_before c.args.src.now, refl)
 
 pub decide_violation-requires-clause-light : goal.decide_violation-requires-clause-light
 decide_violation-requires-clause-light g c =
@@ -26,7 +27,7 @@ returns-in-At-clause-searched g c =
     let i = c.loop-condition.condition-index in (
       i + 1,
       (i, reached c.args.src.now c.as_slice-condition-items.result.now i (Start 0 0) c.requires.initial (c.as_slice-condition-items.ensures ∙ c.requires.listed) (omega arith) c.loop-condition.invariant.0, omega arith),
-      asked_more _ _ _ _ i c.args.budget c.loop-condition.invariant.1 c.in_ok-decide_violation.ensures.asked,
+      asked_more _ c.args.budget _ _ _ i c.loop-condition.invariant.1 c.in_ok-decide_violation.ensures.asked,
     )
 
 pub returns-in-Spent-clause-verdict : goal.returns-in-Spent-clause-verdict
@@ -41,7 +42,7 @@ returns-in-Spent-clause-searched g c =
     let i = c.loop-condition.condition-index in (
       i + 1,
       (i, reached c.args.src.now c.as_slice-condition-items.result.now i (Start 0 0) c.requires.initial (c.as_slice-condition-items.ensures ∙ c.requires.listed) (omega arith) c.loop-condition.invariant.0, omega arith),
-      asked_more _ _ _ _ i c.args.budget c.loop-condition.invariant.1 c.in_ok-decide_violation.ensures.asked,
+      asked_more _ c.args.budget _ _ _ i c.loop-condition.invariant.1 c.in_ok-decide_violation.ensures.asked,
     )
 
 pub loop-condition-preserved : goal.loop-condition-preserved
@@ -49,7 +50,7 @@ loop-condition-preserved g c =
     let i = c.loop-condition.condition-index in (
       one_more c.args.src.now i _ c.loop-condition.invariant.0 (here_in c.args.src.now c.as_slice-condition-items.result.now i (Start 0 0) (c.as_slice-condition-items.ensures ∙ c.requires.listed) (omega arith))
           (subst (IsDecided c.args.budget (violation_formula c.args.src.now _)) c.in-Never.is c.in_ok-decide_violation.ensures.decided),
-      asked_more _ _ _ _ i c.args.budget c.loop-condition.invariant.1 c.in_ok-decide_violation.ensures.asked,
+      asked_more _ c.args.budget _ _ _ i c.loop-condition.invariant.1 c.in_ok-decide_violation.ensures.asked,
     )
 
 pub returns-clause-verdict : goal.returns-clause-verdict

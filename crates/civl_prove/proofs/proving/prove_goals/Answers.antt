@@ -1,14 +1,14 @@
 use Rattle.std.specs.Prelude.{length}
-use Rattle.std.proofs.Common.{◌+◌, ◌∙◌, ap, subst, arith}
+use Rattle.std.proofs.Common.{◌+◌, ◌∙◌, refl, ap, subst, arith}
 use Rattle.civl_goals.specs.declared.goal.Goal.TheVariants.{Invariant}
 use Rattle.civl_decide.specs.Decided.{IsDecided}
-use Rattle.civl_judging.proofs.Verdicts.{not_asked, asked_more}
+use Rattle.civl_decide.proofs.Rounds.{asked_more}
 use Rattle.civl_prove.specs.Proved.{goal_formula}
 use Rattle.civl_prove.proofs.Reaching.{none_before, one_more, up_to, here_in, reached, fails, goals_are_light}
 use Rattle.civl_prove.proofs.proving.prove_goals.Goals as goal
 
 pub loop-goal-init : goal.loop-goal-init
-loop-goal-init g c = (none_before c.args.src.now c.args.outline.now, not_asked _ _)
+loop-goal-init g c = (none_before c.args.src.now c.args.outline.now, refl)
 
 pub decide_goal-requires-clause-light : goal.decide_goal-requires-clause-light
 decide_goal-requires-clause-light g c =
@@ -27,7 +27,7 @@ returns-in-At-clause-searched g c =
     let i = c.loop-goal.goal-index in (
       i + 1,
       (i, reached c.args.src.now c.args.outline.now c.as_slice-goal-items.result.now i Invariant (c.as_slice-goal-items.ensures ∙ c.requires.listed) (omega arith) c.loop-goal.invariant.0, omega arith),
-      asked_more _ _ _ _ i c.args.budget c.loop-goal.invariant.1 c.in_ok-decide_goal.ensures.asked,
+      asked_more _ c.args.budget _ _ _ i c.loop-goal.invariant.1 c.in_ok-decide_goal.ensures.asked,
     )
 
 pub returns-in-Spent-clause-proved : goal.returns-in-Spent-clause-proved
@@ -42,7 +42,7 @@ returns-in-Spent-clause-searched g c =
     let i = c.loop-goal.goal-index in (
       i + 1,
       (i, reached c.args.src.now c.args.outline.now c.as_slice-goal-items.result.now i Invariant (c.as_slice-goal-items.ensures ∙ c.requires.listed) (omega arith) c.loop-goal.invariant.0, omega arith),
-      asked_more _ _ _ _ i c.args.budget c.loop-goal.invariant.1 c.in_ok-decide_goal.ensures.asked,
+      asked_more _ c.args.budget _ _ _ i c.loop-goal.invariant.1 c.in_ok-decide_goal.ensures.asked,
     )
 
 pub loop-goal-preserved : goal.loop-goal-preserved
@@ -50,7 +50,7 @@ loop-goal-preserved g c =
     let i = c.loop-goal.goal-index in (
       one_more c.args.src.now c.args.outline.now i _ c.loop-goal.invariant.0 (here_in c.args.src.now c.args.outline.now c.as_slice-goal-items.result.now i Invariant (c.as_slice-goal-items.ensures ∙ c.requires.listed) (omega arith))
           (subst (IsDecided c.args.budget (goal_formula c.args.src.now c.args.outline.now _)) c.in-Never.is c.in_ok-decide_goal.ensures.decided),
-      asked_more _ _ _ _ i c.args.budget c.loop-goal.invariant.1 c.in_ok-decide_goal.ensures.asked,
+      asked_more _ c.args.budget _ _ _ i c.loop-goal.invariant.1 c.in_ok-decide_goal.ensures.asked,
     )
 
 pub returns-clause-proved : goal.returns-clause-proved

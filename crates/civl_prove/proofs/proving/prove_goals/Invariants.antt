@@ -1,9 +1,9 @@
-use Rattle.civl_portfolio.specs.First.{KeepsFirst}
+use Rattle.civl_decide.specs.Decided.{WereAsked}
 use Rattle.civl_prove.specs.Proved.{HoldUpTo}
 use Rattle.civl_prove.proofs.proving.prove_goals.Given as goal
 
 abbrev pub invariant-loop-goal : goal.invariant-loop-goal
-invariant-loop-goal g l = HoldUpTo l.src l.outline l.goal-index × KeepsFirst l.fn.provers.items l.provers.items l.goal-index (record {
+invariant-loop-goal g l = HoldUpTo l.src l.outline l.goal-index × WereAsked l.fn.provers.items l.provers.items l.goal-index l.budget (record {
   asked = λ b. (goal.Prover-dyn g (b.vtable, b.value)).asked b.value;
   lacks = λ b. (goal.Prover-dyn g (b.vtable, b.value)).lacks b.value;
   honest = λ b. (goal.Prover-dyn g (b.vtable, b.value)).honest b.value;
