@@ -1,11 +1,9 @@
 -- What the clauses that stand for a term tell of the formula whose term it is.
 use Rattle.std.specs.Prelude.{slice_get, All, IsTrue}
-use Rattle.std.proofs.Common.{◌≡◌, ◌∙◌, ℕ, ◌+◌, ◌*◌, ◌<◌, ◌≤◌, ◌^◌, Bool, true, false, List, length, refl, sym, ap, subst, arith, Option, Some}
-use Rattle.std.proofs.lemmas.Bool.{false≢true}
+use Rattle.std.proofs.Common.{◌≡◌, ◌∙◌, ℕ, ◌+◌, ◌*◌, ◌<◌, ◌≤◌, ◌^◌, Bool, true, false, List, length, refl, sym, ap, subst, arith, Some}
 use Rattle.std.proofs.lemmas.List.Elements.{All-from_get_or}
 use Rattle.std.proofs.lemmas.Option.{slice_get-get_or}
 use Rattle.civl_bits.specs.declared.value.Value.{Value}
-use Rattle.civl_bits.specs.declared.value.Value.TheVariants as value
 use Rattle.civl_tree.specs.declared.expr.Sort.{Sort}
 use Rattle.civl_values.specs.Values.{HasSort, HaveSorts, is_sort, is_true}
 use Rattle.civl_cnf.specs.Literal.{Literal}
@@ -15,14 +13,12 @@ use Rattle.civl_symbolic.specs.Symbolic.{Shows}
 use Rattle.civl_terms.specs.declared.node.Node.{Node}
 use Rattle.civl_terms.specs.Graphs.{Fits, listed, value_at}
 use Rattle.civl_terms.specs.Weights.{graph_weight, term_weight}
-use Rattle.civl_rows.specs.Cells.{cell_of}
 use Rattle.civl_blast.specs.declared.blasted.Place.{Place}
 use Rattle.civl_blast.specs.Standing.{ShowAll, NamesCells, StandsFor, GivesValues, IsSmall}
 use Rattle.civl_blast.proofs.Telling.{bits_give_values, satisfiable_where_true, places_decide}
 use Rattle.civl_formulas.specs.Given.{AreVariablesOf}
-use Rattle.civl_verdicts.specs.Formulas.{Formula, IsWide, StandsForFormula}
-use Rattle.civl_verdicts.specs.Verdicts.{IsSpentOn}
-use Rattle.civl_models.specs.Reading.{IsCellPlace, FitAt, AgreeAt, AreRead}
+use Rattle.civl_verdicts.specs.Formulas.{Formula, StandsForFormula}
+use Rattle.civl_models.specs.Reading.{IsCellPlace, FitAt, AreRead}
 use Rattle.civl_models.specs.Zeros.{zeros_of}
 use Rattle.civl_models.proofs.Placing.{sort_of_place}
 use Rattle.civl_models.proofs.ReadingAll.{read_all, are_read}

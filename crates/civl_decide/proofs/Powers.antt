@@ -1,8 +1,7 @@
 -- Powers of two beside numbers of 32 bits.
-use Rattle.std.proofs.Common.{◌≡◌, ◌∙◌, ℕ, zero, suc, ◌+◌, ◌*◌, ◌/◌, ◌%◌, ◌^◌, ◌<◌, ◌≤◌, sym, ap, arith}
-use Rattle.std.proofs.Math.Nat.{mod-eq_of_lt, div-eq_of_lt, lt-div-mul-add, div-mul-le_self}
+use Rattle.std.proofs.Common.{◌≡◌, ℕ, zero, suc, ◌*◌, ◌/◌, ◌%◌, ◌^◌, ◌<◌, ◌≤◌, sym, arith}
+use Rattle.std.proofs.Math.Nat.{mod-eq_of_lt, div-eq_of_lt}
 use Rattle.std.proofs.Math.Pow.{pow_mono}
-use Rattle.std.proofs.lemmas.Nat.{pow_pos}
 
 pub past : (n k : ℕ) → n < 2 ^ 32 → 32 ≤ k → n < 2 ^ k
 past n k l h = let m : 2 ^ 32 ≤ 2 ^ k = pow_mono {i = 32} {j = k} h in omega (arith, l, m)

@@ -1,5 +1,5 @@
 -- Several rounds of asking.
-use Rattle.std.proofs.Common.{◌≡◌, ◌∙◌, ℕ, zero, suc, ◌+◌, List, refl, sym, ap, subst, arith}
+use Rattle.std.proofs.Common.{◌≡◌, ℕ, zero, suc, ◌+◌, List, refl, sym, subst, arith}
 use Rattle.civl_portfolio.specs.Prover.{Meanings}
 use Rattle.civl_portfolio.specs.First.{KeepsFirst}
 use Rattle.civl_portfolio.proofs.Firsts.{first_stays, first_at_start, first_next}

@@ -1,8 +1,8 @@
 -- Where no formula is heavy each is light.
-use Rattle.std.specs.Prelude.{slice_get, nat_lt, if◌then◌else◌}
+use Rattle.std.specs.Prelude.{slice_get, nat_lt}
 use Rattle.std.specs.Option.{option_map_or}
 use Rattle.std.specs.List.{find}
-use Rattle.std.proofs.Common.{◌≡◌, ◌∙◌, ℕ, zero, suc, ◌<◌, ◌≤◌, Bool, true, false, List, [], ◌∷◌, refl, sym, ap, subst, arith, Option, Some, None}
+use Rattle.std.proofs.Common.{◌≡◌, ◌∙◌, ℕ, zero, suc, ◌≤◌, Bool, true, false, List, [], ◌∷◌, refl, sym, ap, Some, None}
 use Rattle.std.proofs.lemmas.Bool.{ltb-false}
 use Rattle.civl_tree.specs.declared.program.Program.{Program}
 use Rattle.civl_conditions.specs.declared.condition.Condition.{Condition}

@@ -1,12 +1,10 @@
 -- From decided formulas to verdicts.
-use Rattle.std.specs.Prelude.{slice_get, get_or, IsTrue, ◌&&◌}
-use Rattle.std.specs.List.{Contains}
-use Rattle.std.proofs.Common.{◌≡◌, ◌∙◌, ℕ, zero, suc, ◌+◌, ◌<◌, ◌≤◌, Bool, true, false, List, [], ◌∷◌, length, refl, sym, ap, subst, arith, inl, inr, Option, Some, None}
+use Rattle.std.specs.Prelude.{slice_get, get_or, ◌&&◌}
+use Rattle.std.proofs.Common.{◌≡◌, ◌∙◌, ℕ, zero, suc, ◌+◌, ◌<◌, ◌≤◌, Bool, true, false, List, [], ◌∷◌, length, refl, sym, ap, subst, arith, inl, inr, Some}
 use Rattle.std.proofs.lemmas.Bool.{false≢true, cases_lt}
 use Rattle.std.proofs.lemmas.Option.{slice_get_within, slice_get-get_or}
 use Rattle.civl_bits.specs.declared.value.Value.{Value}
 use Rattle.civl_tree.specs.declared.program.Program.{Program}
-use Rattle.civl_values.specs.Values.{HaveSorts}
 use Rattle.civl_values.proofs.Sorting.{both}
 use Rattle.civl_firing.specs.declared.store.Store.{Store}
 use Rattle.civl_meaning.specs.Initial.{IsInitial}
@@ -19,7 +17,7 @@ use Rattle.civl_portfolio.specs.Prover.{Meanings}
 use Rattle.civl_portfolio.specs.Count.{count_up}
 use Rattle.civl_portfolio.specs.First.{KeepsFirst, counted}
 use Rattle.civl_decide.specs.Decided.{IsDecided, WasAsked}
-use Rattle.civl_decide.specs.declared.decision.Decision.TheVariants.{Never, At, Spent}
+use Rattle.civl_decide.specs.declared.decision.Decision.TheVariants.{Never, At}
 use Rattle.civl_portfolio.proofs.Firsts.{first_stays}
 
 -- ---- the initial store

@@ -1,6 +1,6 @@
 -- How often the provers were asked on the way to a verdict: once for the initial store, and once for each condition up to the
 -- verdict's.
-use Rattle.std.specs.Prelude.{◌≡◌, ℕ, ◌+◌, List, Option, None, Some, length, ⊤}
+use Rattle.std.specs.Prelude.{◌≡◌, ℕ, ◌+◌, List, None, Some, length, ⊤}
 use Rattle.civl_tree.specs.declared.program.Program.{Program}
 use Rattle.civl_portfolio.specs.Prover.{Meanings}
 use Rattle.civl_decide.specs.Decided.{WereAsked}

@@ -1,5 +1,5 @@
 -- How often the provers were asked, over a verdict and the goals behind it.
-use Rattle.std.specs.Prelude.{None, Some, map}
+use Rattle.std.specs.Prelude.{Option, None, Some, map}
 use Rattle.std.proofs.Common.{◌≡◌, ◌∙◌, ℕ, ◌+◌, List, sym, ap, subst, arith}
 use Rattle.civl_portfolio.specs.Prover.{Meanings}
 use Rattle.civl_tree.specs.declared.program.Program.{Program}
@@ -28,7 +28,7 @@ module _ {B : Type 0} (meanings : Meanings B) (program : Program) (outline : Out
   searched_on count (Judged verdict) olds mids news s g = absurd g
   searched_on count (Decided other proved) olds mids news s g =
       let searches : s.0 ≡ other + 1 = omega (arith, s.1, g.0) in
-      (g.1, g.2, asked_on meanings budget olds mids news (other + 1) g.1 (subst (λ (n : ℕ). WereAsked olds mids n budget meanings) searches s.2) g.3)
+      (g.1.0, g.1.1, asked_on meanings budget olds mids news (other + 1) g.1.0 (subst (λ (n : ℕ). WereAsked olds mids n budget meanings) searches s.2) g.1.2)
 
   -- where they are refused, nothing is searched
   pub unsearched : (proving : Proving) (olds news : List B) → IsRefusal proving → news ≡ olds → SearchedBy program outline proving budget olds news meanings
@@ -45,7 +45,7 @@ module _ (program : Program) (outline : Outline) where
   no_note number fits h = let e : None ≡ Some number = ap first_of (sym fits.notes) ∙ h in cc
 
   pub no_roots : (item statement : ℕ) → Fits program outline → IsFault program outline (fault.Roots item statement) → ⊥
-  no_roots item statement fits h = let e : None ≡ Some (item, statement) = ap (λ (ps : List Place). first_of (map told ps)) (sym fits.roots) ∙ h.1 in cc
+  no_roots item statement fits h = let e : ◌≡◌ {A = Option (ℕ × ℕ)} None (Some (item, statement)) = ap (λ (ps : List Place). first_of (map told ps)) (sym fits.roots) ∙ h.1 in cc
 
   pub no_heavy : (goal : Goal) → heavy program outline ≡ None → IsFault program outline (fault.Heavy goal) → ⊥
   no_heavy goal light h = let e : None ≡ Some goal = sym light ∙ h.1 in cc

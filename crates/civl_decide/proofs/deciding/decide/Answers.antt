@@ -1,21 +1,14 @@
-use Rattle.std.specs.Prelude.{◌≡◌, false, IsTrue, List, length, All}
-use Rattle.std.proofs.Common.{ℕ, ◌<◌, ◌≤◌, ◌∙◌, sym, ap, subst, arith}
+use Rattle.std.specs.Prelude.{List, length, All}
+use Rattle.std.proofs.Common.{◌<◌, sym, subst, arith}
 use Rattle.std.proofs.lemmas.Option.{slice_get_within}
-use Rattle.civl_bits.specs.declared.value.Value.{Value}
 use Rattle.civl_tree.specs.declared.expr.Sort.TheVariants.{Bool as Truth}
-use Rattle.civl_values.specs.Values.{HaveSorts, is_true}
 use Rattle.civl_cnf.specs.ClauseSet.{assignment}
 use Rattle.civl_rup.proofs.Replays.{refuted}
-use Rattle.civl_terms.specs.Graphs.{listed, value_at}
 use Rattle.civl_terms.proofs.Weighing.{terms_weigh_less}
 use Rattle.civl_actions.proofs.Staying.{sorted_within}
 use Rattle.civl_blast.specs.declared.blasted.Place.{Place}
 use Rattle.civl_models.specs.Reading.{IsCellPlace, AreRead}
-use Rattle.civl_decide.specs.Answered.{IsAnswered}
-use Rattle.civl_decide.specs.Decided.{IsTermOf, IsDecided}
-use Rattle.civl_decide.specs.declared.decision.Decision.{Decision}
-use Rattle.civl_decide.specs.declared.decision.Decision.TheVariants.{Never, At, Spent}
-use Rattle.civl_decide.proofs.Concluding.{never_true, cell_places, true_where_read, stands_for, decided_never, decided_at, decided_spent, decided_answer}
+use Rattle.civl_decide.proofs.Concluding.{never_true, cell_places, true_where_read, decided_never, decided_at, decided_answer}
 use Rattle.civl_decide.proofs.deciding.decide.Goals as goal
 
 pub blast-requires-clause-within : goal.blast-requires-clause-within

@@ -1,5 +1,5 @@
-use Rattle.std.specs.Prelude.{◌≡◌, ◌^◌, ◌<◌, ◌*◌, drop}
-use Rattle.std.proofs.Common.{◌+◌, ◌∙◌, ℕ, sym, ap, subst, arith}
+use Rattle.std.specs.Prelude.{◌^◌, ◌*◌, drop}
+use Rattle.std.proofs.Common.{◌+◌, ◌∙◌, ℕ, sym, ap, arith}
 use Rattle.civl_tree.specs.declared.expr.Sort.TheVariants.{Bool as Truth}
 use Rattle.civl_decide.specs.Numbered.{bits_together}
 use Rattle.civl_decide.proofs.Numbers.{product_behind, over_stays}

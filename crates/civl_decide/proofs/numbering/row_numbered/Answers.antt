@@ -1,5 +1,5 @@
 use Rattle.std.specs.Prelude.{◌≡◌, ◌^◌, length, set}
-use Rattle.std.proofs.Common.{◌∙◌, ℕ, List, sym, ap, ap₂, arith}
+use Rattle.std.proofs.Common.{◌∙◌, ℕ, ap, arith}
 use Rattle.std.proofs.Math.ListN.{length-set}
 use Rattle.civl_bits.specs.Row.{Cells}
 use Rattle.civl_decide.proofs.Numbers.{cells_stay}

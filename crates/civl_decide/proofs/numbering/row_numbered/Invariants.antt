@@ -1,5 +1,4 @@
 use Rattle.std.specs.Prelude.{◌≡◌, ◌++◌, ◌-◌, ◌^◌, take, length}
-use Rattle.civl_bits.specs.Row.{IsRow}
 use Rattle.civl_decide.specs.Numbered.{cells_numbered}
 use Rattle.civl_decide.proofs.numbering.row_numbered.Given as goal
 

@@ -1,9 +1,8 @@
 use Rattle.std.specs.Prelude.{◌≡◌, false, List}
-use Rattle.std.proofs.Common.{ℕ, ◌<◌, ◌∙◌, sym, ap, subst, arith}
+use Rattle.std.proofs.Common.{◌<◌, ◌∙◌, sym, subst, arith}
 use Rattle.civl_bits.specs.declared.value.Value.{Value}
 use Rattle.civl_values.specs.Values.{HaveSorts, is_true}
 use Rattle.civl_terms.specs.Graphs.{listed, value_at}
-use Rattle.civl_decide.specs.Numbered.{values_numbered}
 use Rattle.civl_decide.proofs.Numbers.{values_have_sorts, each_is_numbered}
 use Rattle.civl_decide.proofs.trying.first_true.Goals as goal
 

@@ -1,5 +1,5 @@
 use Rattle.std.specs.Prelude.{length, get_or, List}
-use Rattle.std.proofs.Common.{◌≡◌, ◌+◌, ◌∙◌, ℕ, refl, sym, ap, subst, arith}
+use Rattle.std.proofs.Common.{◌≡◌, ◌∙◌, refl, ap, subst, arith}
 use Rattle.civl_conditions.specs.declared.condition.Condition.TheVariants.{Start}
 use Rattle.civl_conditions.specs.declared.condition.Condition.{Condition}
 use Rattle.civl_verdicts.specs.Surveys.{IsFound}

@@ -1,5 +1,5 @@
 use Rattle.std.specs.Prelude.{length}
-use Rattle.std.proofs.Common.{◌+◌, ◌∙◌, ℕ, refl, ap}
+use Rattle.std.proofs.Common.{◌+◌, ℕ, refl, ap}
 use Rattle.civl_decide.proofs.Rounds.{asked_more, asked_then}
 use Rattle.civl_judging.proofs.surveying.look.Goals as goal
 

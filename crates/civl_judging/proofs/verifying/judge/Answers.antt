@@ -1,6 +1,5 @@
-use Rattle.std.proofs.Common.{refl, ℕ, ◌+◌}
+use Rattle.std.proofs.Common.{refl, ◌+◌}
 use Rattle.civl_decide.proofs.Rounds.{asked_more, asked_then}
-use Rattle.civl_judging.proofs.Verdicts.{found_initial}
 use Rattle.civl_judging.proofs.verifying.judge.Goals as goal
 
 pub returns-in-Never-clause-searched : goal.returns-in-Never-clause-searched
