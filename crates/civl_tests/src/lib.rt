@@ -20,6 +20,8 @@ mod lexing;
 #[cfg(test)]
 mod liars;
 #[cfg(test)]
+mod lifts;
+#[cfg(test)]
 mod measuring;
 #[cfg(test)]
 mod models;
