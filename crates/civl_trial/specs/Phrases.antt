@@ -1,5 +1,5 @@
 -- Short words for the phrases of a program, so that a tree reads as its text does.
-use Rattle.std.specs.Prelude.{ℕ, ◌++◌, codes, decimal, false}
+use Rattle.std.specs.Prelude.{◌≡◌, ℕ, Result, IfOk, ◌++◌, codes, decimal, false}
 use Prim.Native.String.{String}
 use Rattle.civl_tree.specs.declared.name.Name.{Name}
 use Rattle.civl_tree.specs.declared.expr.Sort.{Sort}
@@ -10,6 +10,10 @@ use Rattle.civl_tree.specs.declared.action.Mode.TheVariants as mode
 use Rattle.civl_tree.specs.declared.action.Param.{Param}
 use Rattle.civl_tree.specs.declared.action.Update.{Update}
 use Rattle.civl_tree.specs.declared.program.Local.{Local}
+
+-- it is this part, where memory was not wanting for it
+abbrev pub Makes : {A E : Type 0} → Result A E → A → Type 0
+Makes made part = IfOk made (λ it. it ≡ part)
 
 -- the name that this text spells: of a parameter, an output or a local
 abbrev pub named : String → Name

@@ -52,40 +52,40 @@ pub fn counter(alloc: Alloc, copy: u32) -> Result<Global, Memory>
 pub fn lock_is_free(alloc: Alloc, copy: u32) -> Result<Expr, Memory>
     ensures { IfOk result (λ it. it ≡ lock_is_free copy) }
 {
-    let lock = global(alloc, b"lock", copy)?;
-    let free = two(alloc, Two::Eq, lock, Expr::Literal(0, 2))?;
-    Ok(free)
+    let lock = global(alloc, b"lock", copy);
+    two(alloc, Two::Eq, lock, Ok(Expr::Literal(0, 2)))
 }
 
 /// `(x == 0:8)`
 fn counts_nothing(alloc: Alloc, copy: u32) -> Result<Expr, Memory>
     ensures { IfOk result (λ it. it ≡ counts_nothing copy) }
 {
-    let x = global(alloc, b"x", copy)?;
-    let test = two(alloc, Two::Eq, x, Expr::Literal(0, 8))?;
-    Ok(test)
+    let x = global(alloc, b"x", copy);
+    two(alloc, Two::Eq, x, Ok(Expr::Literal(0, 8)))
 }
 
 /// `(((!b) && (lock == 0:2)) && (x == 0:8))`: what `init` asks of the copy.
 pub fn starts(alloc: Alloc, copy: u32) -> Result<Expr, Memory>
     ensures { IfOk result (λ it. it ≡ starts copy) }
 {
-    let b = global(alloc, b"b", copy)?;
-    let clear = not(alloc, b)?;
-    let free = lock_is_free(alloc, copy)?;
-    let both = two(alloc, Two::And, clear, free)?;
-    let zero = counts_nothing(alloc, copy)?;
-    let all = two(alloc, Two::And, both, zero)?;
-    Ok(all)
+    let clear = not(alloc, global(alloc, b"b", copy));
+    let both = two(alloc, Two::And, clear, lock_is_free(alloc, copy));
+    two(alloc, Two::And, both, counts_nothing(alloc, copy))
+}
+
+/// `(b == (lock != 0:2))`
+fn flag_tells(alloc: Alloc, copy: u32) -> Result<Expr, Memory>
+    ensures { IfOk result (λ it. it ≡ (flag_is_lock copy).expr) }
+{
+    let lock = global(alloc, b"lock", copy);
+    let held = two(alloc, Two::Ne, lock, Ok(Expr::Literal(0, 2)));
+    two(alloc, Two::Eq, global(alloc, b"b", copy), held)
 }
 
 /// `invariant 1 (b == (lock != 0:2)) ;`
 pub fn flag_is_lock(alloc: Alloc, copy: u32) -> Result<Invariant, Memory>
     ensures { IfOk result (λ it. it ≡ flag_is_lock copy) }
 {
-    let lock = global(alloc, b"lock", copy)?;
-    let held = two(alloc, Two::Ne, lock, Expr::Literal(0, 2))?;
-    let b = global(alloc, b"b", copy)?;
-    let expr = two(alloc, Two::Eq, b, held)?;
+    let expr = flag_tells(alloc, copy)?;
     Ok(Invariant { step: 1, expr })
 }

@@ -1,6 +1,9 @@
 // The trial program.
-ghost use Rattle.std.specs.Prelude.{◌≡◌, ◌-◌, ◌≤◌, [], ◌∷◌, ◌++◌, IfOk, OnOk};
-ghost use Rattle.civl_trial.specs.Copies.{globals_of, invariants_of, actions_of, procs_of};
+ghost use Rattle.std.specs.Prelude.{◌≡◌, ◌-◌, ◌≤◌, List as ListOf, [], ◌∷◌, ◌++◌, IfOk, OnOk};
+ghost use Rattle.civl_tree.specs.declared.name.Name.{Name as OfName};
+ghost use Rattle.civl_tree.specs.declared.expr.Expr.{Expr as OfExpr};
+ghost use Rattle.civl_trial.specs.Phrases.{Makes};
+ghost use Rattle.civl_trial.specs.Copies.{cas, reset, load, store, atom_acquire, atom_release, atom_read, atom_write, atom_incr, globals_of, invariants_of, actions_of, procs_of};
 ghost use Rattle.civl_trial.specs.Trial.{IsTrialNumber, copies, starts_to, increment, main, main_thread, trial};
 
 use crate::actions::{
@@ -8,19 +11,20 @@ use crate::actions::{
     store,
 };
 use crate::globals::{counter, flag, flag_is_lock, lock, starts};
-use crate::phrases::{named, one, pair, two};
-use crate::procs::{acquire, call_for_thread, incr, read, release, write};
-use civl_tree::{Action, Expr, Global, Invariant, List, Memory, Proc, Program, Stmt, Thread, Two};
+use crate::phrases::{headed, named, one, pair, pushed, together, two};
+use crate::procs::{acquire, call_for_thread, incr, proc, read, release, write};
+use civl_tree::{
+    Action, Expr, Global, Invariant, List, Memory, Name, Proc, Program, Stmt, Thread, Two,
+};
 use std::alloc::Global as Alloc;
 
 /// Puts the globals of a copy behind all others.
-#[tactic(auto, using(std::proofs::lemmas::Grind::common_steps))]
 fn push_globals(alloc: Alloc, globals: &mut List<Global>, copy: u32) -> Result<(), Memory>
     ensures { OnOk result (globals.new ≡ globals.old ++ globals_of copy) }
 {
-    globals.push(flag(alloc, copy)?)?;
-    globals.push(lock(alloc, copy)?)?;
-    globals.push(counter(alloc, copy)?)?;
+    pushed(globals, flag(alloc, copy))?;
+    pushed(globals, lock(alloc, copy))?;
+    pushed(globals, counter(alloc, copy))?;
     Ok(())
 }
 
@@ -44,8 +48,7 @@ fn init(alloc: Alloc, number: u32) -> Result<Expr, Memory>
 {
     let mut init = starts(alloc, 0)?;
     for copy in 1..number {
-        let next = starts(alloc, copy)?;
-        init = two(alloc, Two::And, init, next)?;
+        init = two(alloc, Two::And, Ok(init), starts(alloc, copy))?;
     }
     Ok(init)
 }
@@ -62,19 +65,35 @@ fn invariants(alloc: Alloc, number: u32) -> Result<List<Invariant>, Memory>
     Ok(invariants)
 }
 
+/// Puts the actions of a copy at layer 0 behind all others.
+fn push_plain(alloc: Alloc, actions: &mut List<Action>, copy: u32) -> Result<(), Memory>
+    ensures { OnOk result (actions.new ≡ actions.old ++ cas copy ∷ reset copy ∷ load copy ∷ store copy ∷ []) }
+{
+    pushed(actions, cas(alloc, copy))?;
+    pushed(actions, reset(alloc, copy))?;
+    pushed(actions, load(alloc, copy))?;
+    pushed(actions, store(alloc, copy))?;
+    Ok(())
+}
+
+/// Puts the actions of a copy at the layers above behind all others.
+fn push_atoms(alloc: Alloc, actions: &mut List<Action>, copy: u32) -> Result<(), Memory>
+    ensures { OnOk result (actions.new ≡ actions.old ++ atom_acquire copy ∷ atom_release copy ∷ atom_read copy ∷ atom_write copy ∷ atom_incr copy ∷ []) }
+{
+    pushed(actions, atom_acquire(alloc, copy))?;
+    pushed(actions, atom_release(alloc, copy))?;
+    pushed(actions, atom_read(alloc, copy))?;
+    pushed(actions, atom_write(alloc, copy))?;
+    pushed(actions, atom_incr(alloc, copy))?;
+    Ok(())
+}
+
 /// Puts the actions of a copy behind all others.
 fn push_actions(alloc: Alloc, actions: &mut List<Action>, copy: u32) -> Result<(), Memory>
     ensures { OnOk result (actions.new ≡ actions.old ++ actions_of copy) }
 {
-    actions.push(cas(alloc, copy)?)?;
-    actions.push(reset(alloc, copy)?)?;
-    actions.push(load(alloc, copy)?)?;
-    actions.push(store(alloc, copy)?)?;
-    actions.push(atom_acquire(alloc, copy)?)?;
-    actions.push(atom_release(alloc, copy)?)?;
-    actions.push(atom_read(alloc, copy)?)?;
-    actions.push(atom_write(alloc, copy)?)?;
-    actions.push(atom_incr(alloc, copy)?)?;
+    push_plain(alloc, actions, copy)?;
+    push_atoms(alloc, actions, copy)?;
     Ok(())
 }
 
@@ -94,11 +113,11 @@ fn actions(alloc: Alloc, number: u32) -> Result<List<Action>, Memory>
 fn push_procs(alloc: Alloc, procs: &mut List<Proc>, copy: u32) -> Result<(), Memory>
     ensures { OnOk result (procs.new ≡ procs.old ++ procs_of copy) }
 {
-    procs.push(acquire(alloc, copy)?)?;
-    procs.push(release(alloc, copy)?)?;
-    procs.push(read(alloc, copy)?)?;
-    procs.push(write(alloc, copy)?)?;
-    procs.push(incr(alloc, copy)?)?;
+    pushed(procs, acquire(alloc, copy))?;
+    pushed(procs, release(alloc, copy))?;
+    pushed(procs, read(alloc, copy))?;
+    pushed(procs, write(alloc, copy))?;
+    pushed(procs, incr(alloc, copy))?;
     Ok(())
 }
 
@@ -118,17 +137,10 @@ fn increments(alloc: Alloc, number: u32) -> Result<List<Stmt>, Memory>
 fn main_of(alloc: Alloc, number: u32) -> Result<Proc, Memory>
     ensures { IfOk result (λ it. it ≡ main number) }
 {
-    let name = named(alloc, b"Main")?;
-    let params = lent_thread(alloc)?;
-    let body = increments(alloc, number)?;
-    Ok(Proc {
-        name,
-        params,
-        outs: List::new(alloc),
-        refines: None,
-        locals: List::new(alloc),
-        body,
-    })
+    let name = named(alloc, b"Main");
+    let heading = headed(name, lent_thread(alloc), Ok(List::new(alloc)));
+    let body = increments(alloc, number);
+    proc(heading, Ok(None), Ok(List::new(alloc)), body)
 }
 
 /// The procedures of so many copies, and behind them `Main`.
@@ -144,23 +156,30 @@ fn procs(alloc: Alloc, number: u32) -> Result<List<Proc>, Memory>
     Ok(procs)
 }
 
+/// `thread callee( args ) ;`
+fn thread(callee: Result<Name, Memory>, args: Result<List<Expr>, Memory>) -> Result<Thread, Memory>
+    ensures { (c : OfName) (a : ListOf OfExpr) → Makes callee c → Makes args a → Makes result (record { callee = c; args = a }) }
+{
+    let parts = together(callee, args)?;
+    Ok(Thread {
+        callee: parts.0,
+        args: parts.1,
+    })
+}
+
 /// `thread Main( permission:2 ) ;`
 fn main_thread(alloc: Alloc, permission: u32) -> Result<Thread, Memory>
     ensures { IfOk result (λ it. it ≡ main_thread permission) }
 {
-    let callee = named(alloc, b"Main")?;
-    let args = one(alloc, Expr::Literal(permission, 2))?;
-    Ok(Thread { callee, args })
+    let args = one(alloc, Ok(Expr::Literal(permission, 2)));
+    thread(named(alloc, b"Main"), args)
 }
 
 /// The two threads.
 fn threads(alloc: Alloc) -> Result<List<Thread>, Memory>
     ensures { IfOk result (λ it. it ≡ main_thread 1 ∷ main_thread 2 ∷ []) }
 {
-    let first = main_thread(alloc, 1)?;
-    let second = main_thread(alloc, 2)?;
-    let threads = pair(alloc, first, second)?;
-    Ok(threads)
+    pair(alloc, main_thread(alloc, 1), main_thread(alloc, 2))
 }
 
 /// The trial program of so many copies, from 1 to 8: a spinlock and a counter so many times, and two threads that
@@ -173,12 +192,11 @@ pub fn trial(alloc: Alloc, number: u32) -> Result<Program, Memory>
     requires { IsTrialNumber number }
     ensures { IfOk result (λ program. program ≡ trial number) }
 {
-    let globals = globals(alloc, number)?;
-    let init = init(alloc, number)?;
-    let invariants = invariants(alloc, number)?;
-    let actions = actions(alloc, number)?;
-    let procs = procs(alloc, number)?;
-    let threads = threads(alloc)?;
+    let state = together(globals(alloc, number), init(alloc, number));
+    let rules = together(invariants(alloc, number), actions(alloc, number));
+    let code = together(procs(alloc, number), threads(alloc));
+    let parts = together(together(state, rules), code)?;
+    let (((globals, init), (invariants, actions)), (procs, threads)) = parts;
     Ok(Program {
         version: 1,
         layers: 2,

@@ -2,4 +2,4 @@ use Rattle.std.proofs.Common.{append_assoc}
 use Rattle.civl_trial.proofs.program.push_procs.Goals as goal
 
 pub returns : goal.returns
-returns c = rw (c.in_ok-push-5.ensures.ok, c.in_ok-push-4.ensures.ok, c.in_ok-push-3.ensures.ok, c.in_ok-push-2.ensures.ok, c.in_ok-push.ensures.ok, c.in_ok-acquire.ensures, c.in_ok-release.ensures, c.in_ok-read.ensures, c.in_ok-write.ensures, c.in_ok-incr.ensures) (simp (append_assoc))
+returns c = rw (c.in_ok-pushed-5.ensures _ c.incr.ensures, c.in_ok-pushed-4.ensures _ c.write.ensures, c.in_ok-pushed-3.ensures _ c.read.ensures, c.in_ok-pushed-2.ensures _ c.release.ensures, c.in_ok-pushed.ensures _ c.acquire.ensures) (simp (append_assoc))

@@ -1,0 +1,4 @@
+use Rattle.civl_trial.proofs.actions.atom_acquire.Goals as goal
+
+pub returns : goal.returns
+returns c = c.action.ensures _ _ _ _ _ _ (c.headed-heading.ensures _ _ _ c.of_copy-name.ensures c.lent_thread.ensures c.new.ensures) c.is_thread.ensures c.lock_is_free.ensures c.takes_lock-updates.ensures

@@ -1,0 +1,4 @@
+use Rattle.civl_trial.proofs.procs.read.Goals as goal
+
+pub returns : goal.returns
+returns c = c.proc.ensures _ _ _ _ _ _ (c.headed-heading.ensures _ _ _ c.of_copy-name.ensures c.lent_thread.ensures c.plain_value.ensures) c.refines-refines.ensures c.new.ensures c.loads.ensures
