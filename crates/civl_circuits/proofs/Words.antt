@@ -1,6 +1,6 @@
 -- Circuits one after another.
-use Rattle.std.proofs.Common.{◌≡◌, ℕ, ◌+◌, ◌*◌, ◌^◌, ◌<◌, ◌≤◌, List, [], ◌∷◌, ◌++◌, length, map, replicate, take, refl, ◌∙◌, ap, ap₂, subst, arith, Bool, true, false, not, length-append}
-use Rattle.std.proofs.lemmas.List.Elements.{All-nil, All-weaker, All-push, All-take, All-map, All-replicate, All-append}
+use Rattle.std.proofs.Common.{◌≡◌, ℕ, ◌+◌, ◌*◌, ◌^◌, ◌<◌, ◌≤◌, List, [], ◌∷◌, ◌++◌, length, map, replicate, get_or, take, refl, ◌∙◌, ap, ap₂, subst, arith, Bool, true, false, not, length-append}
+use Rattle.std.proofs.lemmas.List.Elements.{All-nil, All-get_or, All-weaker, All-push, All-take, All-map, All-replicate, All-append}
 use Rattle.civl_cnf.specs.Literal.{Literal, truth_of, opposite}
 use Rattle.civl_cnf.specs.ClauseSet.{ClauseSet, IsBelow, Satisfies}
 use Rattle.civl_cnf.specs.Gates.{Extends, bit}
@@ -25,6 +25,13 @@ IsBelow-append n xs ys a b = All-append (λ l. l.variable < n) xs ys a b
 
 pub IsBelow-take : (n k : ℕ) (ls : List Literal) → IsBelow n ls → IsBelow n (take k ls)
 IsBelow-take n k ls a = All-take (λ l. l.variable < n) k ls a
+
+-- an element of a word, also later
+pub below_at : {f g : ClauseSet} (ls : List Literal) (i : ℕ) {l : Literal} → IsBelow f.variables ls → Extends f g → i < length ls → l ≡ get_or ls i l → l.variable < g.variables
+below_at {f} {g} ls i {l} all e inside is =
+    let here : (get_or ls i l).variable < f.variables = All-get_or (λ m. m.variable < f.variables) ls i l inside all in
+    let same : l.variable ≡ (get_or ls i l).variable = ap (λ (m : Literal). m.variable) is in
+    omega (arith, here, same, e.variables)
 
 pub one_later : {f g : ClauseSet} {one : Literal} → Extends f g → IsOne f one → IsOne g one
 one_later {f} {g} {one} p o = record { below = omega (arith, o.below, p.variables); always = λ v h. o.always v (extends_keeps p v h) }

@@ -1,8 +1,9 @@
 use Rattle.std.proofs.Common.{refl, arith}
 use Rattle.civl_bits.specs.Word.{bitwise_and_at}
 use Rattle.civl_circuits.specs.Circuits.{number}
-use Rattle.civl_circuits.proofs.Words.{word_none, word_push, word_whole}
+use Rattle.civl_circuits.proofs.Words.{word_none, word_push, word_whole, below_at}
 use Rattle.civl_circuits.proofs.BitByBit.{and_more}
+use Rattle.civl_cnf.proofs.Extending.{extends_trans}
 use Rattle.civl_circuits.proofs.bitwise.bitwise_and.Goals as goal
 
 pub loop-i-init : goal.loop-i-init
@@ -13,3 +14,21 @@ loop-i-preserved c = rw c.in_ok-push.ensures.items (word_push _ c.loop-i.invaria
 
 pub returns-clause-ok : goal.returns-clause-ok
 returns-clause-ok c = word_whole _ (λ i v. bitwise_and_at i (number v c.args.a.now) (number v c.args.b.now)) c.loop-i.invariant (omega arith)
+
+pub and-requires-clause-room : goal.and-requires-clause-room
+and-requires-clause-room c = omega (arith, c.loop-i.invariant.variables, c.loop-i-test.true, c.requires.room)
+
+pub and-requires-clause-a : goal.and-requires-clause-a
+and-requires-clause-a c = below_at _ _ c.requires.a c.loop-i.invariant.extends c.loop-i-test.true c.index-a-i.is
+
+pub and-requires-clause-b : goal.and-requires-clause-b
+and-requires-clause-b c = below_at _ _ c.requires.b c.loop-i.invariant.extends (omega (arith, c.loop-i-test.true, c.requires.size)) c.index-b-i.is
+
+pub returns-in_err-bit-clause-extends : goal.returns-in_err-bit-clause-extends
+returns-in_err-bit-clause-extends c = extends_trans c.loop-i.invariant.extends c.in_err-bit.ensures.extends
+
+pub returns-in_err-push-clause-extends : goal.returns-in_err-push-clause-extends
+returns-in_err-push-clause-extends c = extends_trans c.loop-i.invariant.extends c.in_ok-bit.ensures.extends
+
+pub returns-clause-extends : goal.returns-clause-extends
+returns-clause-extends c = c.loop-i.invariant.extends
