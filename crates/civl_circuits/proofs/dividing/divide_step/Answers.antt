@@ -3,6 +3,7 @@ use Rattle.std.proofs.lemmas.List.Elements.{All-cons, All-push}
 use Rattle.civl_cnf.specs.Literal.{opposite}
 use Rattle.civl_circuits.proofs.Words.{IsBelow-flipped, IsBelow-take, IsBelow-more}
 use Rattle.civl_circuits.proofs.Divisions.{IsStep, step_enough, step_rest}
+use Rattle.civl_cnf.proofs.Extending.{extends_trans}
 use Rattle.civl_circuits.proofs.dividing.divide_step.Goals as goal
 
 pub add_with_carry-requires-clause-b : goal.add_with_carry-requires-clause-b
@@ -30,3 +31,9 @@ returns-clause-enough c = step_enough (stepping c) (rw (c.deref.ensures.value, c
 
 pub returns-clause-rest : goal.returns-clause-rest
 returns-clause-rest c = step_rest (stepping c) (rw (c.deref.ensures.value, c.deref-2.ensures.value) at c.in_ok-rest.ensures.ok)
+
+pub returns-in_err-rest-clause-extends : goal.returns-in_err-rest-clause-extends
+returns-in_err-rest-clause-extends c = extends_trans c.in_ok-sum.ensures.extends c.in_err-rest.ensures.extends
+
+pub returns-clause-extends : goal.returns-clause-extends
+returns-clause-extends c = extends_trans c.in_ok-sum.ensures.extends c.in_ok-rest.ensures.extends

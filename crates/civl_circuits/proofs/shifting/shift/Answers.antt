@@ -1,7 +1,8 @@
-use Rattle.civl_circuits.proofs.Words.{one_later}
+use Rattle.civl_circuits.proofs.Words.{one_later, below_at}
 use Rattle.std.proofs.Common.{arith, length-drop}
 use Rattle.std.proofs.lemmas.List.{take_rest}
 use Rattle.civl_circuits.proofs.Moves.{is_moved_none, is_moved_more, is_moved_all, is_early, stage_room}
+use Rattle.civl_cnf.proofs.Extending.{extends_trans}
 use Rattle.civl_circuits.proofs.shifting.shift.Goals as goal
 
 pub loop-distance-init : goal.loop-distance-init
@@ -35,3 +36,20 @@ stage-requires-clause-one c = one_later c.loop-distance.invariant.made.extends c
 
 pub is_zero-requires-clause-one : goal.is_zero-requires-clause-one
 is_zero-requires-clause-one c = one_later c.loop-distance.invariant.made.extends c.requires.one
+
+pub returns-in_err-word-2-clause-extends : goal.returns-in_err-word-2-clause-extends
+returns-in_err-word-2-clause-extends c = extends_trans c.loop-distance.invariant.made.extends c.in_err-word-2.ensures.extends
+
+pub returns-in_err-none-clause-extends : goal.returns-in_err-none-clause-extends
+returns-in_err-none-clause-extends c = extends_trans c.loop-distance.invariant.made.extends c.in_err-none.ensures.extends
+
+pub returns-in_err-kept-clause-extends : goal.returns-in_err-kept-clause-extends
+returns-in_err-kept-clause-extends c = extends_trans c.loop-distance.invariant.made.extends (extends_trans c.in_ok-none.ensures.extends c.in_err-kept.ensures.extends)
+
+pub returns-clause-extends : goal.returns-clause-extends
+returns-clause-extends c = extends_trans c.loop-distance.invariant.made.extends (extends_trans c.in_ok-none.ensures.extends c.in_ok-kept.ensures.extends)
+
+pub stage-requires-clause-c : goal.stage-requires-clause-c
+stage-requires-clause-c c =
+    let early = is_early _ _ _ c.loop-distance.invariant.step c.loop-distance-test.true c.requires.wide in
+    below_at _ _ c.requires.b c.loop-distance.invariant.made.extends (omega (arith, early.1, c.requires.size)) c.index-b-at.is
