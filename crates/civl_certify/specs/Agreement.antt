@@ -2,7 +2,7 @@
 -- initial store or for violating values comes to, the other may say anything.
 use Rattle.std.specs.Prelude.{None, Some, ⊤}
 use Rattle.civl_certify.specs.declared.certified.Shown.{Shown}
-use Rattle.civl_certify.specs.declared.certified.Shown.TheVariants.{Holds, Fails, Undecided}
+use Rattle.civl_certify.specs.declared.certified.Shown.TheVariants.{Holds, Fails}
 use Rattle.civl_certify.specs.declared.certified.Certified.{Certified}
 use Rattle.civl_certify.specs.declared.certified.Certified.TheVariants.{NoInitial, Answer}
 

@@ -1,7 +1,7 @@
 -- What is shown of one condition, with its certificate: clauses that stand for its violation (Tseitin, "On the complexity of derivation in
 -- propositional calculus", 1968) and a log that refutes them (Goldberg and Novikov, "Verification of proofs of unsatisfiability for CNF
 -- formulas", 2003), values that violate it, or a log that spends the budget.
-use Rattle.std.specs.Prelude.{◌≡◌, ℕ, ◌+◌, List, slice_get, Some}
+use Rattle.std.specs.Prelude.{◌≡◌, ℕ, List, slice_get, Some}
 use Rattle.civl_tree.specs.declared.program.Program.{Program}
 use Rattle.civl_firing.specs.declared.store.Store.{Store}
 use Rattle.civl_meaning.specs.Initial.{IsInitial}
@@ -9,12 +9,12 @@ use Rattle.civl_cnf.specs.Literal.{Literal}
 use Rattle.civl_cnf.specs.ClauseSet.{ClauseSet, AreBelow}
 use Rattle.civl_rup.specs.Rup.{Refutes, Spends}
 use Rattle.civl_portfolio.specs.Prover.{Meanings}
-use Rattle.civl_portfolio.specs.First.{KeepsFirst}
 use Rattle.civl_conditions.specs.declared.condition.Condition.{Condition}
 use Rattle.civl_conditions.specs.Listed.{conditions}
 use Rattle.civl_conditions.specs.Violated.{Violates, Holds as HoldsOf}
 use Rattle.civl_verdicts.specs.Formulas.{Formula, violation_formula, IsWide, StandsForFormula}
 use Rattle.civl_verdicts.specs.Surveys.{IsInitialFound}
+use Rattle.civl_decide.specs.Decided.{WereAsked}
 use Rattle.civl_certify.specs.declared.certified.Shown.{Shown}
 use Rattle.civl_certify.specs.declared.certified.Shown.TheVariants.{Holds, Fails, Undecided}
 use Rattle.civl_certify.specs.declared.certified.Certified.{Certified}
@@ -57,6 +57,6 @@ abbrev pub searches_of : Certified → ℕ
 searches_of NoInitial = 1
 searches_of (Answer initial shown) = 2
 
--- where the first prover is honest it is still the first, and was asked as often as searches were made
-abbrev pub CertifiedBy : {B : Type 0} → Certified → List B → List B → Meanings B → Type 0
-CertifiedBy certified before after m = KeepsFirst before after (searches_of certified) m
+-- the provers were asked in as many rounds as searches were made
+abbrev pub CertifiedBy : {B : Type 0} → Certified → ℕ → List B → List B → Meanings B → Type 0
+CertifiedBy certified budget before after m = WereAsked before after (searches_of certified) budget m

@@ -11,6 +11,7 @@ ghost use Rattle.civl_weights.specs.Heavy.{IsHeavy};
 ghost use Rattle.civl_verdicts.specs.Formulas.{initial_formula, violation_formula};
 ghost use Rattle.civl_decide.specs.Decided.{IsDecided, WasAsked};
 ghost use Rattle.civl_judging.specs.Made.{IsMade};
+ghost use Rattle.civl_judging.specs.Searches.{UnaskedWhereHeavy};
 ghost use Rattle.civl_certify.specs.Certified.{SpendsOn, IsShown, IsCertified, IsCertifiedAt, CertifiedBy};
 
 use crate::certified::{Certified, Shown};
@@ -173,7 +174,7 @@ fn answer<M: Makes>(
     requires listed { Contains (conditions src.now) condition.now }
     requires light { heavy src.now ≡ None }
     ensures certified { IfOk result (IsCertified src.now budget condition.now) }
-    ensures searched { IfOk result (λ certified. CertifiedBy certified provers.old.items provers.new.items (record { asked = asked; lacks = lacks; honest = honest; plan = plan })) }
+    ensures searched { IfOk result (λ certified. CertifiedBy certified budget provers.old.items provers.new.items (record { asked = asked; lacks = lacks; honest = honest; plan = plan })) }
 {
     match decide_initial(alloc, makes, src, provers, budget)? {
         Decision::Never => Ok(Certified::NoInitial),
@@ -216,7 +217,8 @@ pub fn certify<M: Makes>(
     ensures certified { IfOk result (IsCertifiedAt src.now budget number) }
     ensures light { IfOk result (λ certified. heavy src.now ≡ None) }
     ensures heavy { IfErr result (IsHeavy (heavy src.now)) }
-    ensures searched { IfOk result (λ certified. CertifiedBy certified provers.old.items provers.new.items (record { asked = asked; lacks = lacks; honest = honest; plan = plan })) }
+    ensures unasked { IfErr result (UnaskedWhereHeavy provers.old.items provers.new.items) }
+    ensures searched { IfOk result (λ certified. CertifiedBy certified budget provers.old.items provers.new.items (record { asked = asked; lacks = lacks; honest = honest; plan = plan })) }
 {
     let list = weighed_conditions(alloc, src, held)?;
     let condition = list.get(number as usize);

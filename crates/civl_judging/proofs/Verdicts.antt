@@ -1,6 +1,6 @@
 -- From decided formulas to verdicts.
 use Rattle.std.specs.Prelude.{slice_get, get_or, ◌&&◌}
-use Rattle.std.proofs.Common.{◌≡◌, ◌∙◌, ℕ, zero, suc, ◌+◌, ◌<◌, ◌≤◌, Bool, true, false, List, [], ◌∷◌, length, refl, sym, ap, subst, arith, inl, inr, Some}
+use Rattle.std.proofs.Common.{◌≡◌, ◌∙◌, ℕ, ◌+◌, ◌<◌, ◌≤◌, Bool, true, false, List, length, sym, ap, subst, arith, inl, inr, Some}
 use Rattle.std.proofs.lemmas.Bool.{false≢true, cases_lt}
 use Rattle.std.proofs.lemmas.Option.{slice_get_within, slice_get-get_or}
 use Rattle.civl_bits.specs.declared.value.Value.{Value}
@@ -13,12 +13,8 @@ use Rattle.civl_conditions.specs.Listed.{conditions}
 use Rattle.civl_conditions.specs.Violated.{Violates, Holds}
 use Rattle.civl_verdicts.specs.Formulas.{initial_formula, violation_formula}
 use Rattle.civl_verdicts.specs.Verdicts.{HasInitial, IsReached}
-use Rattle.civl_portfolio.specs.Prover.{Meanings}
-use Rattle.civl_portfolio.specs.Count.{count_up}
-use Rattle.civl_portfolio.specs.First.{KeepsFirst, counted}
-use Rattle.civl_decide.specs.Decided.{IsDecided, WasAsked}
+use Rattle.civl_decide.specs.Decided.{IsDecided}
 use Rattle.civl_decide.specs.declared.decision.Decision.TheVariants.{Never, At}
-use Rattle.civl_portfolio.proofs.Firsts.{first_stays}
 
 -- ---- the initial store
 
@@ -55,38 +51,6 @@ one_more program place c before here holds i d l e = elim (cases_lt i place) [
 
 pub all_hold : (program : Program) (place : ℕ) → HoldBefore program place → length (conditions program) ≤ place → (i : ℕ) (c : Condition) → slice_get (conditions program) i ≡ Some c → Holds program c
 all_hold program place before past i c e = let l : i < length (conditions program) = slice_get_within (conditions program) i c e in before i c (omega (arith, l, past)) e
-
--- ---- how often the first prover was asked
-
-module _ {B : Type 0} (m : Meanings B) where
-  pub not_asked : (olds : List B) → KeepsFirst olds olds 0 m
-  not_asked [] = tt
-  not_asked (before ∷ olds) = λ honest. (before, olds, refl, refl, refl)
-
-  pub asked_more : (olds mids news : List B) (n budget : ℕ) → KeepsFirst olds mids n m → WasAsked mids news budget m → KeepsFirst olds news (n + 1) m
-  asked_more [] mids news n budget k w = tt
-  asked_more (before ∷ olds) mids news n budget k w = λ honest.
-      let a = k honest in
-      let first : KeepsFirst mids news 1 m = first_stays B mids news w.retired w.set budget w.outcome m w.round in
-      let b = subst (λ (xs : List B). KeepsFirst xs news 1 m) a.2 first (a.3 ∙ honest) in
-      let one : suc n ≡ n + 1 = omega arith in
-      (b.0, b.1, b.2, b.3 ∙ a.3, b.4 ∙ ap count_up a.4 ∙ ap (counted (m.asked before)) one)
-
-  -- behind one round more rounds
-  pub asked_then : (olds mids news : List B) (n budget : ℕ) → WasAsked olds mids budget m → KeepsFirst mids news n m → KeepsFirst olds news (n + 1) m
-  asked_then [] mids news n budget w k = tt
-  asked_then (before ∷ olds) mids news n budget w k = λ honest.
-      let first : KeepsFirst (before ∷ olds) mids 1 m = first_stays B (before ∷ olds) mids w.retired w.set budget w.outcome m w.round in
-      let a = first honest in
-      let b = subst (λ (xs : List B). KeepsFirst xs news n m) a.2 k (a.3 ∙ honest) in
-      (b.0, b.1, b.2, b.3 ∙ a.3, b.4 ∙ ap (λ (c : ℕ). counted c n) a.4 ∙ counted_on (m.asked before) n)
-    where
-      counted_suc : (c k : ℕ) → counted (count_up c) k ≡ counted c (suc k)
-      counted_suc c zero = refl
-      counted_suc c (suc k) = ap count_up (counted_suc c k)
-
-      counted_on : (c k : ℕ) → counted (counted c 1) k ≡ counted c (k + 1)
-      counted_on c k = let one : suc k ≡ k + 1 = omega arith in counted_suc c k ∙ ap (counted c) one
 
 -- ---- the condition at a place of the list
 

@@ -1,6 +1,6 @@
 -- What is found twice of one program, or of one text.
 use Rattle.std.specs.Prelude.{slice_get}
-use Rattle.std.proofs.Common.{◌≡◌, ◌∙◌, ℕ, ◌<◌, ◌≤◌, List, length, refl, sym, ap, subst, arith, Option, None, Some, inl, inr}
+use Rattle.std.proofs.Common.{◌≡◌, ◌∙◌, ℕ, ◌≤◌, List, length, refl, sym, ap, subst, arith, Option, None, Some, inl, inr}
 use Rattle.std.proofs.lemmas.Bool.{cases_lt}
 use Rattle.std.proofs.lemmas.Option.{slice_get_within}
 use Rattle.civl_tree.specs.declared.program.Program.{Program}
@@ -9,7 +9,6 @@ use Rattle.civl_cnf.specs.ClauseSet.{ClauseSet}
 use Rattle.civl_rup.specs.Rup.{IsFirstWithoutRup}
 use Rattle.civl_rup.specs.declared.answer.Replay.{Replay}
 use Rattle.civl_rup.specs.declared.answer.Replay.TheVariants.{Refutes, NotRup, NoEmpty}
-use Rattle.civl_proofs.specs.Text.{IsFirstFault}
 use Rattle.civl_proofs.proofs.Outcomes.{one_reading, one_answer}
 use Rattle.civl_conditions.specs.declared.condition.Condition.{Condition}
 use Rattle.civl_conditions.specs.Listed.{conditions}
@@ -19,10 +18,9 @@ use Rattle.civl_certify.specs.Certified.{IsCertified}
 use Rattle.civl_certify.proofs.Agreeing.{answers_on_one_agree}
 use Rattle.civl_proof_reports.specs.declared.making.Making.{Making}
 use Rattle.civl_proof_reports.specs.declared.making.Making.TheVariants.{Heavy, Beyond, Shown}
-use Rattle.civl_proof_reports.specs.declared.replaying.Replaying.{Replaying}
 use Rattle.civl_proof_reports.specs.declared.replaying.Replaying.TheVariants.{Unread, Read}
 use Rattle.civl_proof_reports.specs.Making.{IsMaking, IsShownAt}
-use Rattle.civl_proof_reports.specs.Replaying.{IsReplay, IsReplaying}
+use Rattle.civl_proof_reports.specs.Replaying.{IsReplay}
 use Rattle.civl_proof_reports.specs.Agreement.{Agree}
 use Rattle.civl_proof_reports.specs.Laws.{MakingsAgree, OneReplaying}
 use Rattle.civl_proof_reports.proofs.Leaning.{same_condition}

@@ -1,7 +1,6 @@
 -- What is printed of a condition that holds is a certificate by itself.
-use Rattle.std.specs.Prelude.{not, nat_eq, All, codes, IsTrue}
-use Rattle.std.specs.List.{list_all}
-use Rattle.std.proofs.Common.{◌≡◌, ◌∙◌, ℕ, ◌+◌, ◌*◌, ◌<◌, ◌≤◌, Bool, true, List, [], ◌∷◌, ◌++◌, length, refl, sym, ap, subst, arith, append_assoc, Option, Some}
+use Rattle.std.specs.Prelude.{nat_eq, codes, IsTrue}
+use Rattle.std.proofs.Common.{◌≡◌, ◌∙◌, ℕ, ◌+◌, ◌*◌, ◌≤◌, List, [], ◌∷◌, ◌++◌, length, refl, sym, ap, subst, arith, append_assoc, Some}
 use Rattle.std.proofs.lemmas.List.{append-nil}
 use Rattle.std.proofs.lemmas.List.Elements.{All-from_get_or}
 use Rattle.civl_tree.specs.SpellingDomain.{allows_program}
@@ -10,7 +9,7 @@ use Rattle.civl_cnf.specs.Literal.{Literal}
 use Rattle.civl_cnf.specs.ClauseSet.{ClauseSet, IsBelow, AreBelow}
 use Rattle.civl_rup.specs.Rup.{Refutes, IsUnsatisfiable}
 use Rattle.civl_rup.proofs.Replays.{refuted}
-use Rattle.civl_proofs.specs.Text.{lines_of, is_comment, canonical, IsCertificate, MayBeHeld}
+use Rattle.civl_proofs.specs.Text.{lines_of, canonical, IsCertificate, MayBeHeld}
 use Rattle.civl_proofs.proofs.Words.{onto_parts}
 use Rattle.civl_proofs.proofs.Canonical.{canonical_is_read}
 use Rattle.civl_proofs.proofs.Outcomes.{one_reading}
@@ -20,7 +19,7 @@ use Rattle.civl_verdicts.specs.Formulas.{violation_formula}
 use Rattle.civl_judging.proofs.Lightness.{conditions_are_light}
 use Rattle.civl_reports.specs.Findings.{formula_text}
 use Rattle.civl_reports.proofs.Scanning.{IsClean, clean_by, joined}
-use Rattle.civl_reports.proofs.Written.{IsNamed, name_named}
+use Rattle.civl_reports.proofs.Written.{name_named}
 use Rattle.civl_certify.specs.Certified.{IsRefutation}
 use Rattle.civl_proof_reports.specs.Reports.{certificate_text}
 use Rattle.civl_proof_reports.specs.Laws.{PrintedStandsAlone, RefutedIsUnsatisfiable}

@@ -12,7 +12,7 @@ use Rattle.civl_verdicts.specs.Formulas.{violation_formula}
 use Rattle.civl_certify.specs.declared.certified.Shown.{Shown}
 use Rattle.civl_certify.specs.declared.certified.Shown.TheVariants.{Holds, Fails, Undecided}
 use Rattle.civl_certify.specs.declared.certified.Certified.{Certified}
-use Rattle.civl_certify.specs.declared.certified.Certified.TheVariants.{NoInitial, Answer}
+use Rattle.civl_certify.specs.declared.certified.Certified.TheVariants.{Answer}
 use Rattle.civl_certify.specs.Certified.{IsShown, IsCertified, IsCertifiedAt, IsRefutation}
 use Rattle.civl_portfolio.specs.Prover.{Meanings}
 use Rattle.civl_proof_reports.specs.declared.making.Making.{Making}
@@ -61,8 +61,8 @@ shown_at program budget at c initial shown new light there h t = record {
   lean = has_lean initial shown new t;
 }
 
--- where nothing is shown, nothing is said of who was asked
-pub unshown_made : {B : Type 0} (m : Meanings B) (made : Making) (before after : List B) → IsUnshown made → MadeBy made before after m
-unshown_made m (making.Heavy first) before after h = tt
-unshown_made m (making.Beyond count) before after h = tt
-unshown_made m (making.Shown condition certified) before after h = absurd h
+-- where nothing is shown, nobody was asked
+pub unshown_made : {B : Type 0} (m : Meanings B) (made : Making) (budget : ℕ) (provers : List B) → IsUnshown made → MadeBy made budget provers provers m
+unshown_made m (making.Heavy first) budget provers h = refl
+unshown_made m (making.Beyond count) budget provers h = refl
+unshown_made m (making.Shown condition certified) budget provers h = absurd h

@@ -34,8 +34,8 @@ IsMaking program budget at (Heavy first) = heavy program ≡ Some first
 IsMaking program budget at (Beyond count) = (heavy program ≡ None) × (count ≡ length (conditions program)) × (count ≤ at)
 IsMaking program budget at (Shown condition certified) = IsShownAt program budget at condition certified
 
--- how often the provers were asked, where something is shown
-abbrev pub MadeBy : {B : Type 0} → Making → List B → List B → Meanings B → Type 0
-MadeBy (Heavy first) before after m = ⊤
-MadeBy (Beyond count) before after m = ⊤
-MadeBy (Shown condition certified) before after m = CertifiedBy certified before after m
+-- the provers were asked in as many rounds as searches were made, where something is shown, and else not at all
+abbrev pub MadeBy : {B : Type 0} → Making → ℕ → List B → List B → Meanings B → Type 0
+MadeBy (Heavy first) budget before after m = after ≡ before
+MadeBy (Beyond count) budget before after m = after ≡ before
+MadeBy (Shown condition certified) budget before after m = CertifiedBy certified budget before after m

@@ -79,7 +79,7 @@ pub fn make_proof<M: Makes>(
     requires linear { Keeps linear_rules src.now }
     requires held { held.now.cuts ≡ all_held src.now }
     ensures making { IfOk result (IsMaking src.now budget at) }
-    ensures searched { IfOk result (λ making. MadeBy making provers.old.items provers.new.items (record { asked = asked; lacks = lacks; honest = honest; plan = plan })) }
+    ensures searched { IfOk result (λ making. MadeBy making budget provers.old.items provers.new.items (record { asked = asked; lacks = lacks; honest = honest; plan = plan })) }
 {
     let list = listed(alloc, src)?;
     if at as usize >= list.len() {

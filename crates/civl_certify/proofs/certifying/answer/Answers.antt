@@ -1,4 +1,5 @@
-use Rattle.civl_judging.proofs.Verdicts.{not_asked, asked_more, asked_then}
+use Rattle.std.proofs.Common.{refl}
+use Rattle.civl_decide.proofs.Rounds.{asked_more, asked_then}
 use Rattle.civl_certify.proofs.Placed.{light_by}
 use Rattle.civl_certify.proofs.certifying.answer.Goals as goal
 
@@ -9,10 +10,10 @@ pub show-requires-in-Spent-clause-light : goal.show-requires-in-Spent-clause-lig
 show-requires-in-Spent-clause-light g c = light_by c.args.src.now c.requires.light c.args.condition.now c.requires.listed
 
 pub returns-in-Never-clause-searched : goal.returns-in-Never-clause-searched
-returns-in-Never-clause-searched g c = asked_more _ _ _ _ 0 c.args.budget (not_asked _ _) c.in_ok-decide_initial.ensures.asked
+returns-in-Never-clause-searched g c = asked_more _ c.args.budget _ _ _ 0 refl c.in_ok-decide_initial.ensures.asked
 
 pub returns-in_ok-shown-in-At-clause-searched : goal.returns-in_ok-shown-in-At-clause-searched
-returns-in_ok-shown-in-At-clause-searched g c = asked_then _ _ _ _ 1 c.args.budget c.in_ok-decide_initial.ensures.asked (asked_more _ _ _ _ 0 c.args.budget (not_asked _ _) c.in_ok-shown-in-At.ensures.asked)
+returns-in_ok-shown-in-At-clause-searched g c = asked_then _ c.args.budget _ _ _ 1 c.in_ok-decide_initial.ensures.asked (asked_more _ c.args.budget _ _ _ 0 refl c.in_ok-shown-in-At.ensures.asked)
 
 pub returns-in_ok-shown-in-Spent-clause-searched : goal.returns-in_ok-shown-in-Spent-clause-searched
-returns-in_ok-shown-in-Spent-clause-searched g c = asked_then _ _ _ _ 1 c.args.budget c.in_ok-decide_initial.ensures.asked (asked_more _ _ _ _ 0 c.args.budget (not_asked _ _) c.in_ok-shown-in-Spent.ensures.asked)
+returns-in_ok-shown-in-Spent-clause-searched g c = asked_then _ c.args.budget _ _ _ 1 c.in_ok-decide_initial.ensures.asked (asked_more _ c.args.budget _ _ _ 0 refl c.in_ok-shown-in-Spent.ensures.asked)

@@ -1,5 +1,5 @@
-use Rattle.std.specs.Prelude.{slice_get, Some, Contains}
-use Rattle.std.proofs.Common.{◌≡◌, ◌∙◌, List, sym, ap, subst}
+use Rattle.std.specs.Prelude.{slice_get, Contains}
+use Rattle.std.proofs.Common.{◌∙◌, List, sym, ap, subst}
 use Rattle.civl_conditions.specs.declared.condition.Condition.{Condition}
 use Rattle.civl_certify.proofs.Placed.{contains_at}
 use Rattle.civl_certify.proofs.certifying.certify.Goals as goal

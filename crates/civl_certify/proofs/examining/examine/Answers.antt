@@ -1,5 +1,5 @@
-use Rattle.std.specs.Prelude.{◌≡◌, IsTrue, List, length, All}
-use Rattle.std.proofs.Common.{ℕ, ◌<◌, ◌≤◌, sym, subst, arith}
+use Rattle.std.specs.Prelude.{List, length, All}
+use Rattle.std.proofs.Common.{◌<◌, sym, subst, arith}
 use Rattle.std.proofs.lemmas.Option.{slice_get_within}
 use Rattle.civl_tree.specs.declared.expr.Sort.TheVariants.{Bool as Truth}
 use Rattle.civl_cnf.specs.ClauseSet.{assignment}

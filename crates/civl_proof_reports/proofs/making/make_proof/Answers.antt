@@ -2,7 +2,7 @@ use Rattle.std.specs.Prelude.{slice_get, length}
 use Rattle.std.proofs.Common.{◌∙◌, List, ap, sym, arith}
 use Rattle.civl_conditions.specs.declared.condition.Condition.{Condition}
 use Rattle.civl_certify.specs.declared.certified.Certified.TheVariants.{NoInitial, Answer}
-use Rattle.civl_proof_reports.proofs.Leaning.{certified_here, refuting, shown_at}
+use Rattle.civl_proof_reports.proofs.Leaning.{certified_here, refuting, shown_at, unshown_made}
 use Rattle.civl_proof_reports.proofs.making.make_proof.Goals as goal
 
 pub beyond-requires-clause-past : goal.beyond-requires-clause-past
@@ -41,5 +41,11 @@ returns-in-Ok-Answer-clause-searched g c = rw c.in-Ok-Answer.field-0-is at c.in-
 pub returns-in-Err-Weight-clause-making : goal.returns-in-Err-Weight-clause-making
 returns-in-Err-Weight-clause-making g c = rw c.in-Err-Weight.field-0-is (rw c.in-Err-Weight.field-0-is at c.in-Err-Weight.ensures.heavy)
 
+pub returns-in-Err-Weight-clause-searched : goal.returns-in-Err-Weight-clause-searched
+returns-in-Err-Weight-clause-searched g c = rw c.in-Err-Weight.field-0-is at c.in-Err-Weight.ensures.unasked
+
 pub returns-then-at-len-clause-making : goal.returns-then-at-len-clause-making
 returns-then-at-len-clause-making g c = c.in_ok-making.ensures.making c.args.budget
+
+pub returns-then-at-len-clause-searched : goal.returns-then-at-len-clause-searched
+returns-then-at-len-clause-searched g c = unshown_made _ _ c.args.budget _ c.in_ok-making.ensures.unshown
