@@ -1,6 +1,6 @@
 -- The first frame of a procedure, by its name, and the note before its first statement.
-use Rattle.std.specs.Prelude.{ℕ, Bool, not, List, [], ◌++◌, slice_get}
-use Rattle.std.specs.Option.{option_map, option_map_or}
+use Rattle.std.specs.Prelude.{Bool, not, List, [], slice_get}
+use Rattle.std.specs.Option.{option_map}
 use Rattle.civl_bits.specs.declared.value.Value.{Value}
 use Rattle.civl_tree.specs.declared.name.Name.{Name}
 use Rattle.civl_tree.specs.declared.expr.Sort.{Sort}

@@ -1,9 +1,8 @@
 -- A statement of a root, with the place behind it, and where an `if` or a loop leads.
 use Rattle.std.specs.Prelude.{◌≡◌, ℕ, ◌+◌, ◌<◌, ◌^◌, false, Option, None, Some, slice_get}
 use Rattle.civl_tree.specs.declared.expr.Expr.{Expr}
-use Rattle.civl_tree.specs.declared.stmt.Stmt.{Stmt, out-Stmt}
+use Rattle.civl_tree.specs.declared.stmt.Stmt.{Stmt}
 use Rattle.civl_tree.specs.declared.stmt.Stmt.TheOpen.{Stmt-F, If, While, YieldLoop, RankLoop}
-use Rattle.civl_tree.specs.declared.program.Proc.{Proc}
 use Rattle.civl_tree.specs.declared.program.Program.{Program}
 use Rattle.civl_tree.specs.Numbering.{sizes_of, statement_at}
 use Rattle.civl_meaning.specs.Places.{is_skipped, start_of, spot_at}

@@ -1,5 +1,5 @@
 -- The variables of a goal of a statement, as terms: the store, the root's frame, and the choices of its call.
-use Rattle.std.specs.Prelude.{◌≡◌, ℕ, List, ◌++◌, map, Bool}
+use Rattle.std.specs.Prelude.{ℕ, List, map, Bool}
 use Rattle.civl_bits.specs.declared.value.Value.{Value}
 use Rattle.civl_tree.specs.declared.expr.Sort.{Sort}
 use Rattle.civl_tree.specs.declared.stmt.Stmt.{out-Stmt}

@@ -1,6 +1,6 @@
 -- All places are read, one behind the other.
 use Rattle.std.specs.Prelude.{slice_get, get_or, All, IsTrue}
-use Rattle.std.proofs.Common.{◌≡◌, ◌∙◌, ℕ, zero, suc, ◌+◌, ◌<◌, ◌≤◌, Bool, List, [], ◌∷◌, length, map, drop, refl, sym, ap, subst, arith, Some}
+use Rattle.std.proofs.Common.{◌≡◌, ◌∙◌, ℕ, zero, suc, ◌+◌, ◌<◌, ◌≤◌, Bool, List, [], ◌∷◌, length, drop, refl, ap, arith, Some}
 use Rattle.std.proofs.Math.Seq.{drop-cons}
 use Rattle.std.proofs.lemmas.List.{drop_all}
 use Rattle.std.proofs.lemmas.List.Elements.{All-nil, All-cons, All-head, All-tail}
@@ -13,8 +13,7 @@ use Rattle.civl_symbolic.specs.Symbolic.{Shows}
 use Rattle.civl_terms.specs.Graphs.{listed}
 use Rattle.civl_rows.specs.Cells.{cell_of, cells_in}
 use Rattle.civl_blast.specs.declared.blasted.Place.{Place}
-use Rattle.civl_blast.specs.Standing.{ShowAll}
-use Rattle.civl_models.specs.Reading.{IsCellPlace, FitAt, AgreeAt, HasNoPlace, AreRead}
+use Rattle.civl_models.specs.Reading.{IsCellPlace, AgreeAt, HasNoPlace, AreRead}
 use Rattle.civl_models.specs.Zeros.{zeros_of}
 use Rattle.civl_models.proofs.Placing.{placed, sorts_stay, cell_stays, cell_placed, shown_stays}
 

@@ -1,7 +1,7 @@
 -- The values that bits give to variables: at each place stand the bits of one cell of one variable, the lowest first, and a cell
 -- that has no place is 0 or false. (Bit-blasting, as in Kroening, Strichman, "Decision Procedures", 2008, chapter 6: a
 -- satisfying assignment is read back word by word.)
-use Rattle.std.specs.Prelude.{◌≡◌, ℕ, ◌+◌, ◌<◌, ◌≤◌, Bool, List, slice_get, Some, All, IsTrue}
+use Rattle.std.specs.Prelude.{◌≡◌, ℕ, ◌+◌, ◌<◌, ◌≤◌, Bool, List, slice_get, Some, All}
 use Rattle.civl_bits.specs.Word.{number_of_bits}
 use Rattle.civl_bits.specs.Row.{row_with}
 use Rattle.civl_bits.specs.declared.value.Value.{Value}

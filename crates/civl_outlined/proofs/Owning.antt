@@ -10,7 +10,7 @@ use Rattle.civl_tree.specs.declared.stmt.Stmt.{Stmt, out-Stmt, map-Stmt, the_lem
 use Rattle.civl_tree.specs.declared.stmt.Stmt as tree
 use Rattle.civl_tree.specs.declared.stmt.Stmt.TheOpen.{Stmt-F, If, While, YieldLoop, RankLoop}
 use Rattle.civl_tree.specs.Numbering.{size_step, size_of, sizes_of, inner_of, statements_of}
-use Rattle.civl_meaning.specs.Places.{Spot, is_skipped, start_of, first_in, spot_among, spot_at, inside_of, loop_spot}
+use Rattle.civl_meaning.specs.Places.{Spot, is_skipped, start_of, first_in, spot_among, inside_of, loop_spot}
 use Rattle.civl_meaning.proofs.Finding.{among_here, among_inside, drop_is}
 use Rattle.civl_meaning.proofs.Placing.{inside_is, inside_layer}
 use Rattle.civl_meaning.proofs.Spots.{among_past, sizes_more, size_is, size_is_some}

@@ -1,18 +1,17 @@
 -- What statements weigh, and where they lead.
-use Rattle.std.proofs.Common.{◌≡◌, ℕ, zero, suc, ◌+◌, ◌<◌, ◌≤◌, Bool, true, false, List, [], ◌∷◌, ◌++◌, length, map, get_or, refl, sym, ap, ◌∙◌, subst, arith, Option, None, Some, inl, inr}
+use Rattle.std.proofs.Common.{◌≡◌, ℕ, zero, suc, ◌+◌, ◌<◌, ◌≤◌, false, List, [], ◌∷◌, ◌++◌, length, map, refl, sym, ap, ◌∙◌, subst, arith, Some, inl, inr}
 use Rattle.std.specs.Prelude.{slice_get}
 use Rattle.std.proofs.lemmas.Bool.{eq-eqb, ne_eqb, cases_lt}
 use Rattle.std.proofs.lemmas.List.{length-map}
-use Rattle.std.proofs.lemmas.Option.{same_Some, none-some, slice_get-map, slice_get_within}
+use Rattle.std.proofs.lemmas.Option.{same_Some, none-some}
 use Rattle.civl_tree.specs.declared.stmt.Stmt.{Stmt, out-Stmt}
-use Rattle.civl_tree.specs.declared.stmt.Stmt.TheOpen.{Stmt-F, Yield, Commit, Intro}
+use Rattle.civl_tree.specs.declared.stmt.Stmt.TheOpen.{Stmt-F}
 use Rattle.civl_tree.specs.declared.program.Proc.{Proc}
 use Rattle.civl_tree.specs.declared.program.Program.{Program}
-use Rattle.civl_tree.specs.Numbering.{size_of, sizes_of, statements_of, statement_at}
-use Rattle.civl_tree.specs.rules.Rules.{Keeps}
+use Rattle.civl_tree.specs.Numbering.{size_of, sizes_of, statements_of}
 use Rattle.civl_tree.proofs.Numbers.{sizes_are_counts}
 use Rattle.civl_outlines.specs.declared.outline.Outline.{Outline}
-use Rattle.civl_meaning.specs.Places.{Spot, is_skipped, spot_at}
+use Rattle.civl_meaning.specs.Places.{is_skipped, spot_at}
 use Rattle.civl_meaning.proofs.Spots.{spot_stands}
 use Rattle.civl_conditions.specs.Variables.{of_params, of_locals}
 use Rattle.civl_conditions.specs.Weights.{bits_of_variables}
@@ -21,8 +20,8 @@ use Rattle.civl_goals.specs.Weights.{form_reaches, once, summed_at}
 use Rattle.civl_weighing.specs.declared.weight.Weight.{Weight}
 use Rattle.civl_weighing.specs.Weighing.{Weighs}
 use Rattle.civl_weighing.proofs.Capping.{weighs_same}
-use Rattle.civl_sums.proofs.Groups.{params_bits_are, locals_bits_are, two_groups}
-use Rattle.civl_outlined.proofs.Owning.{get_before, get_last, long_more}
+use Rattle.civl_sums.proofs.Groups.{two_groups}
+use Rattle.civl_outlined.proofs.Owning.{get_before, get_last}
 use Rattle.civl_outlined.specs.declared.places.Place.{Place}
 use Rattle.civl_outlined.specs.declared.statements.StatementSums.{StatementSums}
 use Rattle.civl_outlined.specs.declared.roots.ProcSums.{ProcSums}

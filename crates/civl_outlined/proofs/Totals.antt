@@ -1,5 +1,5 @@
 -- The weights of goals, put together.
-use Rattle.std.proofs.Common.{◌≡◌, ℕ, ◌+◌, ◌-◌, ◌*◌, ◌<◌, true, List, [], ◌++◌, length, refl, sym, ap, ◌∙◌, subst, arith, Option, None, Some}
+use Rattle.std.proofs.Common.{◌≡◌, ℕ, ◌+◌, ◌-◌, ◌*◌, List, [], ◌++◌, length, refl, sym, ap, ◌∙◌, subst, arith, Option, None, Some}
 use Rattle.std.specs.Prelude.{slice_get, codes}
 use Rattle.std.specs.Option.{option_map_or}
 use Rattle.std.specs.List.{AllZip}
@@ -29,7 +29,6 @@ use Rattle.civl_sums.proofs.Groups.{two_groups, choices_bits_are}
 use Rattle.civl_outlined.specs.declared.statements.StatementSums.{StatementSums}
 use Rattle.civl_outlined.specs.declared.roots.ProcSums.{ProcSums}
 use Rattle.civl_outlined.specs.declared.weights.Sums.{Sums}
-use Rattle.civl_outlined.specs.declared.weights.Found.{Found}
 use Rattle.civl_outlined.specs.Said.{IsSaid}
 use Rattle.civl_outlined.proofs.Acting.{instances}
 use Rattle.civl_outlined.specs.Sums.{instance_bits, OfSums, HasProc, IsThere, AreProcs, IsOfRoot, OfFound}

@@ -1,5 +1,5 @@
 -- Outlines that fit a program, and what is answered where one doesn't, or where a goal weighs too much.
-use Rattle.std.specs.Prelude.{◌≡◌, List, [], map, Option, None, Some, ⊤}
+use Rattle.std.specs.Prelude.{◌≡◌, [], map, Option, None, Some, ⊤}
 use Rattle.civl_tree.specs.declared.program.Program.{Program}
 use Rattle.civl_tree.specs.rules.Rules.{first_of}
 use Rattle.civl_outlines.specs.declared.outline.Outline.{Outline}

@@ -1,4 +1,3 @@
-use Rattle.std.specs.Prelude.{ℕ, ◌+◌, ◌<◌, ◌^◌}
 use Rattle.std.proofs.Common.{arith}
 use Rattle.civl_cnf.specs.ClauseSet.{assignment}
 use Rattle.civl_models.proofs.CellsRead.{room}

@@ -1,4 +1,4 @@
-use Rattle.std.proofs.Common.{◌∙◌, ◌+◌, ℕ, refl, ap, length, ◌≡◌}
+use Rattle.std.proofs.Common.{◌∙◌, ◌+◌, ℕ, refl, ap, length}
 use Rattle.std.proofs.lemmas.Option.{slice_get_read}
 use Rattle.civl_outlined.proofs.Owning.{long_more}
 use Rattle.civl_outlined.proofs.Stating.{none_there, one_there, all_there, stands_there}

@@ -1,4 +1,4 @@
-use Rattle.std.proofs.Common.{ℕ, List, length, map, ap, sym, ◌∙◌, ◌<◌, ◌+◌, subst, arith}
+use Rattle.std.proofs.Common.{List, length, map, ap, sym, ◌∙◌, ◌<◌, subst, arith}
 use Rattle.civl_tree.specs.declared.program.Proc.{Proc}
 use Rattle.civl_firing.specs.Truth.{place_of}
 use Rattle.civl_outlined.proofs.Noted.{number_later, first_here, first_none}

@@ -1,4 +1,4 @@
-use Rattle.std.proofs.Common.{◌+◌, arith, ap}
+use Rattle.std.proofs.Common.{arith}
 use Rattle.std.proofs.lemmas.Option.{slice_get_within}
 use Rattle.civl_weighing.proofs.Capping.{sum_weighs, weighs_same}
 use Rattle.civl_outlined.proofs.Stating.{stands_within}

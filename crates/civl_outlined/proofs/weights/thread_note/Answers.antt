@@ -1,5 +1,4 @@
-use Rattle.std.proofs.Common.{List, Option, Some, None, ap, sym, ◌∙◌}
-use Rattle.std.specs.Prelude.{slice_get}
+use Rattle.std.proofs.Common.{Option, Some, None, ap, sym}
 use Rattle.std.specs.Option.{option_map_or}
 use Rattle.civl_tree.specs.declared.program.Thread.{Thread}
 use Rattle.civl_meaning.specs.Meaning.{proc_number}
