@@ -12,7 +12,7 @@ import time
 
 import program
 
-CRATES = ["civl_tree", "civl_bits", "civl_values", "civl_folding", "civl_cnf", "civl_circuits", "civl_symbolic", "civl_terms", "civl_reach", "civl_rows", "civl_blast"]
+CRATES = ["civl_tree", "civl_bits", "civl_firing", "civl_terms", "civl_cnf", "civl_circuits", "civl_symbolic", "civl_blast"]
 
 # How many of each weigh about 400,000: 64 a sum of 32 bits, 2,048 a product, 4,096 a division, 192 a shift, 2,432 a write of a row of 64 words, 129 a row of 64 bits that is read once (so each of its cells is an input) and 1 a `!` or `&&`.
 COUNTS = {"sums": 6_245, "products": 195, "divisions": 97, "shifts": 2_080, "rows": 162, "bits": 3_000, "deep": 399_900}
@@ -23,7 +23,7 @@ PROGRAM = r"""//! Reads a kind of term and a count a line. Builds the term, blas
 ghost use Rattle.std.specs.Prelude.{◌≡◌, ◌≤◌, length, Some, IsSome, IsTrue, IfSome};
 ghost use Rattle.civl_tree.specs.declared.expr.Sort.TheVariants as sort;
 ghost use Rattle.civl_tree.specs.rules.Sorts.{two_sort};
-ghost use Rattle.civl_values.specs.Values.{is_sort};
+ghost use Rattle.civl_firing.specs.values.Values.{is_sort};
 
 mod measuring;
 
@@ -209,13 +209,13 @@ pub blast-requires-clause-light : goal.blast-requires-clause-light
 blast-requires-clause-light c = omega (arith, terms_weigh_less c.build.new.terms c.in_ok-id.id (c.if-not-is_bool.ensures.within refl), c.in_ok-weight.ensures.weight, c.if-weight-gt1600000.false)
 """
 
-TESTS = os.path.join(program.CRATES, "civl_tests")
+TESTS = os.path.join(program.CRATES, "civl_clause_tests")
 
 
 def shared(path):
-    """A file of civl_tests, as the program's own."""
+    """A file of civl_clause_tests, as the program's own."""
     with open(os.path.join(TESTS, path)) as file:
-        return file.read().replace("civl_tests", "civl_timing")
+        return file.read().replace("civl_clause_tests", "civl_timing")
 
 
 FILES = {

@@ -13,9 +13,9 @@ import program
 from texts import LIMIT, at_all_limits
 
 CRATES = [
-    "civl_bits", "civl_tree", "civl_lex", "civl_phrases", "civl_expressions", "civl_statements", "civl_declarations", "civl_parser",
-    "civl_values", "civl_firing", "civl_meaning", "civl_walks", "civl_types", "civl_layers", "civl_linear", "civl_footprints",
-    "civl_paths", "civl_script", "civl_conditions", "civl_weighing", "civl_sums", "civl_weights",
+    "civl_bits", "civl_tree", "civl_lex", "civl_phrases", "civl_expressions", "civl_statements", "civl_declarations",
+    "civl_parser", "civl_firing", "civl_meaning", "civl_names", "civl_types", "civl_layers", "civl_linear", "civl_conditions",
+    "civl_script", "civl_weighing", "civl_weights",
 ]
 
 PROGRAM = r"""//! Reads a text and prints how many conditions its program has, where it breaks no rule and no formula weighs too much.

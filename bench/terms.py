@@ -12,7 +12,7 @@ import sys
 import program
 from texts import many_conditions, other_shapes
 
-CRATES = program.closure(["civl_maker", "civl_verify", "civl_parser", "civl_weights", "civl_sums"])
+CRATES = program.closure(["civl_maker", "civl_yields", "civl_parser", "civl_weights"])
 
 PROGRAM = r"""//! Reads texts, each with a line `.` behind it. Makes the terms of all formulas of its program, and prints for each kind of condition how
 //! many there are, the nodes, the weights of the formulas and of the graphs, and the nanoseconds for all once.
@@ -25,16 +25,16 @@ use crate::kinds::{step_of, weigh};
 use crate::measuring::measure;
 use civl_bodies::bodies_of;
 use civl_conditions::Condition;
-use civl_judging::{Made, Makes};
+use civl_verdicts::judging::{Made, Makes};
 use civl_layers::{Held, Layered, layered};
 use civl_lex::tokens;
 use civl_maker::Maker;
 use civl_parser::parse;
-use civl_sums::steps::{first_sums, sums_at};
-use civl_sums::tables::work_out;
+use civl_weights::sums::steps::{first_sums, sums_at};
+use civl_weights::sums::tables::work_out;
 use civl_tree::{List, Program};
 use civl_types::check;
-use civl_verify::{Admitted, admit, locals_held, source};
+use civl_yields::verify::{Admitted, admit, locals_held, source};
 use civl_weights::conditions;
 use std::alloc::Global;
 use std::io;
@@ -221,7 +221,7 @@ def source(crate, path):
 FILES = {
     "src/main.rt": PROGRAM,
     "src/kinds.rt": source("civl_weights", "src/kinds.rt"),
-    "src/measuring.rt": source("civl_tests", "src/measuring.rt"),
+    "src/measuring.rt": source("civl_clause_tests", "src/measuring.rt"),
 }
 
 

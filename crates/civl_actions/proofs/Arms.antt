@@ -12,8 +12,8 @@ use Rattle.civl_tree.specs.declared.expr.Expr.{Expr, roll-Expr, out-Expr, roll-o
 use Rattle.civl_tree.specs.declared.expr.Expr as tree
 use Rattle.civl_tree.specs.declared.expr.Expr.TheOpen as expr
 use Rattle.civl_tree.specs.rules.Sorts.{one_sort, two_sort, pick_sort, get_sort, set_sort, fill_sort, slice_sort, widen_sort, join_sort}
-use Rattle.civl_values.specs.Operators.{one_value, two_value, pick_value, get_value, set_value, fill_value, slice_value, widen_value, join_value}
-use Rattle.civl_values.specs.Weights.{bits_in, one_weight, two_weight, pick_weight, get_weight, set_weight, move_weight}
+use Rattle.civl_firing.specs.values.Operators.{one_value, two_value, pick_value, get_value, set_value, fill_value, slice_value, widen_value, join_value}
+use Rattle.civl_firing.specs.values.Weights.{bits_in, one_weight, two_weight, pick_weight, get_weight, set_weight, move_weight}
 use Rattle.civl_firing.specs.Truth.{place_of}
 use Rattle.civl_terms.specs.declared.node.Node.{Node}
 use Rattle.civl_terms.specs.Graphs.{value_at, sort_at, IsGraph}
@@ -23,8 +23,8 @@ use Rattle.civl_actions.specs.declared.scope.Scope.{Scope}
 use Rattle.civl_actions.specs.Scopes.{names_in, HasTyping, Means}
 use Rattle.civl_actions.proofs.Typing.{typed_one, typed_two, typed_pick, typed_get, typed_set, typed_fill, typed_slice, typed_widen, typed_join}
 use Rattle.civl_tree.specs.rules.Exprs.{is_index}
-use Rattle.civl_values.specs.Values.{sort_of_value}
-use Rattle.civl_values.specs.Operators.{literal_value}
+use Rattle.civl_firing.specs.values.Values.{sort_of_value}
+use Rattle.civl_firing.specs.values.Operators.{literal_value}
 use Rattle.civl_actions.proofs.Building.{name_there, old_there, means_name, means_old, means_done, means_old_done}
 use Rattle.civl_actions.proofs.Operations.{typing, means_literal, means_true, means_false, fits_one, means_one, fits_fill, means_fill, fits_slice, means_slice, fits_widen, means_widen, fits_two, means_two, fits_get, means_get, fits_join, means_join, fits_pick, means_pick, fits_set, means_set}
 

@@ -14,10 +14,10 @@ use Rattle.civl_tree.specs.declared.expr.Expr.TheFolds.{fold-roll-Expr}
 use Rattle.civl_tree.specs.declared.expr.Expr.TheOpen as expr
 use Rattle.civl_tree.specs.rules.Scopes.{Scope as Sorts}
 use Rattle.civl_tree.specs.rules.Sorts.{sort_of}
-use Rattle.civl_values.specs.Operators.{nothing}
-use Rattle.civl_values.specs.Values.{HasSort, is_true}
-use Rattle.civl_values.proofs.Sorting.{bool_of}
-use Rattle.civl_values.specs.Weights.{weight_of}
+use Rattle.civl_firing.specs.values.Operators.{nothing}
+use Rattle.civl_firing.specs.values.Values.{HasSort, is_true}
+use Rattle.civl_firing.proofs.values.Sorting.{bool_of}
+use Rattle.civl_firing.specs.values.Weights.{weight_of}
 use Rattle.civl_firing.specs.Eval.{look, value_of, value_step}
 use Rattle.civl_firing.specs.Truth.{place_of}
 use Rattle.civl_terms.specs.declared.node.Node.{Node}

@@ -20,10 +20,10 @@ use Rattle.civl_tree.specs.declared.program.Program.{Program}
 use Rattle.civl_tree.specs.rules.Names.{same_name, has_name, global_names, param_names}
 use Rattle.civl_tree.specs.rules.Scopes.{Scope as Sorts, Binding, sort_in, bind_globals, bind_params, gate_scope, guard_scope}
 use Rattle.civl_tree.specs.rules.Sorts.{sort_of}
-use Rattle.civl_values.specs.Values.{zero_of, is_sort, sort_of_value}
-use Rattle.civl_values.specs.Weights.{weight_of}
-use Rattle.civl_values.specs.ActionWeights.{update_weights, offer_weights}
-use Rattle.civl_values.proofs.Zeros.{zeros_have_their_sorts}
+use Rattle.civl_firing.specs.values.Values.{zero_of, is_sort, sort_of_value}
+use Rattle.civl_firing.specs.values.Weights.{weight_of}
+use Rattle.civl_firing.specs.values.ActionWeights.{update_weights, offer_weights}
+use Rattle.civl_firing.proofs.values.Zeros.{zeros_have_their_sorts}
 use Rattle.civl_firing.specs.declared.scope.Scope.{Scope as Meant}
 use Rattle.civl_firing.specs.Eval.{value_of}
 use Rattle.civl_firing.specs.Fired.{updated}

@@ -12,9 +12,9 @@ use Rattle.civl_tree.specs.declared.expr.Expr.TheFolds.{fold-roll-Expr}
 use Rattle.civl_tree.specs.declared.expr.Expr.TheOpen as expr
 use Rattle.civl_tree.specs.rules.Scopes.{Scope as Sorts}
 use Rattle.civl_tree.specs.rules.Sorts.{sort_of, one_sort, two_sort, pick_sort, get_sort, set_sort, fill_sort, slice_sort, widen_sort, join_sort}
-use Rattle.civl_values.specs.Operators.{one_value, two_value, pick_value, get_value, set_value, fill_value, slice_value, widen_value, join_value}
-use Rattle.civl_values.proofs.Sorting.{literal_has_sort}
-use Rattle.civl_values.specs.Weights.{bits_in, one_weight, two_weight, pick_weight, get_weight, set_weight, move_weight}
+use Rattle.civl_firing.specs.values.Operators.{one_value, two_value, pick_value, get_value, set_value, fill_value, slice_value, widen_value, join_value}
+use Rattle.civl_firing.proofs.values.Sorting.{literal_has_sort}
+use Rattle.civl_firing.specs.values.Weights.{bits_in, one_weight, two_weight, pick_weight, get_weight, set_weight, move_weight}
 use Rattle.civl_firing.specs.Eval.{value_of, value_step}
 use Rattle.civl_terms.specs.declared.node.Node.{Node}
 use Rattle.civl_terms.specs.Graphs.{value_at, sort_at, sorts}
@@ -24,8 +24,8 @@ use Rattle.civl_actions.specs.declared.scope.Scope.{Scope}
 use Rattle.civl_actions.specs.Scopes.{meant, ScopeFits, IsTyped, HasTyping, Means}
 use Rattle.civl_actions.proofs.Typing.{sort_layer, weight_layer, typed_one, typed_two, typed_pick, typed_get, typed_set, typed_fill, typed_slice, typed_widen, typed_join}
 use Rattle.civl_tree.specs.rules.Exprs.{literal_fits}
-use Rattle.civl_values.specs.Values.{sort_of_value}
-use Rattle.civl_values.specs.Operators.{literal_value}
+use Rattle.civl_firing.specs.values.Values.{sort_of_value}
+use Rattle.civl_firing.specs.values.Operators.{literal_value}
 use Rattle.civl_terms.proofs.Soundness.{sort_is}
 use Rattle.civl_actions.proofs.Typing.{layer_typed}
 use Rattle.civl_actions.proofs.Staying.{term_stays, term_since, fits_stay}

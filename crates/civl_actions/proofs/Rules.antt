@@ -26,8 +26,8 @@ use Rattle.civl_tree.specs.rules.Twice.{declared_twice}
 use Rattle.civl_tree.specs.rules.Rules.{Keeps}
 use Rattle.civl_tree.specs.rules.Typing.{typing_rules, twice_rule, width_rule, sort_rule, index_rule}
 use Rattle.civl_tree.proofs.Kept.{action_kept, twice_among, width_among, sort_among, index_among}
-use Rattle.civl_values.specs.Values.{is_sort}
-use Rattle.civl_values.proofs.Sorting.{same_sort-true}
+use Rattle.civl_firing.specs.values.Values.{is_sort}
+use Rattle.civl_firing.proofs.values.Sorting.{same_sort-true}
 use Rattle.civl_actions.specs.Scopes.{IsTyped}
 
 -- ---- lists of which none passes

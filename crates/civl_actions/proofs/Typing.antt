@@ -15,8 +15,8 @@ use Rattle.civl_tree.specs.rules.Scopes.{Scope as Sorts}
 use Rattle.civl_tree.specs.rules.Sorts.{sort_of, sort_step, is_truth, is_word, word_sort, common_sort, truth_over, truths_sort, one_sort, two_sort, pick_sort, get_sort, set_sort, fill_sort, slice_sort, widen_sort, join_sort, joined_sort}
 use Rattle.civl_tree.specs.rules.Exprs.{is_index, widths_fit, indices_fit, index_step}
 use Rattle.civl_tree.proofs.Layers.{width_layer, widths_is}
-use Rattle.civl_values.specs.Weights.{weight_of, weight_step}
-use Rattle.civl_values.proofs.Sorting.{both}
+use Rattle.civl_firing.specs.values.Weights.{weight_of, weight_step}
+use Rattle.civl_firing.proofs.values.Sorting.{both}
 use Rattle.civl_actions.specs.Scopes.{IsTyped}
 
 -- ---- the sorts of operands

@@ -8,8 +8,8 @@ use Rattle.civl_tree.specs.rules.Scopes.{Scope as Sorts, sort_in}
 use Rattle.civl_tree.specs.rules.Sorts.{sort_of}
 use Rattle.civl_tree.specs.rules.Exprs.{widths_fit, indices_fit}
 use Rattle.civl_bits.specs.declared.value.Value.{Value}
-use Rattle.civl_values.specs.Values.{is_true}
-use Rattle.civl_values.specs.Weights.{weight_of}
+use Rattle.civl_firing.specs.values.Values.{is_true}
+use Rattle.civl_firing.specs.values.Weights.{weight_of}
 use Rattle.civl_firing.specs.declared.scope.Scope.{Scope as Meant}
 use Rattle.civl_firing.specs.Truth.{place_of}
 use Rattle.civl_firing.specs.Names.{names_of}

@@ -9,7 +9,7 @@ use Rattle.civl_tree.specs.declared.program.Program.{Program}
 use Rattle.civl_tree.specs.declared.expr.Sort.TheVariants.{Bool as Truth}
 use Rattle.civl_tree.specs.rules.Names.{global_names, param_names}
 use Rattle.civl_tree.specs.rules.Scopes.{Scope as Sorts, guard_scope}
-use Rattle.civl_values.specs.ActionWeights.{update_weights, offer_weights}
+use Rattle.civl_firing.specs.values.ActionWeights.{update_weights, offer_weights}
 use Rattle.civl_firing.specs.Eval.{value_of}
 use Rattle.civl_firing.specs.Scope.{zeros_of_params}
 use Rattle.civl_firing.specs.Fired.{updated}

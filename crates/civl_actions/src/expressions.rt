@@ -6,9 +6,9 @@ ghost use Rattle.civl_actions.specs.Scopes.{HasTyping, Means};
 use crate::scope::Scope;
 use civl_bits::Value;
 use civl_firing::names::place;
+use civl_firing::values::literal;
 use civl_terms::{Id, Memory, Terms};
 use civl_tree::Expr;
-use civl_values::literal;
 
 /// The term at this place.
 fn term_at(ids: &[Id], at: usize) -> Id

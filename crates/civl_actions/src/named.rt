@@ -1,7 +1,7 @@
 // The terms that the names in an action stand for.
 ghost use Rattle.std.specs.Prelude.{◌≡◌, ◌++◌, All, IsTrue, IfOk};
 ghost use Rattle.civl_tree.specs.rules.Names.{global_names, param_names};
-ghost use Rattle.civl_values.specs.Values.{is_sort};
+ghost use Rattle.civl_firing.specs.values.Values.{is_sort};
 ghost use Rattle.civl_firing.specs.Scope.{choice_names};
 ghost use Rattle.civl_terms.specs.Building.{Grows};
 ghost use Rattle.civl_actions.specs.Scopes.{names_in};
@@ -10,9 +10,9 @@ ghost use Rattle.civl_actions.specs.Steps.{AreZeros, IsNamed};
 use crate::scope::Scope;
 use civl_bits::Value;
 use civl_firing::names::Names;
+use civl_firing::values::zero;
 use civl_terms::{Id, Memory, Terms};
 use civl_tree::{Action, Choice, List, Param, Program};
-use civl_values::zero;
 use std::alloc::Global as Alloc;
 
 /// The terms of all the names in an action, behind one another; of them the zeros that its outputs are before its updates; and

@@ -4,7 +4,7 @@ ghost use Rattle.civl_tree.specs.rules.Rules.{Keeps};
 ghost use Rattle.civl_tree.specs.rules.Typing.{typing_rules};
 ghost use Rattle.civl_tree.specs.rules.Names.{global_names, param_names, targets_of};
 ghost use Rattle.civl_tree.specs.rules.Scopes.{gate_scope, guard_scope};
-ghost use Rattle.civl_values.specs.ActionWeights.{gate_weight, guard_weight, offers_weight, updates_weight};
+ghost use Rattle.civl_firing.specs.values.ActionWeights.{gate_weight, guard_weight, offers_weight, updates_weight};
 ghost use Rattle.civl_firing.specs.Names.{names_of};
 ghost use Rattle.civl_terms.specs.Building.{Grows};
 ghost use Rattle.civl_terms.specs.Weights.{graph_weight};

@@ -13,9 +13,9 @@ use Rattle.civl_cnf.specs.ClauseSet.{ClauseSet, SatisfiesClause}
 use Rattle.civl_terms.specs.declared.node.Node.{Node}
 use Rattle.civl_terms.specs.Graphs.{IsGraph, IsDistinct}
 use Rattle.civl_terms.specs.Weights.{term_weight}
-use Rattle.civl_reach.specs.Reaching.{Reaches, is_plain, IsRowless}
-use Rattle.civl_reach.specs.Marks.{marked, IsMarking}
-use Rattle.civl_rows.specs.Cells.{cells_in}
+use Rattle.civl_blast.specs.reach.Reaching.{Reaches, is_plain, IsRowless}
+use Rattle.civl_blast.specs.reach.Marks.{marked, IsMarking}
+use Rattle.civl_blast.specs.rows.Cells.{cells_in}
 use Rattle.civl_blast.specs.declared.blasted.Place.{Place}
 use Rattle.civl_blast.specs.Standing.{cell_bits, IsPlaced, ShowAll, HasPlaces, StandsFor, GivesValues, IsSmall}
 use Rattle.civl_blast.specs.Steps.{input_bits, inputs_before, places_before, IsCircuit}

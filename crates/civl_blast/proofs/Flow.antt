@@ -7,7 +7,7 @@ use Rattle.std.proofs.lemmas.Bool.{cases_lt, false≢true}
 use Rattle.std.proofs.lemmas.List.Elements.{All-weaker}
 use Rattle.civl_bits.specs.declared.value.Value.{Value}
 use Rattle.civl_tree.specs.declared.expr.Sort.TheVariants as sort
-use Rattle.civl_values.specs.Values.{is_true}
+use Rattle.civl_firing.specs.values.Values.{is_true}
 use Rattle.civl_cnf.specs.Literal.{Literal, truth_of}
 use Rattle.civl_cnf.specs.ClauseSet.{ClauseSet, Satisfies}
 use Rattle.civl_cnf.specs.Gates.{Extends}
@@ -20,9 +20,9 @@ use Rattle.civl_symbolic.specs.Symbolic.{value_under, sort_of, HasBelow, IsIn}
 use Rattle.civl_terms.specs.declared.node.Node.{Node}
 use Rattle.civl_terms.specs.Graphs.{IsGraph, sort_at, value_at}
 use Rattle.civl_terms.specs.Weights.{is_part, own_weight, term_weight}
-use Rattle.civl_reach.specs.Reaching.{IsRowless}
-use Rattle.civl_reach.specs.Marks.{marked, weight_from, IsMarking}
-use Rattle.civl_reach.proofs.Marked.{part_is_below}
+use Rattle.civl_blast.specs.reach.Reaching.{IsRowless}
+use Rattle.civl_blast.specs.reach.Marks.{marked, weight_from, IsMarking}
+use Rattle.civl_blast.proofs.reach.Marked.{part_is_below}
 use Rattle.civl_blast.specs.Steps.{symbol_in, input_bits, inputs_before, IsReady, ShowsInput, ShowsInputs, NodeMade, StepMade, output_of, IsCircuit}
 use Rattle.civl_blast.proofs.Weighing.{weight_next, weight_whole, weight_less, inputs_next, inputs_less, inputs_light}
 

@@ -11,11 +11,11 @@ use Rattle.civl_bits.specs.declared.value.Value.{Value}
 use Rattle.civl_bits.specs.declared.value.Value.TheVariants as value
 use Rattle.civl_tree.specs.declared.expr.Sort.{Sort}
 use Rattle.civl_tree.specs.declared.expr.Sort.TheVariants as sort
-use Rattle.civl_values.specs.Values.{HasSort}
-use Rattle.civl_values.proofs.Sorting.{both, word_of, row_of}
-use Rattle.civl_reach.specs.Reaching.{is_plain}
-use Rattle.civl_rows.specs.Cells.{cell_of}
-use Rattle.civl_rows.specs.declared.flat.Cell.{Cell}
+use Rattle.civl_firing.specs.values.Values.{HasSort}
+use Rattle.civl_firing.proofs.values.Sorting.{both, word_of, row_of}
+use Rattle.civl_blast.specs.reach.Reaching.{is_plain}
+use Rattle.civl_blast.specs.rows.Cells.{cell_of}
+use Rattle.civl_blast.specs.declared.rows.flat.Cell.{Cell}
 
 -- the number of a word
 abbrev number_in : Value → ℕ

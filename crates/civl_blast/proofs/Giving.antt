@@ -5,18 +5,18 @@ use Rattle.std.proofs.lemmas.List.Elements.{All-nil, All-cons, All-head, All-tai
 use Rattle.civl_bits.specs.declared.value.Value.{Value}
 use Rattle.civl_tree.specs.declared.expr.Sort.{Sort}
 use Rattle.civl_tree.specs.declared.expr.Sort.TheVariants as sort
-use Rattle.civl_values.specs.Values.{HasSort}
-use Rattle.civl_values.proofs.Sorting.{word_of}
+use Rattle.civl_firing.specs.values.Values.{HasSort}
+use Rattle.civl_firing.proofs.values.Sorting.{word_of}
 use Rattle.civl_symbolic.specs.Symbolic.{Shows}
 use Rattle.civl_terms.specs.declared.node.Node.{Node}
 use Rattle.civl_terms.specs.declared.node.Node.TheVariants.{Variable}
 use Rattle.civl_terms.specs.Graphs.{IsGraph, Fits, value_at}
 use Rattle.civl_terms.specs.Building.{Lengthens}
-use Rattle.civl_reach.specs.Reaching.{Reaches, IsRowless}
-use Rattle.civl_rows.specs.Cells.{cell_of, cells_in, next_number, HasEntries, StandsForCell, ReachesOnly}
-use Rattle.civl_rows.specs.Cells as cells
-use Rattle.civl_rows.specs.declared.flat.Cell.{Cell}
-use Rattle.civl_rows.proofs.Numbering.{next_is_above}
+use Rattle.civl_blast.specs.reach.Reaching.{Reaches, IsRowless}
+use Rattle.civl_blast.specs.rows.Cells.{cell_of, cells_in, next_number, HasEntries, StandsForCell, ReachesOnly}
+use Rattle.civl_blast.specs.rows.Cells as cells
+use Rattle.civl_blast.specs.declared.rows.flat.Cell.{Cell}
+use Rattle.civl_blast.proofs.rows.Numbering.{next_is_above}
 use Rattle.civl_blast.specs.declared.blasted.Place.{Place}
 use Rattle.civl_blast.specs.Standing.{cell_bits, IsPlaced, ShowAll, HasPlaces, NamesCells, GivesValues}
 use Rattle.civl_blast.specs.Renaming.{place_of_cell}

@@ -12,18 +12,18 @@ use Rattle.civl_bits.specs.declared.value.Value.TheVariants as value
 use Rattle.civl_tree.specs.declared.expr.Sort.{Sort}
 use Rattle.civl_tree.specs.declared.expr.Sort.TheVariants as sort
 use Rattle.civl_tree.specs.rules.StoreSize.{bits_of}
-use Rattle.civl_values.specs.Values.{HasSort}
+use Rattle.civl_firing.specs.values.Values.{HasSort}
 use Rattle.civl_cnf.specs.Gates.{bit}
 use Rattle.civl_symbolic.specs.Symbolic.{Shows}
 use Rattle.civl_terms.specs.declared.node.Node.{Node}
 use Rattle.civl_terms.specs.declared.node.Node.TheVariants.{Constant, Variable, One as Once, Two as Twice, Pick, Get, Set, Fill, Slice, Widen, Join}
 use Rattle.civl_terms.specs.Graphs.{Fits, IsGraph}
 use Rattle.civl_terms.proofs.Nodes.{sort_of_node}
-use Rattle.civl_reach.specs.Reaching.{Reaches, is_plain, IsRowless}
-use Rattle.civl_reach.specs.Marks.{marked, IsMarking}
+use Rattle.civl_blast.specs.reach.Reaching.{Reaches, is_plain, IsRowless}
+use Rattle.civl_blast.specs.reach.Marks.{marked, IsMarking}
 use Rattle.civl_blast.specs.declared.blasted.Place.{Place}
 use Rattle.civl_blast.specs.Standing.{ShowAll}
-use Rattle.civl_rows.specs.Cells.{cell_of}
+use Rattle.civl_blast.specs.rows.Cells.{cell_of}
 use Rattle.civl_blast.specs.Steps.{input_bits, input_place, inputs_before, places_before, TakesPlain, ShowsInput, ShowsInputs}
 use Rattle.civl_blast.proofs.Weighing.{inputs_next, inputs_less}
 

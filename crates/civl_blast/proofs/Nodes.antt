@@ -11,9 +11,9 @@ use Rattle.civl_tree.specs.declared.expr.One.{One}
 use Rattle.civl_tree.specs.declared.expr.Two.{Two}
 use Rattle.civl_tree.specs.rules.Sorts.{one_sort, two_sort, pick_sort, get_sort, set_sort, fill_sort, slice_sort, widen_sort, join_sort}
 use Rattle.civl_tree.specs.rules.StoreSize.{bits_of}
-use Rattle.civl_values.specs.Operators.{one_value, two_value, pick_value, slice_value, widen_value, join_value}
-use Rattle.civl_values.specs.Values.{is_sort, sort_of_value}
-use Rattle.civl_values.specs.Weights.{bits_in, one_weight, two_weight, pick_weight}
+use Rattle.civl_firing.specs.values.Operators.{one_value, two_value, pick_value, slice_value, widen_value, join_value}
+use Rattle.civl_firing.specs.values.Values.{is_sort, sort_of_value}
+use Rattle.civl_firing.specs.values.Weights.{bits_in, one_weight, two_weight, pick_weight}
 use Rattle.civl_cnf.specs.Literal.{Literal}
 use Rattle.civl_cnf.specs.ClauseSet.{ClauseSet}
 use Rattle.civl_cnf.proofs.Extending.{extends_same, extends_trans}
@@ -26,7 +26,7 @@ use Rattle.civl_terms.specs.declared.node.Node.TheVariants.{Constant, Variable, 
 use Rattle.civl_terms.specs.Graphs.{node_value, values, value_at, node_sort, sorts, sort_at}
 use Rattle.civl_terms.specs.Weights.{is_part, node_weight, weight_in, own_weight}
 use Rattle.civl_terms.proofs.Nodes.{value_of_node, sort_of_node}
-use Rattle.civl_reach.specs.Reaching.{is_plain}
+use Rattle.civl_blast.specs.reach.Reaching.{is_plain}
 use Rattle.civl_blast.specs.Steps.{symbol_in, input_bits, IsReady, NodeMade}
 
 pub ruleset extending = (extends_trans, extends_same)

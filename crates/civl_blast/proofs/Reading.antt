@@ -9,7 +9,7 @@ use Rattle.civl_bits.specs.declared.value.Value.{Value}
 use Rattle.civl_bits.specs.declared.value.Value.TheVariants as value
 use Rattle.civl_tree.specs.declared.expr.Sort.{Sort}
 use Rattle.civl_tree.specs.declared.expr.Sort.TheVariants as sort
-use Rattle.civl_values.specs.Values.{HasSort, is_sort}
+use Rattle.civl_firing.specs.values.Values.{HasSort, is_sort}
 use Rattle.civl_cnf.specs.Gates.{bit}
 use Rattle.civl_circuits.proofs.Numbers.{bit-small}
 use Rattle.civl_symbolic.proofs.Widths.{narrow, wide}
@@ -18,8 +18,8 @@ use Rattle.civl_terms.specs.declared.node.Node.{Node}
 use Rattle.civl_terms.specs.declared.node.Node.TheVariants.{Constant, Variable, One as Once, Two as Twice, Pick, Get, Set, Fill, Slice, Widen, Join}
 use Rattle.civl_terms.proofs.Soundness.{zeros, zeros_fit}
 use Rattle.civl_terms.specs.Graphs.{Fits, IsGraph, IsDistinct}
-use Rattle.civl_reach.specs.Reaching.{is_plain}
-use Rattle.civl_reach.specs.Marks.{marked}
+use Rattle.civl_blast.specs.reach.Reaching.{is_plain}
+use Rattle.civl_blast.specs.reach.Marks.{marked}
 use Rattle.civl_blast.specs.Steps.{inputs_before, ShowsInputs}
 use Rattle.civl_blast.proofs.Laying.{ArePlain}
 

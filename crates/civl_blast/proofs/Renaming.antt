@@ -7,17 +7,17 @@ use Rattle.std.proofs.lemmas.List.Elements.{All-nil, All-cons, All-head, All-tai
 use Rattle.civl_bits.specs.declared.value.Value.{Value}
 use Rattle.civl_bits.specs.declared.value.Value.TheVariants as value
 use Rattle.civl_tree.specs.declared.expr.Sort.{Sort}
-use Rattle.civl_values.specs.Values.{HasSort, is_true}
+use Rattle.civl_firing.specs.values.Values.{HasSort, is_true}
 use Rattle.civl_cnf.specs.ClauseSet.{ClauseSet}
 use Rattle.civl_symbolic.specs.Symbolic.{Shows}
 use Rattle.civl_terms.specs.declared.node.Node.{Node}
 use Rattle.civl_terms.specs.declared.node.Node.TheVariants.{Variable}
 use Rattle.civl_terms.specs.Graphs.{value_at, IsGraph, Fits}
-use Rattle.civl_reach.proofs.Deciding.{reached_variables_decide}
-use Rattle.civl_rows.specs.Cells.{cell_of, next_number, HasEntries}
-use Rattle.civl_rows.specs.Cells as cells
-use Rattle.civl_rows.specs.declared.flat.Cell.{Cell}
-use Rattle.civl_rows.proofs.Numbering.{next_is_above}
+use Rattle.civl_blast.proofs.reach.Deciding.{reached_variables_decide}
+use Rattle.civl_blast.specs.rows.Cells.{cell_of, next_number, HasEntries}
+use Rattle.civl_blast.specs.rows.Cells as cells
+use Rattle.civl_blast.specs.declared.rows.flat.Cell.{Cell}
+use Rattle.civl_blast.proofs.rows.Numbering.{next_is_above}
 use Rattle.civl_blast.specs.declared.blasted.Place.{Place}
 use Rattle.civl_blast.specs.Standing.{ShowAll, StandsFor}
 use Rattle.civl_blast.specs.Renaming.{place_of_cell, CountFrom, CountUp}

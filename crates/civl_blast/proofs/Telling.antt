@@ -5,7 +5,7 @@ use Rattle.std.proofs.lemmas.Bool.{and_from}
 use Rattle.std.proofs.lemmas.List.Elements.{All-nil, All-cons, All-head, All-tail}
 use Rattle.civl_bits.specs.declared.value.Value.{Value}
 use Rattle.civl_symbolic.specs.Symbolic.{Shows}
-use Rattle.civl_rows.specs.Cells.{cell_of}
+use Rattle.civl_blast.specs.rows.Cells.{cell_of}
 use Rattle.civl_blast.specs.declared.blasted.Place.{Place}
 use Rattle.civl_blast.specs.Standing.{ShowAll}
 use Rattle.civl_cnf.specs.Literal.{truth_of}

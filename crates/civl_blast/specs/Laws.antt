@@ -1,13 +1,13 @@
 -- What clauses that stand for a term tell.
 use Rattle.std.specs.Prelude.{◌≡◌, ◌↔◌, ℕ, List, Bool, IsTrue, All}
 use Rattle.civl_bits.specs.declared.value.Value.{Value}
-use Rattle.civl_values.specs.Values.{is_true}
+use Rattle.civl_firing.specs.values.Values.{is_true}
 use Rattle.civl_cnf.specs.ClauseSet.{ClauseSet, Satisfies}
 use Rattle.civl_terms.specs.declared.node.Node.{Node}
 use Rattle.civl_terms.specs.Graphs.{Fits, value_at}
 use Rattle.civl_blast.specs.declared.blasted.Place.{Place}
 use Rattle.civl_blast.specs.Standing.{GivesValues, StandsFor, ShowAll}
-use Rattle.civl_rows.specs.Cells.{cell_of}
+use Rattle.civl_blast.specs.rows.Cells.{cell_of}
 
 -- bits that make the clauses true give values, through the places, that make the term true
 abbrev pub BitsGiveValues : Type 0

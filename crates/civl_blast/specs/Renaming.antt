@@ -1,6 +1,6 @@
 -- For private functions alone: places of cells, where variables stand for cells.
 use Rattle.std.specs.Prelude.{◌≡◌, ℕ, ◌+◌, List, [], ◌∷◌, slice_get, Some, nat_eq, if◌then◌else◌}
-use Rattle.civl_rows.specs.declared.flat.Cell.{Cell}
+use Rattle.civl_blast.specs.declared.rows.flat.Cell.{Cell}
 use Rattle.civl_blast.specs.declared.blasted.Place.{Place}
 
 -- where the place's variable stands for a cell, the place is that of this cell

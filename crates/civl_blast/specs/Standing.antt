@@ -3,7 +3,7 @@ use Rattle.std.specs.Prelude.{◌≡◌, ℕ, ◌+◌, ◌*◌, ◌<◌, ◌≤�
 use Rattle.civl_bits.specs.declared.value.Value.{Value}
 use Rattle.civl_tree.specs.declared.expr.Sort.{Sort}
 use Rattle.civl_tree.specs.declared.expr.Sort.TheVariants as sort
-use Rattle.civl_values.specs.Values.{is_true}
+use Rattle.civl_firing.specs.values.Values.{is_true}
 use Rattle.civl_cnf.specs.Literal.{Literal, truth_of}
 use Rattle.civl_cnf.specs.ClauseSet.{ClauseSet, Satisfies}
 use Rattle.civl_cnf.specs.Gates.{Agree}
@@ -11,8 +11,8 @@ use Rattle.civl_symbolic.specs.Symbolic.{Shows}
 use Rattle.civl_terms.specs.declared.node.Node.{Node}
 use Rattle.civl_terms.specs.declared.node.Node.TheVariants.{Variable}
 use Rattle.civl_terms.specs.Graphs.{Fits, value_at}
-use Rattle.civl_reach.specs.Reaching.{Reaches}
-use Rattle.civl_rows.specs.Cells.{cell_of, cells_in}
+use Rattle.civl_blast.specs.reach.Reaching.{Reaches}
+use Rattle.civl_blast.specs.rows.Cells.{cell_of, cells_in}
 use Rattle.civl_blast.specs.declared.blasted.Place.{Place}
 
 -- at each place stand the bits of the cell of the variable's value

@@ -3,7 +3,7 @@ use Rattle.std.specs.Prelude.{◌≡◌, ℕ, zero, suc, ◌+◌, ◌*◌, ◌<�
 use Rattle.civl_bits.specs.declared.value.Value.{Value}
 use Rattle.civl_tree.specs.declared.expr.Sort.{Sort}
 use Rattle.civl_tree.specs.rules.StoreSize.{bits_of}
-use Rattle.civl_values.specs.Values.{HasSort, is_true}
+use Rattle.civl_firing.specs.values.Values.{HasSort, is_true}
 use Rattle.civl_cnf.specs.Literal.{Literal, truth_of}
 use Rattle.civl_cnf.specs.ClauseSet.{ClauseSet, Satisfies}
 use Rattle.civl_cnf.specs.Gates.{Extends}
@@ -15,8 +15,8 @@ use Rattle.civl_terms.specs.declared.node.Node.{Node}
 use Rattle.civl_terms.specs.declared.node.Node.TheVariants.{Constant, Variable, One as Once, Two as Twice, Pick, Get, Set, Fill, Slice, Widen, Join}
 use Rattle.civl_terms.specs.Graphs.{IsGraph, sort_at, value_at}
 use Rattle.civl_terms.specs.Weights.{is_part, own_weight, term_weight}
-use Rattle.civl_reach.specs.Reaching.{is_plain}
-use Rattle.civl_reach.specs.Marks.{marked}
+use Rattle.civl_blast.specs.reach.Reaching.{is_plain}
+use Rattle.civl_blast.specs.reach.Marks.{marked}
 use Rattle.civl_blast.specs.declared.blasted.Place.{Place}
 
 -- what stands for a node

@@ -3,17 +3,17 @@ ghost use Rattle.std.specs.Prelude.{◌≡◌, ◌≤◌, ◌<◌, ◌+◌, ◌*
 ghost use Rattle.civl_tree.specs.declared.expr.Sort.TheVariants as sort;
 ghost use Rattle.civl_terms.specs.Graphs.{sort_at};
 ghost use Rattle.civl_terms.specs.Weights.{term_weight};
-ghost use Rattle.civl_reach.specs.Reaching.{IsRowless};
-ghost use Rattle.civl_reach.specs.Marks.{IsMarking};
+ghost use Rattle.civl_blast.specs.reach.Reaching.{IsRowless};
+ghost use Rattle.civl_blast.specs.reach.Marks.{IsMarking};
 ghost use Rattle.civl_blast.specs.Standing.{HasPlaces, StandsFor, GivesValues, IsSmall};
 ghost use Rattle.civl_blast.specs.Steps.{inputs_before, output_of, IsCircuit};
 
 use crate::inputs::{Inputs, bits_of_input, lay_out};
+use crate::reach::marks;
 use crate::steps::step;
 use crate::{Blasted, Memory};
 use civl_circuits::{Circuit, start};
 use civl_cnf::{Clause, Lit};
-use civl_reach::marks;
 use civl_symbolic::Symbolic;
 use civl_terms::{Id, Terms};
 use std::alloc::Global;

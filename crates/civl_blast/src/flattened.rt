@@ -4,12 +4,12 @@ ghost use Rattle.civl_tree.specs.declared.expr.Sort.TheVariants as sort;
 ghost use Rattle.civl_terms.specs.Graphs.{sort_at};
 ghost use Rattle.civl_terms.specs.Weights.{term_weight};
 ghost use Rattle.civl_terms.specs.Building.{Lengthens};
-ghost use Rattle.civl_rows.specs.Cells.{NumbersBelow};
+ghost use Rattle.civl_blast.specs.rows.Cells.{NumbersBelow};
 ghost use Rattle.civl_blast.specs.Standing.{NamesCells, StandsFor, GivesValues, IsSmall};
 ghost use Rattle.civl_blast.specs.Renaming.{place_of_cell, CountUp};
 
+use crate::rows::{Cell, Flat, flatten};
 use crate::{Blasted, Memory, Place, blast_flat};
-use civl_rows::{Cell, Flat, flatten};
 use civl_terms::{Id, Terms};
 use civl_tree::List;
 use std::alloc::Global;

@@ -3,8 +3,8 @@ ghost use Rattle.std.specs.Prelude.{◌≡◌, ◌≤◌, ◌<◌, ◌+◌, ◌+
 ghost use Rattle.civl_tree.specs.rules.StoreSize.{bits_of};
 ghost use Rattle.civl_terms.specs.Graphs.{IsGraph};
 ghost use Rattle.civl_terms.specs.Weights.{term_weight};
-ghost use Rattle.civl_reach.specs.Reaching.{IsRowless, is_plain};
-ghost use Rattle.civl_reach.specs.Marks.{IsMarking};
+ghost use Rattle.civl_blast.specs.reach.Reaching.{IsRowless, is_plain};
+ghost use Rattle.civl_blast.specs.reach.Marks.{IsMarking};
 ghost use Rattle.civl_blast.specs.Steps.{input_bits, input_place, inputs_before, places_before, TakesPlain};
 
 use crate::{Memory, Place};

@@ -9,6 +9,8 @@ mod flattened;
 mod inputs;
 pub mod laws;
 mod memory;
+pub mod reach;
+pub mod rows;
 mod steps;
 
 pub use blasted::{Blasted, Place};

@@ -23,14 +23,14 @@ impl From<civl_cnf::Memory> for Memory {
     }
 }
 
-impl From<civl_reach::Memory> for Memory {
-    fn from(_wanting: civl_reach::Memory) -> Memory {
+impl From<crate::reach::Memory> for Memory {
+    fn from(_wanting: crate::reach::Memory) -> Memory {
         Memory
     }
 }
 
-impl From<civl_rows::Memory> for Memory {
-    fn from(_wanting: civl_rows::Memory) -> Memory {
+impl From<crate::rows::Memory> for Memory {
+    fn from(_wanting: crate::rows::Memory) -> Memory {
         Memory
     }
 }

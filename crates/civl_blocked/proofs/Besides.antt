@@ -9,10 +9,10 @@ use Rattle.civl_meaning.specs.declared.config.Stepped.{Stepped}
 use Rattle.civl_meaning.specs.declared.config.Stepped.TheVariants as answer
 use Rattle.civl_meaning.specs.Step.{step_of}
 use Rattle.civl_meaning.specs.Layers.{program_at}
-use Rattle.civl_blocks.specs.Shadow.{Shadowed, shadowed_step, shadowed_from, shadowed_start, shadowed}
+use Rattle.civl_reduction.specs.blocks.Shadow.{Shadowed, shadowed_step, shadowed_from, shadowed_start, shadowed}
 use Rattle.civl_shadows.specs.Shadows.{Shows}
 use Rattle.civl_shadows.specs.declared.shadow.Shadowed as kept
-use Rattle.civl_gathered.specs.System.{made}
+use Rattle.civl_reduction.specs.gathered.System.{made}
 use Rattle.civl_blocked.specs.declared.ground.Ground.{Ground}
 use Rattle.civl_blocked.specs.Segments.{IsGround, over, program_of}
 use Rattle.civl_blocked.specs.Turning.{IsBeside}

@@ -11,7 +11,7 @@ use Rattle.civl_meaning.specs.declared.config.Plain.{Plain}
 use Rattle.civl_meaning.specs.declared.config.Running.{Running}
 use Rattle.civl_meaning.specs.declared.config.Config.{Config}
 use Rattle.civl_meaning.specs.Failing.{thread_fails, failing_thread, is_failing}
-use Rattle.civl_gathered.specs.System.{there_fails}
+use Rattle.civl_reduction.specs.gathered.System.{there_fails}
 
 true_false : (b : Bool) → b ≡ true → b ≡ false → ⊥
 true_false b e f = cc

@@ -7,12 +7,12 @@ use Rattle.std.proofs.lemmas.List.Elements.{All-nil, All-cons, All-head, All-tai
 use Rattle.civl_meaning.specs.declared.config.Move.{Move}
 use Rattle.civl_meaning.specs.declared.config.Config.{Config}
 use Rattle.civl_meaning.specs.Failing.{IsMove}
-use Rattle.civl_interleavings.specs.Systems.{Failing, System}
-use Rattle.civl_interleavings.specs.Runs.{RunsTo, Opens}
-use Rattle.civl_gathering.specs.Gathered.{others, Passes, FailsBehind, FailsSooner, AllPass}
-use Rattle.civl_gathering.proofs.Gathering.{others_other, all_join}
-use Rattle.civl_gathering.proofs.Counting.{others_more, counted_behind, counted_opens_then}
-use Rattle.civl_gathering.proofs.Standing.{opens_run}
+use Rattle.civl_reduction.specs.interleavings.Systems.{Failing, System}
+use Rattle.civl_reduction.specs.interleavings.Runs.{RunsTo, Opens}
+use Rattle.civl_reduction.specs.gathering.Gathered.{others, Passes, FailsBehind, FailsSooner, AllPass}
+use Rattle.civl_reduction.proofs.gathering.Gathering.{others_other, all_join}
+use Rattle.civl_reduction.proofs.gathering.Counting.{others_more, counted_behind, counted_opens_then}
+use Rattle.civl_reduction.proofs.gathering.Standing.{opens_run}
 use Rattle.civl_blocked.specs.declared.ground.Ground.{Ground}
 use Rattle.civl_blocked.specs.Segments.{over, IsShortened}
 use Rattle.civl_blocked.specs.Shortened.{IsFront, FailsBehindOther}

@@ -2,9 +2,9 @@
 use Rattle.std.proofs.Common.{ℕ, ◌≡◌, Bool, false, List, Some, None, subst}
 use Rattle.std.specs.Prelude.{IsTrue}
 use Rattle.std.proofs.lemmas.Bool.{false≢true}
-use Rattle.civl_interleavings.specs.Systems.{System}
-use Rattle.civl_interleavings.specs.Runs.{RunsTo, Opens}
-use Rattle.civl_gathering.specs.Gathered.{own, others, IsGathered}
+use Rattle.civl_reduction.specs.interleavings.Systems.{System}
+use Rattle.civl_reduction.specs.interleavings.Runs.{RunsTo, Opens}
+use Rattle.civl_reduction.specs.gathering.Gathered.{own, others, IsGathered}
 use Rattle.civl_blocked.proofs.Strides.{one_opened, one_end, no_step, same_end}
 
 module _ {C M : Type 0} (S : System C M) (t : ℕ) (ms : List M) (m : M) (c e x : C) (o : Opens S t (own S.mover t ms) c x) where

@@ -4,7 +4,7 @@ use Rattle.std.specs.Prelude.{All}
 use Rattle.civl_meaning.specs.declared.config.Move.{Move}
 use Rattle.civl_meaning.specs.Failing.{IsMove}
 use Rattle.civl_shadows.specs.declared.shadow.Shadowed as kept
-use Rattle.civl_gathering.specs.Gathered.{others, counted}
+use Rattle.civl_reduction.specs.gathering.Gathered.{others, counted}
 use Rattle.civl_blocked.specs.declared.ground.Ground.{Ground}
 use Rattle.civl_blocked.specs.Segments.{over, mover, IsShortened}
 use Rattle.civl_blocked.specs.Turning.{Standing, Going, Bounded, Room, OnlyMay, measure_of}

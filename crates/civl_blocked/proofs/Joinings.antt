@@ -6,17 +6,17 @@ use Rattle.std.proofs.lemmas.List.Elements.{All-nil, All-cons}
 use Rattle.civl_meaning.specs.declared.config.Move.{Move}
 use Rattle.civl_meaning.specs.declared.config.Config.{Config}
 use Rattle.civl_meaning.specs.Failing.{IsMove}
-use Rattle.civl_interleavings.specs.Systems.{System}
-use Rattle.civl_interleavings.specs.Runs.{RunsTo, MayStep, BlocksTo, IsBlockRun, Staged, Opens}
-use Rattle.civl_interleavings.specs.Reduction.{Between, Late, is_inside}
-use Rattle.civl_interleavings.proofs.Staging.{staged_runs, inside_more, ends_run, ends_staged}
-use Rattle.civl_blocks.specs.Challenged.{challenged}
+use Rattle.civl_reduction.specs.interleavings.Systems.{System}
+use Rattle.civl_reduction.specs.interleavings.Runs.{RunsTo, MayStep, BlocksTo, IsBlockRun, Staged, Opens}
+use Rattle.civl_reduction.specs.interleavings.Reduction.{Between, Late, is_inside}
+use Rattle.civl_reduction.proofs.interleavings.Staging.{staged_runs, inside_more, ends_run, ends_staged}
+use Rattle.civl_reduction.specs.blocks.Challenged.{challenged}
 use Rattle.civl_shadows.specs.declared.shadow.Shadowed as kept
-use Rattle.civl_gathering.specs.Gathered.{own, others, blocks}
-use Rattle.civl_gathering.proofs.Gathering.{all_join, own_all, others_all}
-use Rattle.civl_gathering.proofs.Counting.{split_length, counted_few, blocks_more, blocks_opens, blocks_step}
-use Rattle.civl_gathering.proofs.Standing.{staged_joined}
-use Rattle.civl_gathered.specs.Laws.{IsReached, PlacesAreInside, OthersLeave}
+use Rattle.civl_reduction.specs.gathering.Gathered.{own, others, blocks}
+use Rattle.civl_reduction.proofs.gathering.Gathering.{all_join, own_all, others_all}
+use Rattle.civl_reduction.proofs.gathering.Counting.{split_length, counted_few, blocks_more, blocks_opens, blocks_step}
+use Rattle.civl_reduction.proofs.gathering.Standing.{staged_joined}
+use Rattle.civl_reduction.specs.gathered.Laws.{IsReached, PlacesAreInside, OthersLeave}
 use Rattle.civl_blocked.specs.declared.ground.Ground.{Ground}
 use Rattle.civl_blocked.specs.Segments.{IsGround, over, place_on, program_of, mover, FailsTo, Gathered}
 use Rattle.civl_blocked.specs.declared.segment.Segment.{Segment}

@@ -14,8 +14,8 @@ use Rattle.civl_meaning.specs.Places.{Spot, spot_at}
 use Rattle.civl_meaning.specs.Rest.{Rest, rest_at, head_of}
 use Rattle.civl_meaning.proofs.Rests.{spot_of_rest}
 use Rattle.civl_meaning.specs.Meaning.{Meaning, Does, Runs, Missing}
-use Rattle.civl_exchanges.specs.Doing.{call_doing, layer_doing, leaving, spot_doing, proc_doing}
-use Rattle.civl_gathered.specs.Offered.{offers_of}
+use Rattle.civl_reduction.specs.exchanges.Doing.{call_doing, layer_doing, leaving, spot_doing, proc_doing}
+use Rattle.civl_reduction.specs.gathered.Offered.{offers_of}
 use Rattle.civl_blocked.specs.Offering.{action_in, offers_in, stmt_in}
 
 pub call_so : (plain : Plain) (store : Store) (names : List Name) (locals : List Value) (results : List Name) (at next : ℕ) (m : Meaning) (args : List Value)

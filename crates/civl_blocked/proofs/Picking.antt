@@ -3,11 +3,11 @@ use Rattle.std.proofs.Common.{ℕ, suc, ◌+◌, ◌<◌, ◌≡◌, ◌≢◌, 
 use Rattle.std.specs.Prelude.{All, IfSome}
 use Rattle.std.proofs.lemmas.List.{append-nil, take_more}
 use Rattle.std.proofs.lemmas.List.Elements.{All-get_or}
-use Rattle.civl_interleavings.specs.Systems.{System}
-use Rattle.civl_interleavings.specs.Runs.{RunsTo, Opens}
-use Rattle.civl_gathering.specs.Gathered.{own, others}
-use Rattle.civl_gathering.proofs.Gathering.{own_mine, own_other, others_mine, others_other, own_more}
-use Rattle.civl_gathering.proofs.Counting.{others_more}
+use Rattle.civl_reduction.specs.interleavings.Systems.{System}
+use Rattle.civl_reduction.specs.interleavings.Runs.{RunsTo, Opens}
+use Rattle.civl_reduction.specs.gathering.Gathered.{own, others}
+use Rattle.civl_reduction.proofs.gathering.Gathering.{own_mine, own_other, others_mine, others_other, own_more}
+use Rattle.civl_reduction.proofs.gathering.Counting.{others_more}
 use Rattle.civl_blocked.proofs.Strides.{open_more, opens_step, run_more, runs_step}
 
 pub if_some : {A : Type 0} (P : A → Type 0) (o : Option A) (x : A) → o ≡ Some x → IfSome o P → P x

@@ -1,8 +1,8 @@
 -- Where the code's places are inside a block.
 use Rattle.std.proofs.Common.{ℕ, ◌≡◌, true, sym, ap, ◌∙◌}
 use Rattle.civl_meaning.specs.declared.config.Config.{Config}
-use Rattle.civl_interleavings.specs.Reduction.{is_inside}
-use Rattle.civl_gathered.specs.Laws.{PlacesAreInside}
+use Rattle.civl_reduction.specs.interleavings.Reduction.{is_inside}
+use Rattle.civl_reduction.specs.gathered.Laws.{PlacesAreInside}
 use Rattle.civl_blocked.specs.declared.ground.Ground.{Ground}
 use Rattle.civl_blocked.specs.declared.place.Place.{Place}
 use Rattle.civl_blocked.specs.Places.{place_of}

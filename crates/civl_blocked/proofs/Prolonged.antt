@@ -5,8 +5,8 @@ use Rattle.civl_firing.specs.declared.store.Store.{Store}
 use Rattle.civl_meaning.specs.declared.config.Move.{Move}
 use Rattle.civl_meaning.specs.declared.config.Config.{Config}
 use Rattle.civl_meaning.specs.Layers.{program_at}
-use Rattle.civl_gathered.specs.System.{layer_run}
-use Rattle.civl_gathered.specs.Offered.{offered, AreOffered}
+use Rattle.civl_reduction.specs.gathered.System.{layer_run}
+use Rattle.civl_reduction.specs.gathered.Offered.{offered, AreOffered}
 
 pub offered_more : (program : Program) (layer : ℕ) (store : Store) (t : ℕ) (ms : List Move) (m : Move) (c d e : Config) → AreOffered program layer store t ms c d → m ≡ offered (program_at program layer) d t
     → (layer_run program layer store).step d m ≡ Some e → (layer_run program layer store).inside e t ≡ true → AreOffered program layer store t (ms ++ m ∷ []) c e

@@ -13,16 +13,16 @@ use Rattle.civl_meaning.specs.Step.{step_of}
 use Rattle.civl_meaning.specs.Run as meaning
 use Rattle.civl_meaning.specs.Failing.{IsMove, thread_fails, is_failing}
 use Rattle.civl_meaning.specs.Layers.{program_at}
-use Rattle.civl_interleavings.specs.Systems.{Failing, System}
-use Rattle.civl_interleavings.specs.Runs.{RunsTo}
-use Rattle.civl_interleavings.specs.Reduction.{Place, Between, Early, Late, is_inside}
-use Rattle.civl_interleavings.proofs.Staging.{staged_runs}
+use Rattle.civl_reduction.specs.interleavings.Systems.{Failing, System}
+use Rattle.civl_reduction.specs.interleavings.Runs.{RunsTo}
+use Rattle.civl_reduction.specs.interleavings.Reduction.{Place, Between, Early, Late, is_inside}
+use Rattle.civl_reduction.proofs.interleavings.Staging.{staged_runs}
 use Rattle.civl_shadows.specs.declared.shadow.Shadowed as kept
-use Rattle.civl_gathering.specs.Gathered.{others, counted, AllPass}
-use Rattle.civl_gathering.proofs.Gathering.{others_mine, all_join}
-use Rattle.civl_gathering.proofs.Counting.{others_more, counted_behind, counted_last}
-use Rattle.civl_gathered.specs.System.{made, there_fails}
-use Rattle.civl_gathered.specs.Laws.{IsReached, PlacesAreInside}
+use Rattle.civl_reduction.specs.gathering.Gathered.{others, counted, AllPass}
+use Rattle.civl_reduction.proofs.gathering.Gathering.{others_mine, all_join}
+use Rattle.civl_reduction.proofs.gathering.Counting.{others_more, counted_behind, counted_last}
+use Rattle.civl_reduction.specs.gathered.System.{made, there_fails}
+use Rattle.civl_reduction.specs.gathered.Laws.{IsReached, PlacesAreInside}
 use Rattle.civl_blocked.specs.declared.ground.Ground.{Ground}
 use Rattle.civl_blocked.specs.Segments.{IsGround, over, place_on, program_of, mover}
 use Rattle.civl_blocked.specs.Turning.{Standing, Room, ended, left_of, measure_of}

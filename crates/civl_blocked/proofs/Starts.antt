@@ -12,12 +12,12 @@ use Rattle.civl_meaning.specs.Failing.{IsMove}
 use Rattle.civl_meaning.specs.Step.{start}
 use Rattle.civl_meaning.specs.Run as meaning
 use Rattle.civl_meaning.specs.Layers.{program_at}
-use Rattle.civl_interleavings.specs.Runs.{RunsTo, Staged, begun}
-use Rattle.civl_blocks.specs.Challenged.{challenged}
-use Rattle.civl_blocks.specs.Shadow.{shadowed_start}
+use Rattle.civl_reduction.specs.interleavings.Runs.{RunsTo, Staged, begun}
+use Rattle.civl_reduction.specs.blocks.Challenged.{challenged}
+use Rattle.civl_reduction.specs.blocks.Shadow.{shadowed_start}
 use Rattle.civl_shadows.specs.Shadows.{Shows}
 use Rattle.civl_shadows.specs.declared.shadow.Shadowed as kept
-use Rattle.civl_gathered.specs.System.{made}
+use Rattle.civl_reduction.specs.gathered.System.{made}
 use Rattle.civl_blocked.specs.declared.ground.Ground.{Ground}
 use Rattle.civl_blocked.specs.Blocked.{Fails, IsTurned}
 use Rattle.civl_blocked.specs.Segments.{over, program_of, FailsTo}

@@ -1,10 +1,10 @@
 -- Runs, step by step.
 use Rattle.std.proofs.Common.{ℕ, ◌≡◌, true, List, [], ◌∷◌, ◌++◌, None, Some, refl, sym, subst, ◌∙◌}
 use Rattle.std.proofs.lemmas.Option.{same_Some, none-some}
-use Rattle.civl_interleavings.specs.Systems.{System}
-use Rattle.civl_interleavings.specs.Runs.{RunsTo, Opens}
-use Rattle.civl_interleavings.specs.Reduction.{Place, Early}
-use Rattle.civl_gathering.specs.Gathered.{AllPass, AreEarly}
+use Rattle.civl_reduction.specs.interleavings.Systems.{System}
+use Rattle.civl_reduction.specs.interleavings.Runs.{RunsTo, Opens}
+use Rattle.civl_reduction.specs.interleavings.Reduction.{Place, Early}
+use Rattle.civl_reduction.specs.gathering.Gathered.{AllPass, AreEarly}
 use Rattle.civl_blocked.specs.Segments.{FailsTo}
 
 module _ {C M : Type 0} (S : System C M) where

@@ -7,12 +7,12 @@ use Rattle.std.proofs.lemmas.Option.{none-some}
 use Rattle.civl_meaning.specs.declared.config.Move.{Move}
 use Rattle.civl_meaning.specs.declared.config.Config.{Config}
 use Rattle.civl_meaning.specs.Failing.{IsMove}
-use Rattle.civl_interleavings.specs.Systems.{System}
-use Rattle.civl_interleavings.specs.Runs.{RunsTo, MayStep, opened, BlocksTo, Staged, goes, ends}
-use Rattle.civl_interleavings.proofs.Staging.{staged_runs, blocks_more}
-use Rattle.civl_gathering.specs.Gathered.{blocks}
-use Rattle.civl_gathering.proofs.Gathering.{all_join}
-use Rattle.civl_gathering.proofs.Counting as counting
+use Rattle.civl_reduction.specs.interleavings.Systems.{System}
+use Rattle.civl_reduction.specs.interleavings.Runs.{RunsTo, MayStep, opened, BlocksTo, Staged, goes, ends}
+use Rattle.civl_reduction.proofs.interleavings.Staging.{staged_runs, blocks_more}
+use Rattle.civl_reduction.specs.gathering.Gathered.{blocks}
+use Rattle.civl_reduction.proofs.gathering.Gathering.{all_join}
+use Rattle.civl_reduction.proofs.gathering.Counting as counting
 use Rattle.civl_shadows.specs.declared.shadow.Shadowed as kept
 use Rattle.civl_blocked.specs.declared.ground.Ground.{Ground}
 use Rattle.civl_blocked.specs.declared.arranging.Arranged.{Arranged}

@@ -3,7 +3,7 @@ use Rattle.std.specs.Prelude.{ℕ, ◌+◌, ◌<◌, ◌≤◌, ◌≡◌, false
 use Rattle.civl_meaning.specs.declared.config.Move.{Move}
 use Rattle.civl_meaning.specs.declared.config.Config.{Config}
 use Rattle.civl_meaning.specs.Failing.{IsMove}
-use Rattle.civl_interleavings.specs.Runs.{RunsTo, BlocksTo, Staged}
+use Rattle.civl_reduction.specs.interleavings.Runs.{RunsTo, BlocksTo, Staged}
 use Rattle.civl_blocked.specs.declared.ground.Ground.{Ground}
 use Rattle.civl_blocked.specs.declared.arranging.Arranged.{Arranged}
 use Rattle.civl_blocked.specs.declared.leading.Found.{Found}

@@ -9,12 +9,12 @@ use Rattle.civl_meaning.specs.Step.{start}
 use Rattle.civl_meaning.specs.Run.{RunsTo}
 use Rattle.civl_meaning.specs.Failing.{is_failing, IsMove}
 use Rattle.civl_meaning.specs.Layers.{program_at}
-use Rattle.civl_interleavings.specs.Runs.{IsBlockRun}
-use Rattle.civl_interleavings.specs.Reduction.{Late}
-use Rattle.civl_blocks.specs.Challenged.{challenged}
-use Rattle.civl_gathering.specs.Gathered.{blocks}
-use Rattle.civl_gathered.specs.System.{layer_run, place_at}
-use Rattle.civl_gathered.specs.Offered.{AreOffered}
+use Rattle.civl_reduction.specs.interleavings.Runs.{IsBlockRun}
+use Rattle.civl_reduction.specs.interleavings.Reduction.{Late}
+use Rattle.civl_reduction.specs.blocks.Challenged.{challenged}
+use Rattle.civl_reduction.specs.gathering.Gathered.{blocks}
+use Rattle.civl_reduction.specs.gathered.System.{layer_run, place_at}
+use Rattle.civl_reduction.specs.gathered.Offered.{AreOffered}
 use Rattle.civl_blocked.specs.declared.blocked.Blocked.{Blocked}
 use Rattle.civl_blocked.specs.declared.blocked.Blocked.TheVariants.{Run, Spent}
 

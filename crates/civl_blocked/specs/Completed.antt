@@ -3,14 +3,14 @@ use Rattle.std.specs.Prelude.{ℕ, ◌≡◌, true, false, List, ◌++◌, lengt
 use Rattle.civl_meaning.specs.declared.config.Move.{Move}
 use Rattle.civl_meaning.specs.declared.config.Config.{Config}
 use Rattle.civl_meaning.specs.Failing.{IsMove}
-use Rattle.civl_interleavings.specs.Reduction.{Late}
+use Rattle.civl_reduction.specs.interleavings.Reduction.{Late}
 use Rattle.civl_blocked.specs.declared.ground.Ground.{Ground}
 use Rattle.civl_blocked.specs.declared.segment.Segment.{Segment}
 use Rattle.civl_blocked.specs.declared.completing.Completed.{Completed}
 use Rattle.civl_blocked.specs.declared.completing.Completed.TheVariants.{Whole, Stopped, Spent}
-use Rattle.civl_gathered.specs.Offered.{AreOffered}
+use Rattle.civl_reduction.specs.gathered.Offered.{AreOffered}
 use Rattle.civl_blocked.specs.Segments.{over, place_on, program_of}
-use Rattle.civl_gathered.specs.Laws.{IsReached}
+use Rattle.civl_reduction.specs.gathered.Laws.{IsReached}
 
 abbrev pub OfferedOn : Ground → ℕ → List Move → Config → Config → Type 0
 OfferedOn g t ms c e = AreOffered (program_of g) g.layer g.store.now t ms c e

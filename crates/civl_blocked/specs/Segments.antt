@@ -5,15 +5,15 @@ use Rattle.civl_meaning.specs.declared.config.Move.{Move}
 use Rattle.civl_meaning.specs.declared.config.Config.{Config}
 use Rattle.civl_meaning.specs.Failing.{IsMove}
 use Rattle.civl_meaning.specs.Table.{ArePlaces}
-use Rattle.civl_interleavings.specs.Systems.{Failing, System}
-use Rattle.civl_interleavings.specs.Runs.{RunsTo}
-use Rattle.civl_interleavings.specs.Reduction.{Place}
-use Rattle.civl_checked.specs.Checked.{IsChecked}
+use Rattle.civl_reduction.specs.interleavings.Systems.{Failing, System}
+use Rattle.civl_reduction.specs.interleavings.Runs.{RunsTo}
+use Rattle.civl_reduction.specs.interleavings.Reduction.{Place}
+use Rattle.civl_reduction.specs.checked.Checked.{IsChecked}
 use Rattle.civl_shadows.specs.Shadows.{IsLayerOf}
-use Rattle.civl_gathering.specs.Gathered.{others, FailsSooner, IsGathered, counted}
+use Rattle.civl_reduction.specs.gathering.Gathered.{others, FailsSooner, IsGathered, counted}
 use Rattle.civl_blocked.specs.declared.ground.Ground.{Ground}
 use Rattle.civl_blocked.specs.declared.segment.Segment.{Segment}
-use Rattle.civl_gathered.specs.System.{layer_run, place_at}
+use Rattle.civl_reduction.specs.gathered.System.{layer_run, place_at}
 
 -- ---- the ground
 

@@ -3,9 +3,9 @@ use Rattle.std.specs.Prelude.{ℕ, ◌+◌, ◌≤◌, ◌≡◌, ◌≢◌, dro
 use Rattle.civl_meaning.specs.declared.config.Move.{Move}
 use Rattle.civl_meaning.specs.declared.config.Config.{Config}
 use Rattle.civl_meaning.specs.Failing.{IsMove}
-use Rattle.civl_interleavings.specs.Systems.{System}
+use Rattle.civl_reduction.specs.interleavings.Systems.{System}
 use Rattle.civl_blocked.specs.Segments.{FailsTo}
-use Rattle.civl_gathering.specs.Gathered.{own, counted, FailsAlong}
+use Rattle.civl_reduction.specs.gathering.Gathered.{own, counted, FailsAlong}
 
 -- it is no longer than these moves, and fails; all its moves are of the thread's block
 pub record IsFront (S : System Config Move) (t : ℕ) (ms : List Move) (from : Config) (front : List Move) : Type 0 where

@@ -3,13 +3,13 @@ use Rattle.std.specs.Prelude.{ℕ, ◌+◌, ◌*◌, ◌≤◌, ◌<◌, ◌≡�
 use Rattle.civl_meaning.specs.declared.config.Move.{Move}
 use Rattle.civl_meaning.specs.declared.config.Config.{Config}
 use Rattle.civl_meaning.specs.Failing.{IsMove}
-use Rattle.civl_interleavings.specs.Systems.{Failing}
-use Rattle.civl_interleavings.specs.Runs.{Staged}
-use Rattle.civl_interleavings.specs.Reduction.{Late, Between}
-use Rattle.civl_blocks.specs.Shadow.{shadowed}
+use Rattle.civl_reduction.specs.interleavings.Systems.{Failing}
+use Rattle.civl_reduction.specs.interleavings.Runs.{Staged}
+use Rattle.civl_reduction.specs.interleavings.Reduction.{Late, Between}
+use Rattle.civl_reduction.specs.blocks.Shadow.{shadowed}
 use Rattle.civl_shadows.specs.Shadows.{Shows}
 use Rattle.civl_shadows.specs.declared.shadow.Shadowed as kept
-use Rattle.civl_gathering.specs.Gathered.{counted, blocks, others, FailsSooner, AllPass}
+use Rattle.civl_reduction.specs.gathering.Gathered.{counted, blocks, others, FailsSooner, AllPass}
 use Rattle.civl_blocked.specs.declared.ground.Ground.{Ground}
 use Rattle.civl_blocked.specs.declared.segment.Segment.{Segment}
 use Rattle.civl_blocked.specs.declared.turning.Turning.{Turning}

@@ -2,9 +2,9 @@
 use Rattle.std.specs.Prelude.{ℕ, ◌≡◌, ◌≢◌, false, List, [], ◌∷◌, ◌++◌, Some}
 use Rattle.civl_meaning.specs.declared.config.Move.{Move}
 use Rattle.civl_meaning.specs.declared.config.Config.{Config}
-use Rattle.civl_interleavings.specs.Systems.{Failing}
-use Rattle.civl_interleavings.specs.Reduction.{Early}
-use Rattle.civl_gathering.specs.Gathered.{AllPass, AreEarly}
+use Rattle.civl_reduction.specs.interleavings.Systems.{Failing}
+use Rattle.civl_reduction.specs.interleavings.Reduction.{Early}
+use Rattle.civl_reduction.specs.gathering.Gathered.{AllPass, AreEarly}
 use Rattle.civl_blocked.specs.declared.ground.Ground.{Ground}
 use Rattle.civl_blocked.specs.declared.segment.Segment.{Segment}
 use Rattle.civl_blocked.specs.declared.walking.Walked.{Walked}

@@ -37,8 +37,8 @@ pub fn complete(
     requires late { StandsLate ground.now end thread }
     ensures { IfOk result (IsCompleted ground.now thread steps moves.items end) }
 {
-    civl_gathered::laws::late_threads_step();
-    civl_gathered::laws::places_stay();
+    civl_reduction::gathered::laws::late_threads_step();
+    civl_reduction::gathered::laws::places_stay();
     let count = moves.len();
     let mut moves = moves;
     let mut config = end;

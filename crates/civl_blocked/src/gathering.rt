@@ -1,8 +1,8 @@
 // The moves of a thread, gathered at the front of a segment.
 ghost use Rattle.std.specs.Prelude.{ℕ, ◌≡◌, ◌↔◌, true, false, IfOk, IsTrue};
 ghost use Rattle.civl_meaning.specs.declared.config.Config.{Config as There};
-ghost use Rattle.civl_interleavings.specs.Runs.{RunsTo, Opens};
-ghost use Rattle.civl_gathering.specs.Gathered.{own, others};
+ghost use Rattle.civl_reduction.specs.interleavings.Runs.{RunsTo, Opens};
+ghost use Rattle.civl_reduction.specs.gathering.Gathered.{own, others};
 ghost use Rattle.civl_blocked.specs.Segments.{IsGround, over, mover, Gathered};
 
 use crate::ground::Ground;
@@ -25,7 +25,7 @@ fn runs_own(
     ensures made { IfOk result (λ b. IsTrue b → Opens (over ground.now) thread (own mover thread moves.now) config.old config.new) }
     ensures not { IfOk result (λ b. (IsTrue b → ⊥) → (x : There) → Opens (over ground.now) thread (own mover thread moves.now) config.old x → ⊥) }
 {
-    civl_gathered::laws::places_stay();
+    civl_reduction::gathered::laws::places_stay();
     for chosen in moves {
         if chosen.thread != thread {
             continue;

@@ -3,8 +3,8 @@ ghost use Rattle.std.specs.Prelude.{◌≡◌, ◌+◌, ◌≤◌, ◌∷◌, []
 ghost use Rattle.civl_meaning.specs.declared.config.Config.{Config as There};
 ghost use Rattle.civl_meaning.specs.declared.config.Move.{Move as Given};
 ghost use Rattle.civl_meaning.specs.Failing.{IsMove};
-ghost use Rattle.civl_interleavings.specs.Runs.{BlocksTo, Opens};
-ghost use Rattle.civl_gathering.specs.Gathered.{own};
+ghost use Rattle.civl_reduction.specs.interleavings.Runs.{BlocksTo, Opens};
+ghost use Rattle.civl_reduction.specs.gathering.Gathered.{own};
 ghost use Rattle.civl_blocked.specs.Arranged.{IsLonger, IsCalm, IsHard};
 ghost use Rattle.civl_blocked.specs.Blocked.{IsTurned};
 ghost use Rattle.civl_blocked.specs.Segments.{IsGround, over, program_of, mover};
@@ -83,7 +83,7 @@ fn ends_challenged(
     ensures calm { IfOk result (λ b. b ≡ false → (ms : List Given) → IsBeside ground.now ms beside.now → IsCalm ground.now beside.now.config thread ms) }
     ensures hard { IfOk result (λ b. b ≡ true → (ms : List Given) → IsBeside ground.now ms beside.now → IsHard ground.now beside.now.config thread ms) }
 {
-    civl_gathered::laws::places_stay();
+    civl_reduction::gathered::laws::places_stay();
     let program = &ground.plain.program;
     let place = place_at(alloc, program, ground.layer, &beside.config, thread)?;
     if is_inside(place) {
@@ -108,7 +108,7 @@ pub fn join_blocks(
     ensures goes { IfOk result (λ challenged. challenged ≡ false → IsLonger ground.now done.old.items done.new.items beside.old beside.new blocks.now) }
     ensures done { IfOk result (λ challenged. challenged ≡ true → (given : List Given) → ended ground.now done.old.items + length blocks.now ≤ length given → IsTurned (program_of ground.now) ground.now.layer ground.now.store.now given done.new.items) }
 {
-    civl_gathered::laws::places_stay();
+    civl_reduction::gathered::laws::places_stay();
     for chosen in blocks {
         join(alloc, ground, done, beside, chosen)?;
         if ends_challenged(alloc, ground, beside, chosen.thread)? {

@@ -3,8 +3,8 @@ ghost use Rattle.std.specs.Prelude.{◌≡◌, ◌+◌, ◌<◌, ◌≤◌, drop
 ghost use Rattle.std.specs.VecDeque.{deque_len};
 ghost use Rattle.civl_bits.specs.Value.{IsValue};
 ghost use Rattle.civl_meaning.specs.Failing.{IsMove};
-ghost use Rattle.civl_interleavings.specs.Runs.{RunsTo, BlocksTo, MayStep, opened};
-ghost use Rattle.civl_interleavings.specs.Reduction.{is_inside};
+ghost use Rattle.civl_reduction.specs.interleavings.Runs.{RunsTo, BlocksTo, MayStep, opened};
+ghost use Rattle.civl_reduction.specs.interleavings.Reduction.{is_inside};
 ghost use Rattle.civl_blocked.specs.Places.{place_of};
 ghost use Rattle.civl_blocked.specs.Segments.{IsGround, over, FailsTo};
 ghost use Rattle.civl_blocked.specs.Arranged.{Leads, IsArranged, IsFound};
@@ -112,7 +112,7 @@ fn runs_blocks(
     requires { IsGround ground.now }
     ensures { IfOk result (λ b. IsTrue b → BlocksTo (over ground.now) None blocks.now config.old None config.new) }
 {
-    civl_gathered::laws::places_stay();
+    civl_reduction::gathered::laws::places_stay();
     let mut owner = None;
     for chosen in blocks {
         if !may_step(owner, chosen.thread) {

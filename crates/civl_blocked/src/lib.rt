@@ -8,7 +8,7 @@
 //! lead elsewhere half as many are tried, and where there is no whole block the run goes on by one. The moves up to the next turn
 //! of a block are gathered at the front of the early steps before it, and those from the turn to the block's end at the front of
 //! what follows; where they don't lead to the same end, something fails sooner, without a move of another thread, and the run
-//! becomes shorter. That one of the two is so are the laws of civl_gathered. A block that the moves leave unfinished is completed
+//! becomes shorter. That one of the two is so are the laws of civl_reduction::gathered. A block that the moves leave unfinished is completed
 //! by steps of its thread alone, with offered choices.
 #![tactic(auto)]
 

@@ -10,9 +10,9 @@ ghost use Rattle.civl_meaning.specs.Change.{caller_of};
 ghost use Rattle.civl_meaning.specs.Rest.{head_of};
 ghost use Rattle.civl_firing.specs.Scope.{gate_values};
 ghost use Rattle.civl_firing.specs.Settings.{scope_in};
-ghost use Rattle.civl_exchanges.specs.Doing.{doing, layer_doing, proc_doing};
+ghost use Rattle.civl_reduction.specs.exchanges.Doing.{doing, layer_doing, proc_doing};
 ghost use Rattle.civl_shadows.specs.Rests.{rest_of};
-ghost use Rattle.civl_gathered.specs.Offered.{offers_of, offered};
+ghost use Rattle.civl_reduction.specs.gathered.Offered.{offers_of, offered};
 ghost use Rattle.civl_blocked.specs.Offering.{action_in, offers_in, stmt_in};
 
 use civl_bits::Value;

@@ -1,14 +1,14 @@
 // Where threads stand.
 ghost use Rattle.std.specs.Prelude.{◌≡◌, ◌+◌, ◌<◌, ◌^◌, Some, List, [], IfOk, IsTrue, IsFalse, option_copied, slice_get, map, length};
 ghost use Rattle.civl_meaning.specs.declared.config.Config.{Config as Given};
-ghost use Rattle.civl_interleavings.specs.Reduction.{Early, Late, is_inside};
+ghost use Rattle.civl_reduction.specs.interleavings.Reduction.{Early, Late, is_inside};
 ghost use Rattle.civl_yields.specs.Movers.{called_action, proc_action};
 ghost use Rattle.civl_yields.specs.Places.{too_late};
-ghost use Rattle.civl_blocks.specs.Ahead.{stops, ahead, ahead_list, ahead_in};
-ghost use Rattle.civl_blocks.specs.Stands.{stands};
+ghost use Rattle.civl_reduction.specs.blocks.Ahead.{stops, ahead, ahead_list, ahead_in};
+ghost use Rattle.civl_reduction.specs.blocks.Stands.{stands};
 ghost use Rattle.civl_shadows.specs.Rests.{rest_of};
 ghost use Rattle.civl_blocked.specs.Places.{place_of};
-ghost use Rattle.civl_gathered.specs.System.{place_at};
+ghost use Rattle.civl_reduction.specs.gathered.System.{place_at};
 
 use civl_meaning::{Config, Running};
 use civl_shadows::frames::frame_of_layer;

@@ -1,7 +1,7 @@
 // Block runs from failing interleavings.
 ghost use Rattle.std.specs.Prelude.{◌+◌, ◌<◌, ◌^◌, All, IfOk};
 ghost use Rattle.civl_meaning.specs.Failing.{IsMove};
-ghost use Rattle.civl_checked.specs.Checked.{IsChecked};
+ghost use Rattle.civl_reduction.specs.checked.Checked.{IsChecked};
 ghost use Rattle.civl_shadows.specs.Shadows.{IsLayerOf};
 ghost use Rattle.civl_blocked.specs.Blocked.{Fails, IsBlocked};
 

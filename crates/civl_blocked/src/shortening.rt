@@ -1,6 +1,6 @@
 // Shorter lists of moves that fail.
 ghost use Rattle.std.specs.Prelude.{◌<◌, length, IfOk, IfSome, IfNone};
-ghost use Rattle.civl_gathering.specs.Gathered.{own, FailsAlong, FailsSooner};
+ghost use Rattle.civl_reduction.specs.gathering.Gathered.{own, FailsAlong, FailsSooner};
 ghost use Rattle.civl_blocked.specs.Segments.{IsGround, over, mover, IsShortened};
 ghost use Rattle.civl_blocked.specs.Shortened.{IsFront, IsFrontBehind, FailsBehindOther};
 
@@ -25,7 +25,7 @@ fn failing_front(
     ensures some { IfOk result (λ o. IfSome o (λ front. IsFront (over ground.now) thread moves.now from.now front.items)) }
     ensures none { IfOk result (λ o. IfNone o (FailsAlong (over ground.now) thread (own mover thread moves.now) from.now → ⊥)) }
 {
-    civl_gathered::laws::places_stay();
+    civl_reduction::gathered::laws::places_stay();
     let mut config = copy_config(alloc, from)?;
     let mut front = Vec::new(alloc);
     if failing_in(ground, &config)?.is_some() {

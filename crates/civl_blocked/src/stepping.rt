@@ -1,7 +1,7 @@
 // Steps, and where they leave their threads.
 ghost use Rattle.std.specs.Prelude.{ℕ, ◌≡◌, true, false, Some, None, IfOk, IfSome, IfNone, IsTrue, ◌↔◌, ◌⊎◌};
 ghost use Rattle.civl_meaning.specs.declared.config.Config.{Config as Given};
-ghost use Rattle.civl_interleavings.specs.Systems.{Failing};
+ghost use Rattle.civl_reduction.specs.interleavings.Systems.{Failing};
 ghost use Rattle.civl_blocked.specs.Places.{place_of};
 ghost use Rattle.civl_blocked.specs.Segments.{IsGround, over, place_on};
 

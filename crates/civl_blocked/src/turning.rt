@@ -4,8 +4,8 @@ ghost use Rattle.std.specs.VecDeque.{deque_len};
 ghost use Rattle.civl_blocked.specs.Arranged.{IsArranged};
 ghost use Rattle.civl_meaning.specs.declared.config.Config.{Config as There};
 ghost use Rattle.civl_meaning.specs.declared.config.Move.{Move as Given};
-ghost use Rattle.civl_interleavings.specs.Runs.{Opens};
-ghost use Rattle.civl_gathering.specs.Gathered.{own, others};
+ghost use Rattle.civl_reduction.specs.interleavings.Runs.{Opens};
+ghost use Rattle.civl_reduction.specs.gathering.Gathered.{own, others};
 ghost use Rattle.civl_blocked.specs.Segments.{IsGround, over, program_of, mover, Gathered};
 ghost use Rattle.civl_blocked.specs.declared.turning.Next.TheVariants.{Goes, Done};
 ghost use Rattle.civl_blocked.specs.Blocked.{IsBlocked};
@@ -92,7 +92,7 @@ fn take_in(
     ensures going { IfOk result (λ challenged. (IsTrue challenged → ⊥) → (bound before : ℕ) → HasRoom ground.now bound before turning.old (whole_of segment.now turning.old.rest.items) (part_of thread segment.now turning.old.rest.items) → IsNext ground.now bound before turning.new Goes) }
     ensures done { IfOk result (λ challenged. IsTrue challenged → (bound before : ℕ) → HasRoom ground.now bound before turning.old (whole_of segment.now turning.old.rest.items) (part_of thread segment.now turning.old.rest.items) → IsNext ground.now bound before turning.new Done) }
 {
-    civl_gathered::laws::places_stay();
+    civl_reduction::gathered::laws::places_stay();
     let moves = segment.moves.as_slice();
     join_own(
         alloc,
@@ -181,10 +181,10 @@ fn finish(
     requires finishing { IsFinishing ground.now turning.old thread moves.items end }
     ensures { IfOk result (λ next. (bound before : ℕ) → HasRoom ground.now bound before turning.old (length moves.items) (length (others mover thread moves.items)) → IsNext ground.now bound before turning.new next) }
 {
-    civl_gathered::laws::places_stay();
-    civl_gathered::laws::moves_gather();
-    civl_gathered::laws::moves_stop();
-    civl_gathered::laws::late_threads_step();
+    civl_reduction::gathered::laws::places_stay();
+    civl_reduction::gathered::laws::moves_gather();
+    civl_reduction::gathered::laws::moves_stop();
+    civl_reduction::gathered::laws::late_threads_step();
     let Some(failing) = failing_in(ground, &end)? else {
         unreachable!()
     };
@@ -211,8 +211,8 @@ fn go_late(
     requires open { turning.old.open ≡ Some thread }
     ensures { IfOk result (λ next. (bound : ℕ) → IsTurning ground.now bound turning.old → IsNext ground.now bound (measure ground.now turning.old) turning.new next) }
 {
-    civl_gathered::laws::places_stay();
-    civl_gathered::laws::moves_gather();
+    civl_reduction::gathered::laws::places_stay();
+    civl_reduction::gathered::laws::moves_gather();
     match to_end(
         alloc,
         ground,
@@ -277,8 +277,8 @@ fn go_early(
     requires open { turning.old.open ≡ None }
     ensures { IfOk result (λ next. (bound : ℕ) → IsTurning ground.now bound turning.old → IsNext ground.now bound (measure ground.now turning.old) turning.new next) }
 {
-    civl_gathered::laws::moves_gather();
-    civl_gathered::laws::moves_stop();
+    civl_reduction::gathered::laws::moves_gather();
+    civl_reduction::gathered::laws::moves_stop();
     if failing_in(ground, &turning.beside.config)?.is_some() {
         return Ok(Next::Done);
     }

@@ -1,6 +1,6 @@
 // The moves up to the turn of a block, and up to its end.
 ghost use Rattle.std.specs.Prelude.{◌≡◌, IfOk, IsTrue, IsFalse, true, false};
-ghost use Rattle.civl_interleavings.specs.Reduction.{is_inside};
+ghost use Rattle.civl_reduction.specs.interleavings.Reduction.{is_inside};
 ghost use Rattle.civl_blocked.specs.Places.{place_of};
 ghost use Rattle.civl_blocked.specs.Segments.{IsGround, over, FailsTo};
 ghost use Rattle.civl_blocked.specs.Walked.{IsToTurn, IsToEnd};
@@ -70,7 +70,7 @@ pub fn to_end(
     requires fails { FailsTo (over ground.now) rest.old.items from.now }
     ensures { IfOk result (IsToEnd ground.now from.now thread rest.old.items rest.new.items) }
 {
-    civl_gathered::laws::places_stay();
+    civl_reduction::gathered::laws::places_stay();
     let mut config = copy_config(alloc, from)?;
     let mut moves = Vec::new(alloc);
     while let Some(chosen) = rest.pop_front() {

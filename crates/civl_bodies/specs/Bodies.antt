@@ -7,7 +7,7 @@ use Rattle.civl_tree.specs.declared.program.Program.{Program}
 use Rattle.civl_tree.specs.Numbering.{statements_of}
 use Rattle.civl_layers.specs.declared.cut.Cut.{Cut}
 use Rattle.civl_layers.specs.Cuts.{proc_cuts}
-use Rattle.civl_paths.specs.Flows.{flow_from}
+use Rattle.civl_conditions.specs.paths.Flows.{flow_from}
 use Rattle.civl_bodies.specs.declared.body.Body.{Body}
 use Rattle.civl_bodies.specs.declared.body.Bodies.{Bodies}
 

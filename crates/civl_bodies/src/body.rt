@@ -8,10 +8,10 @@ ghost use Rattle.civl_layers.specs.declared.cut.Cut.{Cut};
 ghost use Rattle.civl_bodies.specs.Bodies.{AreBodies, ArePassed, IsBody};
 
 use crate::numbers::Numbers;
+use civl_conditions::paths::met_from;
 use civl_layers::{Cut, Layered, cuts, program};
-use civl_paths::met_from;
+use civl_names::walks::statements;
 use civl_tree::{List, Memory, Proc, Stmt};
-use civl_walks::statements;
 use std::alloc::Global;
 
 /// What belongs to a procedure: all its statements in text order, each before those in it, so that the number of a statement is its

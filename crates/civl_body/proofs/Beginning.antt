@@ -11,10 +11,10 @@ use Rattle.civl_layers.specs.declared.cut.CutKind.{CutKind}
 use Rattle.civl_layers.specs.declared.cut.CutKind.TheVariants as kind
 use Rattle.civl_meaning.specs.Rest.{rest_at}
 use Rattle.civl_terms.specs.declared.node.Node.{Node}
-use Rattle.civl_paths.specs.Paths.{Course}
-use Rattle.civl_paths.specs.Flows.{Flow, flow_all, flow_rest, flow_from, flow_kind}
-use Rattle.civl_paths.proofs.Each.{each_numbered, rest_each}
-use Rattle.civl_sweeps.specs.Sweeps.{Swept, sweep_all, sweep_rest, sweep_from, sweep_kind}
+use Rattle.civl_conditions.specs.paths.Paths.{Course}
+use Rattle.civl_conditions.specs.paths.Flows.{Flow, flow_all, flow_rest, flow_from, flow_kind}
+use Rattle.civl_conditions.proofs.paths.Each.{each_numbered, rest_each}
+use Rattle.civl_moves.specs.sweeps.Sweeps.{Swept, sweep_all, sweep_rest, sweep_from, sweep_kind}
 use Rattle.civl_states.specs.declared.choices.Chosen.{Chosen}
 use Rattle.civl_moves.specs.declared.sweep.Sweep.{Sweep}
 use Rattle.civl_moves.specs.States.{swept_at}

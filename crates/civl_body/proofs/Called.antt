@@ -14,7 +14,7 @@ use Rattle.civl_tree.specs.rules.Sorts.{same_sort}
 use Rattle.civl_tree.specs.rules.Typing.{signature_rule}
 use Rattle.civl_tree.specs.rules.Uses.{param_sorts}
 use Rattle.civl_tree.proofs.Kept.{proc_kept}
-use Rattle.civl_values.proofs.Sorting.{both, same_sort-true}
+use Rattle.civl_firing.proofs.values.Sorting.{both, same_sort-true}
 use Rattle.civl_meaning.specs.declared.config.Plain.{Plain}
 use Rattle.civl_firing.specs.Truth.{place_of}
 use Rattle.civl_meaning.specs.Layers.{program_at}

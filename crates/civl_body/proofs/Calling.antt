@@ -21,10 +21,10 @@ use Rattle.civl_terms.specs.Building.{Grows}
 use Rattle.civl_actions.specs.Scopes.{AreOf, IsTyped}
 use Rattle.civl_actions.specs.Actions.{values_at}
 use Rattle.civl_actions.proofs.Staying.{values_stay}
-use Rattle.civl_paths.specs.Choices.{action_meant}
-use Rattle.civl_paths.specs.Paths.{Course}
-use Rattle.civl_sweeps.specs.Sweeps.{Swept, halted, with_action, with_meaning, with_call}
-use Rattle.civl_formulas.specs.Said.{Env}
+use Rattle.civl_conditions.specs.paths.Choices.{action_meant}
+use Rattle.civl_conditions.specs.paths.Paths.{Course}
+use Rattle.civl_moves.specs.sweeps.Sweeps.{Swept, halted, with_action, with_meaning, with_call}
+use Rattle.civl_states.specs.formula_parts.Said.{Env}
 use Rattle.civl_moves.specs.declared.sweep.Sweep.{Sweep}
 use Rattle.civl_moves.specs.Calls.{AreBodyTerms, ResultsSuit}
 use Rattle.civl_moves.specs.Expressions.{IsProcIn}

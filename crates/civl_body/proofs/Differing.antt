@@ -9,7 +9,7 @@ use Rattle.civl_tree.specs.declared.program.Proc.{Proc}
 use Rattle.civl_tree.specs.rules.Names.{same_name, has_name, param_names}
 use Rattle.civl_tree.specs.rules.Scopes.{Binding, bind_params, bind_locals, bind_proc}
 use Rattle.civl_linear.specs.Places.{is_param}
-use Rattle.civl_values.specs.Weights.{bits_in}
+use Rattle.civl_firing.specs.values.Weights.{bits_in}
 use Rattle.civl_terms.specs.declared.node.Node.{Node}
 use Rattle.civl_terms.specs.Graphs.{sort_at}
 use Rattle.civl_actions.specs.Scopes.{AreOf}

@@ -15,16 +15,16 @@ use Rattle.civl_layers.specs.Cuts.{proc_cuts}
 use Rattle.civl_firing.specs.declared.store.Store.{Store}
 use Rattle.civl_terms.specs.declared.node.Node.{Node}
 use Rattle.civl_terms.specs.Graphs.{Fits}
-use Rattle.civl_paths.specs.Paths.{Progress, Outcome, Past, Comes, Fails, Stops, progress_of, has_failed}
-use Rattle.civl_paths.specs.Flows.{Flow, flow_from}
-use Rattle.civl_paths.specs.Ends.{exit_of, is_exit, cut_number, reaches, ends_from}
-use Rattle.civl_sweeps.specs.Sweeps.{Swept, standing}
-use Rattle.civl_sweeps.specs.Sweeps.{Stop as Stopped}
-use Rattle.civl_sweeps.specs.Draws.{is_past, is_before, IsThere, IsStop, AreStops, takes, Draws}
-use Rattle.civl_sweeps.specs.Flowing.{numbers_of, times, is_statement}
-use Rattle.civl_sweeps.proofs.Once.{ends_come_once}
-use Rattle.civl_sweeps.proofs.AtCuts.{ends_are_cuts}
-use Rattle.civl_formulas.specs.Said.{Env}
+use Rattle.civl_conditions.specs.paths.Paths.{Progress, Outcome, Past, Comes, Fails, Stops, progress_of, has_failed}
+use Rattle.civl_conditions.specs.paths.Flows.{Flow, flow_from}
+use Rattle.civl_conditions.specs.paths.Ends.{exit_of, is_exit, cut_number, reaches, ends_from}
+use Rattle.civl_moves.specs.sweeps.Sweeps.{Swept, standing}
+use Rattle.civl_moves.specs.sweeps.Sweeps.{Stop as Stopped}
+use Rattle.civl_moves.specs.sweeps.Draws.{is_past, is_before, IsThere, IsStop, AreStops, takes, Draws}
+use Rattle.civl_moves.specs.sweeps.Flowing.{numbers_of, times, is_statement}
+use Rattle.civl_moves.proofs.sweeps.Once.{ends_come_once}
+use Rattle.civl_moves.proofs.sweeps.AtCuts.{ends_are_cuts}
+use Rattle.civl_states.specs.formula_parts.Said.{Env}
 use Rattle.civl_moves.specs.declared.sweep.Stop.{Stop}
 use Rattle.civl_moves.specs.declared.sweep.Sweep.{Sweep}
 use Rattle.civl_moves.specs.States.{bool_at, stop_at, swept_at, CanStop, CanSweep}

@@ -10,9 +10,9 @@ use Rattle.civl_tree.specs.declared.stmt.Stmt.TheOpen as stmt
 use Rattle.civl_tree.specs.Numbering.{size_of, sizes_of}
 use Rattle.civl_tree.proofs.Pairs.{contains_here}
 use Rattle.civl_meaning.proofs.Spots.{size_is}
-use Rattle.civl_paths.specs.Flows.{Flow, flow}
-use Rattle.civl_paths.proofs.Passing.{flow_of_layer, flow_is}
-use Rattle.civl_paths.proofs.Walked.{sizes_behind}
+use Rattle.civl_conditions.specs.paths.Flows.{Flow, flow}
+use Rattle.civl_conditions.proofs.paths.Passing.{flow_of_layer, flow_is}
+use Rattle.civl_conditions.proofs.paths.Walked.{sizes_behind}
 
 assign_out : (x : Name) (e : Expr) → out-Stmt (tree.Assign x e) ≡ stmt.Assign x e
 assign_out x e = simp (of_stmt)

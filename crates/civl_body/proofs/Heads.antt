@@ -2,7 +2,7 @@
 use Rattle.std.specs.Prelude.{drop, take, get_or, slice_get}
 use Rattle.std.proofs.lemmas.List.{drop_more, take_rest}
 use Rattle.civl_tree.proofs.Numbers.{sizes_are_counts}
-use Rattle.civl_paths.proofs.Heading.{counted}
+use Rattle.civl_conditions.proofs.paths.Heading.{counted}
 use Rattle.civl_body.specs.declared.rests.Numbered.{Numbered}
 use Rattle.civl_body.specs.Rests.{rest_of}
 use Rattle.civl_body.proofs.RestPassing.{ends_within}
@@ -20,11 +20,11 @@ use Rattle.civl_tree.specs.Numbering.{statement_at, numbered, inner_of, statemen
 use Rattle.civl_tree.proofs.Preorder.{inner_layer, inner_is}
 use Rattle.civl_meaning.specs.Rest.{Rest}
 use Rattle.civl_terms.specs.declared.node.Node.{Node}
-use Rattle.civl_paths.specs.Paths.{Course}
-use Rattle.civl_paths.specs.Flows.{Flow, flow_all, flow_layer, flow_rest}
-use Rattle.civl_paths.proofs.Following.{flow_append}
-use Rattle.civl_paths.proofs.Each.{each_numbered}
-use Rattle.civl_sweeps.specs.Sweeps.{Swept, sweep_all, sweep_layer, sweep_rest}
+use Rattle.civl_conditions.specs.paths.Paths.{Course}
+use Rattle.civl_conditions.specs.paths.Flows.{Flow, flow_all, flow_layer, flow_rest}
+use Rattle.civl_conditions.proofs.paths.Following.{flow_append}
+use Rattle.civl_conditions.proofs.paths.Each.{each_numbered}
+use Rattle.civl_moves.specs.sweeps.Sweeps.{Swept, sweep_all, sweep_layer, sweep_rest}
 use Rattle.civl_conditions.specs.Weights.{layer_weight}
 use Rattle.civl_states.specs.declared.choices.Chosen.{Chosen}
 use Rattle.civl_moves.specs.declared.sweep.Sweep.{Sweep}

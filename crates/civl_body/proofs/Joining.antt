@@ -16,17 +16,17 @@ use Rattle.civl_terms.specs.declared.node.Node.{Node}
 use Rattle.civl_terms.specs.Building.{Grows}
 use Rattle.civl_terms.proofs.Growing.{grows_trans}
 use Rattle.civl_actions.proofs.Staying.{are_stay, values_stay}
-use Rattle.civl_paths.specs.Flows.{Flow, flow_or, flow_with, flow, flow_all}
-use Rattle.civl_paths.proofs.Passing.{flow_of_layer, flow_is}
-use Rattle.civl_paths.proofs.Each.{each_branch, each_else, each_of_layer}
-use Rattle.civl_sweeps.specs.Sweeps.{Swept, first_begins, second_begins, joined, by_both}
+use Rattle.civl_conditions.specs.paths.Flows.{Flow, flow_or, flow_with, flow, flow_all}
+use Rattle.civl_conditions.proofs.paths.Passing.{flow_of_layer, flow_is}
+use Rattle.civl_conditions.proofs.paths.Each.{each_branch, each_else, each_of_layer}
+use Rattle.civl_moves.specs.sweeps.Sweeps.{Swept, first_begins, second_begins, joined, by_both}
 use Rattle.civl_bits.specs.declared.value.Value.{Value}
-use Rattle.civl_sweeps.specs.Sweeps.{where_onward, sweep, sweep_all}
+use Rattle.civl_moves.specs.sweeps.Sweeps.{where_onward, sweep, sweep_all}
 use Rattle.civl_states.specs.declared.choices.Chosen.{Chosen}
 use Rattle.civl_body.specs.Passing.{course_in, StandIn, HasChoices, SaysChoices, Ready, Passes}
 use Rattle.civl_body.proofs.Passing.{passed_by, has_less, says_less, has_stay, says_stay, own_choices}
-use Rattle.civl_formulas.specs.Lists.{AreAlike}
-use Rattle.civl_formulas.specs.Said.{Env, IsTest}
+use Rattle.civl_states.specs.formula_parts.Lists.{AreAlike}
+use Rattle.civl_states.specs.formula_parts.Said.{Env, IsTest}
 use Rattle.civl_moves.specs.declared.branches.Front.{Front}
 use Rattle.civl_moves.specs.declared.branches.Fork.{Fork}
 use Rattle.civl_moves.specs.declared.sweep.Sweep.{Sweep}

@@ -7,8 +7,8 @@ use Rattle.std.proofs.lemmas.List.Elements.{All-nil, All-cons, All-append, All-g
 use Rattle.std.proofs.lemmas.Option.{none-some, slice_get_within, get_or_from_slice_get}
 use Rattle.civl_tree.proofs.Pairs.{contains_here}
 use Rattle.civl_layers.specs.declared.cut.Cut.{Cut}
-use Rattle.civl_paths.specs.Ends.{ends_among}
-use Rattle.civl_sweeps.specs.Flowing.{is_statement}
+use Rattle.civl_conditions.specs.paths.Ends.{ends_among}
+use Rattle.civl_moves.specs.sweeps.Flowing.{is_statement}
 use Rattle.civl_moves.specs.declared.sweep.Stop.{Stop}
 use Rattle.civl_moves.specs.declared.sweep.Sweep.{Sweep}
 use Rattle.civl_body.specs.declared.way.Way.{Way}

@@ -12,13 +12,13 @@ use Rattle.civl_terms.specs.declared.node.Node.{Node}
 use Rattle.civl_terms.specs.Building.{Grows}
 use Rattle.civl_terms.proofs.Growing.{grows_trans}
 use Rattle.civl_actions.proofs.Staying.{values_stay}
-use Rattle.civl_paths.specs.Flows.{flow_all}
-use Rattle.civl_sweeps.specs.Sweeps.{Swept, first_begins, second_begins, sweep_all}
+use Rattle.civl_conditions.specs.paths.Flows.{flow_all}
+use Rattle.civl_moves.specs.sweeps.Sweeps.{Swept, first_begins, second_begins, sweep_all}
 use Rattle.civl_states.specs.declared.choices.Chosen.{Chosen}
 use Rattle.civl_body.specs.Passing.{course_in, HasChoices, ReadyRest, ReadyLoop, Passes, loop_passed, by_loop}
 use Rattle.civl_body.proofs.Passing.{has_less, says_less, has_stay, says_stay, own_choices}
 use Rattle.civl_body.proofs.Joining.{before_second, first_can, second_can}
-use Rattle.civl_formulas.specs.Said.{IsTest}
+use Rattle.civl_states.specs.formula_parts.Said.{IsTest}
 use Rattle.civl_moves.specs.declared.branches.Fork.{Fork}
 use Rattle.civl_moves.specs.declared.sweep.Sweep.{Sweep}
 use Rattle.civl_moves.specs.Branches.{with_front}

@@ -18,14 +18,14 @@ use Rattle.civl_terms.specs.Building.{Grows}
 use Rattle.civl_terms.proofs.Soundness.{zeros, zeros_fit}
 use Rattle.civl_actions.specs.Actions.{values_at}
 use Rattle.civl_actions.proofs.Staying.{are_stay, values_stay}
-use Rattle.civl_paths.specs.Paths.{Course}
-use Rattle.civl_paths.specs.Flows.{Flow, flow_then, flow, flow_all}
-use Rattle.civl_paths.proofs.Passing.{flow_more}
-use Rattle.civl_paths.proofs.Each.{each_first, each_others}
-use Rattle.civl_sweeps.specs.Sweeps.{Swept, where_onward, sweep, sweep_all}
-use Rattle.civl_sweeps.proofs.Sweeping.{sweep_of_layer, sweep_is, sweep_none, sweep_more}
-use Rattle.civl_sweeps.proofs.Stopping.{stmt_flows}
-use Rattle.civl_formulas.specs.Said.{Env}
+use Rattle.civl_conditions.specs.paths.Paths.{Course}
+use Rattle.civl_conditions.specs.paths.Flows.{Flow, flow_then, flow, flow_all}
+use Rattle.civl_conditions.proofs.paths.Passing.{flow_more}
+use Rattle.civl_conditions.proofs.paths.Each.{each_first, each_others}
+use Rattle.civl_moves.specs.sweeps.Sweeps.{Swept, where_onward, sweep, sweep_all}
+use Rattle.civl_moves.proofs.sweeps.Sweeping.{sweep_of_layer, sweep_is, sweep_none, sweep_more}
+use Rattle.civl_moves.proofs.sweeps.Stopping.{stmt_flows}
+use Rattle.civl_states.specs.formula_parts.Said.{Env}
 use Rattle.civl_moves.specs.declared.sweep.Sweep.{Sweep}
 use Rattle.civl_moves.specs.States.{swept_at, CanSweep, Moves}
 use Rattle.civl_states.specs.declared.choices.Chosen.{Chosen}

@@ -12,10 +12,10 @@ use Rattle.civl_meaning.specs.Rest.{Rest}
 use Rattle.civl_terms.specs.declared.node.Node.{Node}
 use Rattle.civl_terms.specs.Graphs.{IsGraph}
 use Rattle.civl_terms.specs.Building.{Grows}
-use Rattle.civl_paths.specs.Flows.{flow, flow_all}
-use Rattle.civl_paths.proofs.Heading.{counted}
-use Rattle.civl_sweeps.specs.Sweeps.{where_onward, sweep, sweep_all}
-use Rattle.civl_sweeps.proofs.Sweeping.{sweep_none, sweep_more}
+use Rattle.civl_conditions.specs.paths.Flows.{flow, flow_all}
+use Rattle.civl_conditions.proofs.paths.Heading.{counted}
+use Rattle.civl_moves.specs.sweeps.Sweeps.{where_onward, sweep, sweep_all}
+use Rattle.civl_moves.proofs.sweeps.Sweeping.{sweep_none, sweep_more}
 use Rattle.civl_moves.specs.declared.sweep.Sweep.{Sweep}
 use Rattle.civl_moves.specs.States.{swept_at}
 use Rattle.civl_states.specs.declared.choices.Chosen.{Chosen}

@@ -16,17 +16,17 @@ use Rattle.civl_terms.proofs.Soundness.{zeros, zeros_fit, nodes_have_their_sorts
 use Rattle.civl_actions.specs.Actions.{values_at, store_at}
 use Rattle.civl_actions.proofs.Building.{truth_value}
 use Rattle.civl_actions.proofs.Staying.{are_stay, values_stay}
-use Rattle.civl_paths.specs.Paths.{Course, Progress}
-use Rattle.civl_paths.specs.Flows.{flow_from}
-use Rattle.civl_sweeps.specs.Sweeps.{Swept, sweep_from, sweep_begins}
-use Rattle.civl_sweeps.specs.Draws.{Draws}
-use Rattle.civl_sweeps.specs.Flowing.{numbers_of}
-use Rattle.civl_sweeps.proofs.Sweeping.{sweeps_draw_paths}
-use Rattle.civl_sweeps.proofs.Stopping.{sweeps_stop_at_ends}
+use Rattle.civl_conditions.specs.paths.Paths.{Course, Progress}
+use Rattle.civl_conditions.specs.paths.Flows.{flow_from}
+use Rattle.civl_moves.specs.sweeps.Sweeps.{Swept, sweep_from, sweep_begins}
+use Rattle.civl_moves.specs.sweeps.Draws.{Draws}
+use Rattle.civl_moves.specs.sweeps.Flowing.{numbers_of}
+use Rattle.civl_moves.proofs.sweeps.Sweeping.{sweeps_draw_paths}
+use Rattle.civl_moves.proofs.sweeps.Stopping.{sweeps_stop_at_ends}
 use Rattle.civl_conditions.specs.Parts.{outcome_of}
 use Rattle.civl_conditions.specs.Values.{Begun}
-use Rattle.civl_formulas.specs.Said.{Env, IsTest}
-use Rattle.civl_formulas.proofs.Saying.{sort_stays, test_stays}
+use Rattle.civl_states.specs.formula_parts.Said.{Env, IsTest}
+use Rattle.civl_states.proofs.formula_parts.Saying.{sort_stays, test_stays}
 use Rattle.civl_moves.specs.declared.sweep.Sweep.{Sweep}
 use Rattle.civl_moves.specs.Expressions.{IsProcIn}
 use Rattle.civl_moves.specs.States.{bool_at, IsBool, swept_at, CanStop, CanSweep}

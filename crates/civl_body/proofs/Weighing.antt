@@ -12,9 +12,9 @@ use Rattle.civl_tree.specs.Numbering.{numbered, size_of, sizes_of}
 use Rattle.civl_tree.specs.rules.Scopes.{bind_globals, bind_params, bind_locals}
 use Rattle.civl_meaning.specs.Layers.{program_at}
 use Rattle.civl_meaning.specs.Rest.{Rest}
-use Rattle.civl_paths.specs.Flows.{Flow, onward_flow, flow_then, flow, flow_all, flow_rest}
-use Rattle.civl_paths.proofs.Passing.{flow_of_layer, flow_is, flow_more}
-use Rattle.civl_paths.proofs.Following.{flow_append}
+use Rattle.civl_conditions.specs.paths.Flows.{Flow, onward_flow, flow_then, flow, flow_all, flow_rest}
+use Rattle.civl_conditions.proofs.paths.Passing.{flow_of_layer, flow_is, flow_more}
+use Rattle.civl_conditions.proofs.paths.Following.{flow_append}
 use Rattle.civl_conditions.specs.Weights.{layer_weight, body_weight, written_in, written_bits}
 use Rattle.civl_body.specs.Passing.{IsLoop, IsPlain, loop_passed}
 use Rattle.civl_body.specs.Weights.{passed_weights, spent}

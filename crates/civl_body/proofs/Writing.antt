@@ -26,7 +26,7 @@ use Rattle.civl_terms.specs.declared.node.Node.{Node}
 use Rattle.civl_actions.specs.Scopes.{AreOf}
 use Rattle.civl_actions.specs.Actions.{LeavesOthers}
 use Rattle.civl_actions.proofs.Leaving.{leaves_none}
-use Rattle.civl_paths.specs.Choices.{action_meant}
+use Rattle.civl_conditions.specs.paths.Choices.{action_meant}
 use Rattle.civl_conditions.specs.Weights.{layer_written, written_bits}
 use Rattle.civl_moves.specs.declared.branches.Front.{Front}
 use Rattle.civl_moves.specs.declared.sweep.Sweep.{Sweep}

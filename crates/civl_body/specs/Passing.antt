@@ -11,7 +11,7 @@ use Rattle.civl_tree.specs.declared.name.Name.{Name}
 use Rattle.civl_tree.specs.declared.expr.Expr.{Expr}
 use Rattle.civl_tree.specs.Numbering.{statement_at, statements_of, numbered, inner_of}
 use Rattle.civl_terms.specs.Building.{Grows}
-use Rattle.civl_paths.specs.Flows.{flow_all, flow_loop, flow_layer, flow_rest, flow_from}
+use Rattle.civl_conditions.specs.paths.Flows.{flow_all, flow_loop, flow_layer, flow_rest, flow_from}
 use Rattle.civl_layers.specs.declared.cut.Cut.{Cut}
 use Rattle.civl_tree.specs.rules.Rules.{Keeps}
 use Rattle.civl_tree.specs.rules.Typing.{typing_rules}
@@ -23,11 +23,11 @@ use Rattle.civl_terms.specs.declared.node.Node.{Node}
 use Rattle.civl_terms.specs.Graphs.{Fits}
 use Rattle.civl_actions.specs.Scopes.{AreOf}
 use Rattle.civl_actions.specs.Actions.{values_at}
-use Rattle.civl_paths.specs.Paths.{Course, tested}
-use Rattle.civl_paths.specs.Choices.{layer_action}
+use Rattle.civl_conditions.specs.paths.Paths.{Course, tested}
+use Rattle.civl_conditions.specs.paths.Choices.{layer_action}
 use Rattle.civl_conditions.specs.Weights.{layer_weight, body_weight}
-use Rattle.civl_sweeps.specs.Sweeps.{Swept, sweep_all, sweep_loop, sweep_layer, sweep_rest, sweep_from, standing, first_begins, second_begins}
-use Rattle.civl_formulas.specs.Said.{Env}
+use Rattle.civl_moves.specs.sweeps.Sweeps.{Swept, sweep_all, sweep_loop, sweep_layer, sweep_rest, sweep_from, standing, first_begins, second_begins}
+use Rattle.civl_states.specs.formula_parts.Said.{Env}
 use Rattle.civl_moves.specs.declared.sweep.Sweep.{Sweep}
 use Rattle.civl_moves.specs.Expressions.{IsProcIn}
 use Rattle.civl_moves.specs.States.{swept_at, CanSweep, Moves, Suits}

@@ -11,9 +11,9 @@ use Rattle.civl_terms.specs.Graphs.{value_at, sort_at, Fits}
 use Rattle.civl_actions.specs.Scopes.{AreOf}
 use Rattle.civl_actions.specs.Actions.{values_at}
 use Rattle.civl_layers.specs.declared.cut.Cut.{Cut}
-use Rattle.civl_paths.specs.Paths.{Outcome, progress_of, has_failed}
-use Rattle.civl_paths.specs.Ends.{arrived, ends_from}
-use Rattle.civl_formulas.specs.Said.{Env, IsTest}
+use Rattle.civl_conditions.specs.paths.Paths.{Outcome, progress_of, has_failed}
+use Rattle.civl_conditions.specs.paths.Ends.{arrived, ends_from}
+use Rattle.civl_states.specs.formula_parts.Said.{Env, IsTest}
 use Rattle.civl_states.specs.Stores.{AreGlobals}
 use Rattle.civl_body.specs.declared.way.Way.{Way}
 use Rattle.civl_body.specs.declared.way.Walk.{Walk}

@@ -1,7 +1,7 @@
 -- For private functions alone: the ways of a sweep that is past all statements.
 use Rattle.std.specs.Prelude.{ℕ, ◌+◌, true, if◌then◌else◌, List, [], ◌∷◌, ◌++◌}
 use Rattle.civl_layers.specs.declared.cut.Cut.{Cut}
-use Rattle.civl_sweeps.specs.Flowing.{is_statement}
+use Rattle.civl_moves.specs.sweeps.Flowing.{is_statement}
 use Rattle.civl_moves.specs.declared.sweep.Stop.{Stop}
 use Rattle.civl_moves.specs.declared.sweep.Sweep.{Sweep}
 use Rattle.civl_states.specs.declared.beginning.Beginning.{Beginning}

@@ -1,8 +1,8 @@
 // From the head of a loop, at terms.
 ghost use Rattle.std.specs.Prelude.{◌≡◌, true, false, ◌≤◌, ◌+◌, ◌*◌, ◌∷◌, [], ◌++◌, ◌<◌, ◌^◌, None, Some, OnOk, IfOk};
 ghost use Rattle.civl_tree.specs.Numbering.{numbered, sizes_of};
-ghost use Rattle.civl_paths.specs.Flows.{flow_from, flow_rest};
-ghost use Rattle.civl_sweeps.specs.Sweeps.{sweep_from, sweep_rest};
+ghost use Rattle.civl_conditions.specs.paths.Flows.{flow_from, flow_rest};
+ghost use Rattle.civl_moves.specs.sweeps.Sweeps.{sweep_from, sweep_rest};
 ghost use Rattle.civl_tree.specs.rules.Rules.{Keeps};
 ghost use Rattle.civl_linear.specs.LinearRules.{linear_rules};
 ghost use Rattle.civl_conditions.specs.Weights.{body_weight};

@@ -2,7 +2,7 @@
 use Rattle.std.specs.Prelude.{All, IsTrue}
 use Rattle.std.proofs.Common.{ℕ, ◌*◌, ◌+◌, ◌≤◌, List}
 use Rattle.civl_tree.specs.declared.expr.Sort.{Sort}
-use Rattle.civl_values.specs.Values.{is_sort}
+use Rattle.civl_firing.specs.values.Values.{is_sort}
 use Rattle.civl_cnf.specs.Literal.{Literal}
 use Rattle.civl_cnf.specs.ClauseSet.{ClauseSet, AreBelow}
 use Rattle.civl_rup.specs.Rup.{Refutes, Spends}
@@ -11,10 +11,10 @@ use Rattle.civl_terms.specs.declared.node.Node.{Node}
 use Rattle.civl_terms.specs.Weights.{graph_weight, term_weight}
 use Rattle.civl_blast.specs.declared.blasted.Place.{Place}
 use Rattle.civl_blast.specs.Standing.{NamesCells, StandsFor, GivesValues, IsSmall}
-use Rattle.civl_formulas.specs.Given.{AreVariablesOf}
+use Rattle.civl_states.specs.formula_parts.Given.{AreVariablesOf}
 use Rattle.civl_verdicts.specs.Formulas.{Formula}
-use Rattle.civl_decide.specs.Decided.{IsTermOf}
-use Rattle.civl_decide.proofs.Concluding.{never_true, stands_for, decided_never}
+use Rattle.civl_verdicts.specs.decisions.Decided.{IsTermOf}
+use Rattle.civl_verdicts.proofs.decisions.Concluding.{never_true, stands_for, decided_never}
 use Rattle.civl_certify.specs.Examined.{IsEvidence}
 use Rattle.civl_certify.specs.declared.examining.Evidence.TheVariants.{Refuted, Spent}
 

@@ -7,7 +7,7 @@ use Rattle.civl_tree.specs.declared.program.Program.{Program}
 use Rattle.civl_conditions.specs.declared.condition.Condition.{Condition}
 use Rattle.civl_conditions.specs.Listed.{conditions}
 use Rattle.civl_conditions.specs.Weights.{weight, weight_limit, heavy}
-use Rattle.civl_judging.proofs.Lightness.{conditions_are_light}
+use Rattle.civl_verdicts.proofs.judging.Lightness.{conditions_are_light}
 
 pub contains_at : {A : Type 0} (xs : List A) (i : ℕ) (x : A) → slice_get xs i ≡ Some x → Contains xs x
 contains_at xs i x e = subst (Contains xs) (get_or_from_slice_get xs i x x e) (Contains-get_or xs i x (slice_get_within xs i x e))

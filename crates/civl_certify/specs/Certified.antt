@@ -14,7 +14,7 @@ use Rattle.civl_conditions.specs.Listed.{conditions}
 use Rattle.civl_conditions.specs.Violated.{Violates, Holds as HoldsOf}
 use Rattle.civl_verdicts.specs.Formulas.{Formula, violation_formula, IsWide, StandsForFormula}
 use Rattle.civl_verdicts.specs.Surveys.{IsInitialFound}
-use Rattle.civl_decide.specs.Decided.{WereAsked}
+use Rattle.civl_verdicts.specs.decisions.Decided.{WereAsked}
 use Rattle.civl_certify.specs.declared.certified.Shown.{Shown}
 use Rattle.civl_certify.specs.declared.certified.Shown.TheVariants.{Holds, Fails, Undecided}
 use Rattle.civl_certify.specs.declared.certified.Certified.{Certified}

@@ -1,7 +1,7 @@
 -- Serves private functions alone: what is found of a formula by its term, with its certificate.
 use Rattle.std.specs.Prelude.{◌≡◌, ℕ, false, List, IsTrue}
 use Rattle.civl_bits.specs.declared.value.Value.{Value}
-use Rattle.civl_values.specs.Values.{HaveSorts}
+use Rattle.civl_firing.specs.values.Values.{HaveSorts}
 use Rattle.civl_verdicts.specs.Formulas.{Formula}
 use Rattle.civl_certify.specs.Certified.{IsRefutation, SpendsOn}
 use Rattle.civl_certify.specs.declared.examining.Evidence.{Evidence}

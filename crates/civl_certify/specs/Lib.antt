@@ -2,3 +2,4 @@ pub mod Certified
 pub mod Examined
 pub mod Agreement
 pub mod Laws
+pub mod proof_reports

@@ -9,9 +9,9 @@ ghost use Rattle.civl_conditions.specs.Listed.{conditions};
 ghost use Rattle.civl_conditions.specs.Weights.{weight, initial_weight, weight_limit, heavy};
 ghost use Rattle.civl_weights.specs.Heavy.{IsHeavy};
 ghost use Rattle.civl_verdicts.specs.Formulas.{initial_formula, violation_formula};
-ghost use Rattle.civl_decide.specs.Decided.{IsDecided, WasAsked};
-ghost use Rattle.civl_judging.specs.Made.{IsMade};
-ghost use Rattle.civl_judging.specs.Searches.{UnaskedWhereHeavy};
+ghost use Rattle.civl_verdicts.specs.decisions.Decided.{IsDecided, WasAsked};
+ghost use Rattle.civl_verdicts.specs.judging.Made.{IsMade};
+ghost use Rattle.civl_verdicts.specs.judging.Searches.{UnaskedWhereHeavy};
 ghost use Rattle.civl_certify.specs.Certified.{SpendsOn, IsShown, IsCertified, IsCertifiedAt, CertifiedBy};
 
 use crate::certified::{Certified, Shown};
@@ -19,11 +19,11 @@ use crate::examining::{Evidence, examine};
 use civl_bodies::bodies_of;
 use civl_cnf::Log;
 use civl_conditions::Condition;
-use civl_decide::{Decision, decide};
-use civl_judging::{Made, Makes, Memory};
 use civl_layers::{Held, Layered};
 use civl_portfolio::Prover;
 use civl_verdicts::Counter;
+use civl_verdicts::decisions::{Decision, decide};
+use civl_verdicts::judging::{Made, Makes, Memory};
 use civl_weights::{TooMuch, conditions as weighed_conditions};
 use std::alloc::Global;
 

@@ -1,23 +1,23 @@
 // What is found of a formula by its term, with its certificate.
 ghost use Rattle.std.specs.Prelude.{◌≡◌, ◌≤◌, ◌<◌, ◌^◌, length, All, IsTrue, IfOk, Some};
 ghost use Rattle.civl_tree.specs.declared.expr.Sort.TheVariants.{Bool as Truth};
-ghost use Rattle.civl_values.specs.Values.{is_sort};
+ghost use Rattle.civl_firing.specs.values.Values.{is_sort};
 ghost use Rattle.civl_terms.specs.Graphs.{sort_at};
 ghost use Rattle.civl_terms.specs.Weights.{graph_weight};
-ghost use Rattle.civl_formulas.specs.Given.{AreVariablesOf};
+ghost use Rattle.civl_states.specs.formula_parts.Given.{AreVariablesOf};
 ghost use Rattle.civl_verdicts.specs.Formulas.{Formula};
-ghost use Rattle.civl_decide.specs.Decided.{IsTermOf, WasAsked};
+ghost use Rattle.civl_verdicts.specs.decisions.Decided.{IsTermOf, WasAsked};
 ghost use Rattle.civl_certify.specs.Examined.{IsEvidence};
 
 use civl_bits::Value;
 use civl_blast::{Blasted, blast};
 use civl_cdcl::Outcome;
 use civl_cnf::{Cnf, Log};
-use civl_decide::Memory;
-use civl_models::read_back;
 use civl_portfolio::{Asked, Prover, ask};
 use civl_terms::{Id, Terms};
 use civl_tree::{List, Sort};
+use civl_verdicts::decisions::Memory;
+use civl_verdicts::models::read_back;
 use std::alloc::Global;
 
 /// What is found of a formula.

@@ -6,6 +6,7 @@ mod certified;
 mod certifying;
 mod examining;
 pub mod laws;
+pub mod proof_reports;
 
 pub use certified::{Certified, Shown};
 pub use certifying::certify;

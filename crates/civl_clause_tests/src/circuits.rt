@@ -2,7 +2,7 @@
 ghost use Rattle.std.specs.Prelude.{◌≡◌, ◌≤◌, ◌+◌, ◌^◌, Some, IsSome, IsTrue, IfOk};
 ghost use Rattle.civl_tree.specs.rules.Sorts.{one_sort, two_sort, slice_sort, widen_sort, join_sort};
 ghost use Rattle.civl_tree.specs.rules.StoreSize.{bits_of};
-ghost use Rattle.civl_values.specs.Values.{is_sort};
+ghost use Rattle.civl_firing.specs.values.Values.{is_sort};
 ghost use Rattle.civl_circuits.specs.Circuits.{IsOne};
 ghost use Rattle.civl_symbolic.specs.Symbolic.{sort_of, is_flat, IsIn};
 

@@ -6,12 +6,20 @@ mod circuits;
 #[cfg(test)]
 mod dimacs;
 #[cfg(test)]
+mod folding;
+#[cfg(test)]
+mod lexing;
+#[cfg(test)]
 mod logs;
+#[cfg(test)]
+mod measuring;
 #[cfg(test)]
 mod provers;
 #[cfg(test)]
 mod searching;
 #[cfg(test)]
 mod strangers;
+#[cfg(test)]
+mod terms;
 #[cfg(test)]
 mod words;

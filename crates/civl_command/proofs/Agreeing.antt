@@ -7,18 +7,18 @@ use Rattle.civl_meaning.specs.declared.config.Plain.{Plain}
 use Rattle.civl_firing.specs.declared.store.Store.{Store}
 use Rattle.civl_meaning.specs.declared.config.Move.{Move}
 use Rattle.civl_meaning.specs.Layers.{lowest, topmost}
-use Rattle.civl_run.specs.Trace.{trace_of}
-use Rattle.civl_run.specs.declared.trace.Trace.{Trace}
+use Rattle.civl_script.specs.replays.Trace.{trace_of}
+use Rattle.civl_script.specs.declared.replays.trace.Trace.{Trace}
 use Rattle.civl_script.specs.declared.schedule.Schedule.TheVariants.{Fits, Wrong}
 use Rattle.civl_script.proofs.Only.{one_schedule}
 use Rattle.civl_conditions.specs.declared.condition.Condition.{Condition as Formula}
 use Rattle.civl_verdicts.specs.declared.survey.Survey.{Survey}
 use Rattle.civl_verdicts.specs.declared.verdict.Verdict.{Verdict}
-use Rattle.civl_findings.proofs.Surveying.{surveys_of_one_agree}
-use Rattle.civl_judgements.proofs.Judging.{verdicts_on_one_agree}
+use Rattle.civl_verdicts.proofs.findings.Surveying.{surveys_of_one_agree}
+use Rattle.civl_verdicts.proofs.judgements.Judging.{verdicts_on_one_agree}
 use Rattle.civl_outlines.specs.declared.outline.Outline.{Outline}
-use Rattle.civl_outline_reports.proofs.Agreeing.{provings_agree}
-use Rattle.civl_proof_reports.proofs.Agreeing.{makings_agree, one_replaying}
+use Rattle.civl_prove.proofs.outline_reports.Agreeing.{provings_agree}
+use Rattle.civl_certify.proofs.proof_reports.Agreeing.{makings_agree, one_replaying}
 use Rattle.civl_frontend.specs.Texts.{IsReading, IsScriptReading, IsOutlineReading}
 use Rattle.civl_frontend.specs.declared.reader.Fault.{Fault}
 use Rattle.civl_frontend.proofs.Reading.{one_reading, one_script_reading, one_outline_reading}

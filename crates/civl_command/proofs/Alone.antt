@@ -5,10 +5,10 @@ use Rattle.std.proofs.Common.{◌≡◌, ℕ, ◌⊎◌, inl, inr, List, [], ◌
 use Rattle.std.proofs.lemmas.List.{append_cancel_left}
 use Rattle.civl_tree.specs.declared.program.Program.{Program}
 use Rattle.civl_verdicts.specs.Verdicts.{IsVerdict}
-use Rattle.civl_verdict_reports.proofs.Beginning.{only_accepted_accepts}
+use Rattle.civl_verdicts.proofs.verdict_reports.Beginning.{only_accepted_accepts}
 use Rattle.civl_outlines.specs.declared.outline.Outline.{Outline}
-use Rattle.civl_outline_reports.specs.declared.proving.Proving.{Proving}
-use Rattle.civl_outline_reports.proofs.Beginning.{only_safe_is_safe}
+use Rattle.civl_prove.specs.declared.outline_reports.proving.Proving.{Proving}
+use Rattle.civl_prove.proofs.outline_reports.Beginning.{only_safe_is_safe}
 use Rattle.civl_words.specs.Words.{usual_budget}
 use Rattle.civl_frontend.specs.Report.{fault_text}
 use Rattle.civl_frontend.specs.Texts.{limit}

@@ -10,20 +10,20 @@ use Rattle.civl_tree.specs.rules.Typing.{typing_rules}
 use Rattle.civl_tree.proofs.First.{none_first}
 use Rattle.civl_meaning.specs.declared.config.Plain.{Plain}
 use Rattle.civl_meaning.specs.Layers.{lowest, topmost}
-use Rattle.civl_run.specs.Trace.{trace_of}
+use Rattle.civl_script.specs.replays.Trace.{trace_of}
 use Rattle.civl_script.specs.Schedules.{IsSchedule}
 use Rattle.civl_script.specs.declared.schedule.Schedule.{Schedule}
 use Rattle.civl_script.specs.declared.schedule.Schedule.TheVariants.{Fits, Wrong}
 use Rattle.civl_script.proofs.Deciding.{schedules_exist}
 use Rattle.civl_layers.specs.LayerRules.{layer_rules}
-use Rattle.civl_verify.specs.Admitted.{admission_rules}
-use Rattle.civl_verify.proofs.Admitting.{keeps_first}
+use Rattle.civl_yields.specs.verify.Admitted.{admission_rules}
+use Rattle.civl_yields.proofs.verify.Admitting.{keeps_first}
 use Rattle.civl_conditions.specs.declared.condition.Condition.{Condition}
 use Rattle.civl_conditions.specs.Weights.{heavy}
-use Rattle.civl_findings.proofs.Surveying.{each_program_has_a_survey}
-use Rattle.civl_judgements.proofs.Judging.{each_program_has_a_verdict}
+use Rattle.civl_verdicts.proofs.findings.Surveying.{each_program_has_a_survey}
+use Rattle.civl_verdicts.proofs.judgements.Judging.{each_program_has_a_verdict}
 use Rattle.civl_outlines.specs.declared.outline.Outline.{Outline}
-use Rattle.civl_outline_reports.proofs.Existing.{each_outline_is_answered}
+use Rattle.civl_prove.proofs.outline_reports.Existing.{each_outline_is_answered}
 use Rattle.civl_frontend.specs.Rules.{static_refusal, IsLawful}
 use Rattle.civl_frontend.specs.Texts.{IsReading, IsScriptReading, IsOutlineReading, limit}
 use Rattle.civl_frontend.specs.declared.reader.Fault.{Fault}

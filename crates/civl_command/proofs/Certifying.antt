@@ -12,15 +12,15 @@ use Rattle.civl_conditions.specs.declared.condition.Condition.{Condition}
 use Rattle.civl_certify.specs.declared.certified.Shown.{Shown as ShownOf}
 use Rattle.civl_certify.specs.declared.certified.Shown.TheVariants.{Holds}
 use Rattle.civl_certify.specs.declared.certified.Certified.TheVariants.{NoInitial, Answer}
-use Rattle.civl_proof_reports.specs.declared.making.Making.{Making}
-use Rattle.civl_proof_reports.specs.declared.making.Making.TheVariants.{Heavy, Beyond, Shown}
-use Rattle.civl_proof_reports.specs.declared.replaying.Replaying.{Replaying}
-use Rattle.civl_proof_reports.specs.declared.replaying.Replaying.TheVariants.{Unread, Read}
-use Rattle.civl_proof_reports.specs.Making.{IsMaking, IsShownAt}
-use Rattle.civl_proof_reports.specs.Replaying.{IsReplaying}
-use Rattle.civl_proof_reports.specs.Reports.{making_text}
-use Rattle.civl_proof_reports.specs.Laws.{StandsAlone}
-use Rattle.civl_proof_reports.proofs.Alone.{printed_stands_alone, refuted_is_unsatisfiable}
+use Rattle.civl_certify.specs.declared.proof_reports.making.Making.{Making}
+use Rattle.civl_certify.specs.declared.proof_reports.making.Making.TheVariants.{Heavy, Beyond, Shown}
+use Rattle.civl_certify.specs.declared.proof_reports.replaying.Replaying.{Replaying}
+use Rattle.civl_certify.specs.declared.proof_reports.replaying.Replaying.TheVariants.{Unread, Read}
+use Rattle.civl_certify.specs.proof_reports.Making.{IsMaking, IsShownAt}
+use Rattle.civl_certify.specs.proof_reports.Replaying.{IsReplaying}
+use Rattle.civl_certify.specs.proof_reports.Reports.{making_text}
+use Rattle.civl_certify.specs.proof_reports.Laws.{StandsAlone}
+use Rattle.civl_certify.proofs.proof_reports.Alone.{printed_stands_alone, refuted_is_unsatisfiable}
 use Rattle.civl_frontend.specs.Texts.{SpellsProgram}
 use Rattle.civl_frontend.specs.declared.status.Status.TheVariants.{Done, Refused}
 use Rattle.civl_frontend.proofs.Lawful.{text_written}

@@ -9,10 +9,10 @@ use Rattle.civl_verdicts.specs.declared.verdict.Verdict.{Verdict}
 use Rattle.civl_verdicts.specs.Surveys.{IsSurvey}
 use Rattle.civl_verdicts.specs.Verdicts.{IsVerdict}
 use Rattle.civl_outlines.specs.declared.outline.Outline.{Outline}
-use Rattle.civl_outline_reports.specs.declared.proving.Proving.{Proving}
-use Rattle.civl_outline_reports.specs.Proving.{IsProving}
-use Rattle.civl_proof_reports.specs.declared.making.Making.{Making}
-use Rattle.civl_proof_reports.specs.Making.{IsMaking}
+use Rattle.civl_prove.specs.declared.outline_reports.proving.Proving.{Proving}
+use Rattle.civl_prove.specs.outline_reports.Proving.{IsProving}
+use Rattle.civl_certify.specs.declared.proof_reports.making.Making.{Making}
+use Rattle.civl_certify.specs.proof_reports.Making.{IsMaking}
 use Rattle.civl_frontend.specs.Rules.{IsLawful, IsTaken}
 use Rattle.civl_command.specs.Outcome.{Outcome, TooLong, Unread, Broken, Heavy, Judged, Surveyed, Printed, Misfit, Ran, Proven, Asked, Replayed, Breaks, Checks, Surveys, Proves, Asks}
 

@@ -8,7 +8,7 @@ use Rattle.civl_tree.specs.declared.program.Program.{Program}
 use Rattle.civl_tree.specs.declared.script.Script.{Script}
 use Rattle.civl_meaning.specs.declared.config.Plain.{Plain}
 use Rattle.civl_meaning.specs.Layers.{lowest, topmost}
-use Rattle.civl_run.specs.declared.trace.Trace.{Trace}
+use Rattle.civl_script.specs.declared.replays.trace.Trace.{Trace}
 use Rattle.civl_cnf.specs.Literal.{Literal}
 use Rattle.civl_conditions.specs.declared.condition.Condition.{Condition}
 use Rattle.civl_verdicts.specs.declared.survey.Survey.{Survey}
@@ -18,21 +18,21 @@ use Rattle.civl_verdicts.specs.declared.verdict.Verdict.{Verdict}
 use Rattle.civl_verdicts.specs.declared.verdict.Verdict.TheVariants as verdict
 use Rattle.civl_verdicts.specs.Surveys.{IsSurvey}
 use Rattle.civl_verdicts.specs.Verdicts.{IsVerdict}
-use Rattle.civl_reports.proofs.Quiet.{never_accepts}
-use Rattle.civl_verdict_reports.specs.Verdicts.{accepted_text, rejected_text, undecided_text}
-use Rattle.civl_simulation.specs.Preserved.{AcceptedProgramsPreserve}
+use Rattle.civl_verdicts.proofs.reports.Quiet.{never_accepts}
+use Rattle.civl_verdicts.specs.verdict_reports.Verdicts.{accepted_text, rejected_text, undecided_text}
+use Rattle.civl_reduction.specs.simulation.Preserved.{AcceptedProgramsPreserve}
 use Rattle.civl_safety.specs.Safe.{LowestIsSafe}
 use Rattle.civl_outlines.specs.declared.outline.Outline.{Outline}
 use Rattle.civl_prove.specs.declared.proved.Proved.{Proved}
 use Rattle.civl_prove.specs.declared.proved.Proved.TheVariants as proved
-use Rattle.civl_outline_reports.specs.declared.proving.Proving.{Proving}
-use Rattle.civl_outline_reports.specs.declared.proving.Proving.TheVariants as proving
-use Rattle.civl_outline_reports.specs.Reports.{safe_text, unproved_text, open_text}
+use Rattle.civl_prove.specs.declared.outline_reports.proving.Proving.{Proving}
+use Rattle.civl_prove.specs.declared.outline_reports.proving.Proving.TheVariants as proving
+use Rattle.civl_prove.specs.outline_reports.Reports.{safe_text, unproved_text, open_text}
 use Rattle.civl_certify.specs.declared.certified.Certified.TheVariants as certified
-use Rattle.civl_proof_reports.specs.declared.making.Making.{Making}
-use Rattle.civl_proof_reports.specs.declared.making.Making.TheVariants as making
-use Rattle.civl_proof_reports.specs.declared.replaying.Replaying.{Replaying}
-use Rattle.civl_proof_reports.specs.declared.replaying.Replaying.TheVariants as replaying
+use Rattle.civl_certify.specs.declared.proof_reports.making.Making.{Making}
+use Rattle.civl_certify.specs.declared.proof_reports.making.Making.TheVariants as making
+use Rattle.civl_certify.specs.declared.proof_reports.replaying.Replaying.{Replaying}
+use Rattle.civl_certify.specs.declared.proof_reports.replaying.Replaying.TheVariants as replaying
 use Rattle.civl_words.specs.Words.{usual_budget}
 use Rattle.civl_frontend.specs.Texts.{SpellsOutline, IsReading, IsScriptReading, IsOutlineReading, limit}
 use Rattle.civl_frontend.specs.Status.{verdict_status, code_of}

@@ -10,7 +10,7 @@ use Rattle.civl_verdicts.specs.declared.verdict.Counter.{Counter}
 use Rattle.civl_verdicts.specs.declared.verdict.Verdict.{Verdict}
 use Rattle.civl_verdicts.specs.declared.verdict.Verdict.TheVariants as verdict
 use Rattle.civl_verdicts.specs.Verdicts.{IsVerdict}
-use Rattle.civl_verdict_reports.specs.Verdicts.{rejected_text, undecided_text}
+use Rattle.civl_verdicts.specs.verdict_reports.Verdicts.{rejected_text, undecided_text}
 use Rattle.civl_outlines.specs.declared.outline.Outline.{Outline}
 use Rattle.civl_goals.specs.declared.goal.Goal.{Goal}
 use Rattle.civl_goals.specs.Listed.{goals}
@@ -19,10 +19,10 @@ use Rattle.civl_safety.specs.Outlined.{IsOutlined}
 use Rattle.civl_safety.specs.Safe.{LowestIsSafe}
 use Rattle.civl_prove.specs.declared.proved.Proved.TheVariants.{All, Fails, Undecided as LeftOpen}
 use Rattle.civl_prove.specs.Proved.{HoldUpTo, Proves as ProvesGoals}
-use Rattle.civl_outline_reports.specs.declared.proving.Proving.{Proving}
-use Rattle.civl_outline_reports.specs.declared.proving.Proving.TheVariants.{Note, Roots, Heavy, HeavyGoal, Judged, Decided}
-use Rattle.civl_outline_reports.specs.Proving.{IsReady, IsNoAcceptance, IsProving}
-use Rattle.civl_outline_reports.specs.Reports.{safe_text, unproved_text, open_text}
+use Rattle.civl_prove.specs.declared.outline_reports.proving.Proving.{Proving}
+use Rattle.civl_prove.specs.declared.outline_reports.proving.Proving.TheVariants.{Note, Roots, Heavy, HeavyGoal, Judged, Decided}
+use Rattle.civl_prove.specs.outline_reports.Proving.{IsReady, IsNoAcceptance, IsProving}
+use Rattle.civl_prove.specs.outline_reports.Reports.{safe_text, unproved_text, open_text}
 use Rattle.civl_frontend.specs.Texts.{SpellsOutline, limit}
 use Rattle.civl_frontend.specs.Status.{verdict_status}
 use Rattle.civl_frontend.specs.declared.status.Status.TheVariants.{Done, Rejected, Undecided}

@@ -5,7 +5,7 @@ use Rattle.civl_tree.specs.declared.program.Program.{Program}
 use Rattle.civl_tree.specs.declared.refusal.Refusal.{Refusal}
 use Rattle.civl_tree.specs.declared.script.Script.{Script}
 use Rattle.civl_meaning.specs.declared.config.Plain.{Plain}
-use Rattle.civl_run.specs.declared.trace.Trace.{Trace}
+use Rattle.civl_script.specs.declared.replays.trace.Trace.{Trace}
 use Rattle.civl_script.specs.Schedules.{IsSchedule}
 use Rattle.civl_script.specs.declared.schedule.Schedule.TheVariants.{Wrong}
 use Rattle.civl_conditions.specs.declared.condition.Condition.{Condition}
@@ -13,10 +13,10 @@ use Rattle.civl_conditions.specs.Weights.{heavy}
 use Rattle.civl_verdicts.specs.Surveys.{IsSurvey}
 use Rattle.civl_verdicts.specs.Verdicts.{IsVerdict}
 use Rattle.civl_outlines.specs.declared.outline.Outline.{Outline}
-use Rattle.civl_outline_reports.specs.declared.proving.Proving.{Proving}
-use Rattle.civl_outline_reports.specs.Proving.{IsProving}
-use Rattle.civl_proof_reports.specs.declared.making.Making.{Making}
-use Rattle.civl_proof_reports.specs.Making.{IsMaking}
+use Rattle.civl_prove.specs.declared.outline_reports.proving.Proving.{Proving}
+use Rattle.civl_prove.specs.outline_reports.Proving.{IsProving}
+use Rattle.civl_certify.specs.declared.proof_reports.making.Making.{Making}
+use Rattle.civl_certify.specs.proof_reports.Making.{IsMaking}
 use Rattle.civl_frontend.specs.Rules.{static_refusal, IsLawful, IsTaken}
 use Rattle.civl_command.specs.Outcome.{Outcome, TooLong, Unread, Broken, Heavy, Judged, Surveyed, Printed, Misfit, Ran, Proven, Asked, Replayed, Checks, Surveys, Proves, Asks, Runs, RunsBy}
 

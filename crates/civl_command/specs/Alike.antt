@@ -1,9 +1,9 @@
 -- What two outcomes for which one input calls have in common.
 use Rattle.std.specs.Prelude.{◌≡◌}
-use Rattle.civl_findings.specs.Agreement.{SurveysAgree}
-use Rattle.civl_judgements.specs.Agreement.{VerdictsAgree}
-use Rattle.civl_outline_reports.specs.Agreement.{Agree as ProvingsAgree}
-use Rattle.civl_proof_reports.specs.Agreement.{Agree}
+use Rattle.civl_verdicts.specs.findings.Agreement.{SurveysAgree}
+use Rattle.civl_verdicts.specs.judgements.Agreement.{VerdictsAgree}
+use Rattle.civl_prove.specs.outline_reports.Agreement.{Agree as ProvingsAgree}
+use Rattle.civl_certify.specs.proof_reports.Agreement.{Agree}
 use Rattle.civl_command.specs.Outcome.{Outcome, Judged, Surveyed, Proven, Asked}
 
 -- two verdicts don't speak against each other, nor do two surveys or two findings of an outline or of a condition, and all others are one

@@ -1,6 +1,6 @@
 -- What each status says of the words, of the input and of what was written.
 use Rattle.std.specs.Prelude.{◌≡◌, ℕ, ◌⊎◌, List, codes}
-use Rattle.civl_reports.specs.Lines.{line}
+use Rattle.civl_verdicts.specs.reports.Lines.{line}
 use Rattle.civl_frontend.specs.Report.{bytes_of}
 use Rattle.civl_frontend.specs.Streams.{ReadState, WriteState, IsReported}
 use Rattle.civl_frontend.specs.Told.{WantsMemory, IsJudged as IsJudgedOf, ReadsAll as ReadsAllOf, Reads as ReadsOf, Fails as FailsOf}

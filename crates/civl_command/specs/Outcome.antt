@@ -10,8 +10,8 @@ use Rattle.civl_meaning.specs.declared.config.Plain.{Plain}
 use Rattle.civl_firing.specs.declared.store.Store.{Store}
 use Rattle.civl_meaning.specs.declared.config.Move.{Move}
 use Rattle.civl_meaning.specs.Layers.{lowest, topmost}
-use Rattle.civl_run.specs.Trace.{trace_of}
-use Rattle.civl_run.specs.declared.trace.Trace.{Trace}
+use Rattle.civl_script.specs.replays.Trace.{trace_of}
+use Rattle.civl_script.specs.declared.replays.trace.Trace.{Trace}
 use Rattle.civl_script.specs.Schedules.{IsSchedule}
 use Rattle.civl_script.specs.declared.schedule.Schedule.TheVariants.{Fits, Wrong}
 use Rattle.civl_conditions.specs.declared.condition.Condition.{Condition}
@@ -22,23 +22,23 @@ use Rattle.civl_verdicts.specs.declared.survey.Survey.{Survey}
 use Rattle.civl_verdicts.specs.declared.survey.Survey.TheVariants as survey
 use Rattle.civl_verdicts.specs.Surveys.{IsSurvey}
 use Rattle.civl_verdicts.specs.Verdicts.{IsVerdict}
-use Rattle.civl_reports.specs.Findings.{heavy_text, survey_text}
-use Rattle.civl_verdict_reports.specs.Verdicts.{verdict_text}
+use Rattle.civl_verdicts.specs.reports.Findings.{heavy_text, survey_text}
+use Rattle.civl_verdicts.specs.verdict_reports.Verdicts.{verdict_text}
 use Rattle.civl_outlines.specs.declared.outline.Outline.{Outline}
 use Rattle.civl_prove.specs.declared.proved.Proved.{Proved}
 use Rattle.civl_prove.specs.declared.proved.Proved.TheVariants as proved
-use Rattle.civl_outline_reports.specs.declared.proving.Proving.{Proving}
-use Rattle.civl_outline_reports.specs.declared.proving.Proving.TheVariants as proving
-use Rattle.civl_outline_reports.specs.Proving.{IsProving}
-use Rattle.civl_outline_reports.specs.Reports.{proving_text}
+use Rattle.civl_prove.specs.declared.outline_reports.proving.Proving.{Proving}
+use Rattle.civl_prove.specs.declared.outline_reports.proving.Proving.TheVariants as proving
+use Rattle.civl_prove.specs.outline_reports.Proving.{IsProving}
+use Rattle.civl_prove.specs.outline_reports.Reports.{proving_text}
 use Rattle.civl_certify.specs.declared.certified.Certified.TheVariants as certified
-use Rattle.civl_proof_reports.specs.declared.making.Making.{Making}
-use Rattle.civl_proof_reports.specs.declared.making.Making.TheVariants as making
-use Rattle.civl_proof_reports.specs.declared.replaying.Replaying.{Replaying}
-use Rattle.civl_proof_reports.specs.declared.replaying.Replaying.TheVariants as replaying
-use Rattle.civl_proof_reports.specs.Making.{IsMaking}
-use Rattle.civl_proof_reports.specs.Replaying.{IsReplaying}
-use Rattle.civl_proof_reports.specs.Reports.{making_text, replaying_text}
+use Rattle.civl_certify.specs.declared.proof_reports.making.Making.{Making}
+use Rattle.civl_certify.specs.declared.proof_reports.making.Making.TheVariants as making
+use Rattle.civl_certify.specs.declared.proof_reports.replaying.Replaying.{Replaying}
+use Rattle.civl_certify.specs.declared.proof_reports.replaying.Replaying.TheVariants as replaying
+use Rattle.civl_certify.specs.proof_reports.Making.{IsMaking}
+use Rattle.civl_certify.specs.proof_reports.Replaying.{IsReplaying}
+use Rattle.civl_certify.specs.proof_reports.Reports.{making_text, replaying_text}
 use Rattle.civl_words.specs.Words.{usual_budget}
 use Rattle.civl_trial.specs.Trial.{trial}
 use Rattle.civl_frontend.specs.Report.{too_long_text, fault_text, refusal_text, misfit_text}

@@ -10,7 +10,7 @@ use Rattle.civl_meaning.specs.Failing.{CanFail}
 use Rattle.civl_meaning.specs.Initial.{IsInitial}
 use Rattle.civl_meaning.specs.Layers.{lowest}
 use Rattle.civl_meaning.specs.Preserves.{Preserves}
-use Rattle.civl_run.specs.declared.trace.Trace.{Trace}
+use Rattle.civl_script.specs.declared.replays.trace.Trace.{Trace}
 use Rattle.civl_cnf.specs.Literal.{Literal}
 use Rattle.civl_cnf.specs.ClauseSet.{ClauseSet}
 use Rattle.civl_rup.specs.Rup.{IsUnsatisfiable}
@@ -28,22 +28,22 @@ use Rattle.civl_goals.specs.declared.goal.Goal.{Goal}
 use Rattle.civl_goals.specs.Listed.{goals}
 use Rattle.civl_safety.specs.Outlined.{IsOutlined}
 use Rattle.civl_prove.specs.Proved.{GoalFails, goal_formula, IsReached as IsGoalReached}
-use Rattle.civl_outline_reports.specs.Proving.{IsReady}
-use Rattle.civl_outline_reports.specs.Reports.{safe_text, unproved_text, open_text}
+use Rattle.civl_prove.specs.outline_reports.Proving.{IsReady}
+use Rattle.civl_prove.specs.outline_reports.Reports.{safe_text, unproved_text, open_text}
 use Rattle.civl_certify.specs.declared.certified.Shown.{Shown as ShownOf}
 use Rattle.civl_certify.specs.declared.certified.Shown.TheVariants.{Holds}
 use Rattle.civl_certify.specs.declared.certified.Certified.TheVariants.{Answer}
-use Rattle.civl_proof_reports.specs.declared.making.Making.TheVariants.{Shown}
-use Rattle.civl_proof_reports.specs.declared.replaying.Replaying.TheVariants.{Read}
-use Rattle.civl_proof_reports.specs.Making.{IsShownAt}
-use Rattle.civl_proof_reports.specs.Replaying.{IsReplay}
-use Rattle.civl_proof_reports.specs.Reports.{making_text, replaying_text}
-use Rattle.civl_proof_reports.specs.Laws.{StandsAlone}
+use Rattle.civl_certify.specs.declared.proof_reports.making.Making.TheVariants.{Shown}
+use Rattle.civl_certify.specs.declared.proof_reports.replaying.Replaying.TheVariants.{Read}
+use Rattle.civl_certify.specs.proof_reports.Making.{IsShownAt}
+use Rattle.civl_certify.specs.proof_reports.Replaying.{IsReplay}
+use Rattle.civl_certify.specs.proof_reports.Reports.{making_text, replaying_text}
+use Rattle.civl_certify.specs.proof_reports.Laws.{StandsAlone}
 use Rattle.civl_words.specs.Words.{usual_budget}
 use Rattle.civl_verdicts.specs.Verdicts.{HasInitial, IsReached, AllHold, IsSpentOn, IsUndecided}
-use Rattle.civl_reports.specs.Lines.{HasLineThatBegins}
-use Rattle.civl_reports.specs.Findings.{survey_text}
-use Rattle.civl_verdict_reports.specs.Verdicts.{accepted_text, rejected_text, undecided_text}
+use Rattle.civl_verdicts.specs.reports.Lines.{HasLineThatBegins}
+use Rattle.civl_verdicts.specs.reports.Findings.{survey_text}
+use Rattle.civl_verdicts.specs.verdict_reports.Verdicts.{accepted_text, rejected_text, undecided_text}
 use Rattle.civl_frontend.specs.Rules.{IsLawful, IsTaken}
 use Rattle.civl_frontend.specs.Texts.{SpellsProgram, SpellsScript, SpellsOutline}
 use Rattle.civl_frontend.specs.Streams.{ReadState, WriteState, Writes, ReadsAndWrites, IsAlone}

@@ -5,9 +5,9 @@ use Rattle.civl_tree.specs.declared.program.Global.{Global}
 use Rattle.civl_tree.specs.declared.program.Program.{Program}
 use Rattle.civl_meaning.specs.declared.config.Stepped.{Stepped}
 use Rattle.civl_meaning.specs.declared.config.Stepped.TheVariants.{Moved, Blocked, NoThread, Ended, Failing, BadChoices}
-use Rattle.civl_run.specs.declared.trace.Trace.{Trace}
-use Rattle.civl_reports.specs.Lines.{line}
-use Rattle.civl_reports.specs.Values.{beside, value_line}
+use Rattle.civl_script.specs.declared.replays.trace.Trace.{Trace}
+use Rattle.civl_verdicts.specs.reports.Lines.{line}
+use Rattle.civl_verdicts.specs.reports.Values.{beside, value_line}
 use Rattle.civl_frontend.specs.Report.{failing_text}
 
 -- why it stopped, if it did

@@ -9,7 +9,7 @@ ghost use Rattle.civl_command.specs.Judge.{IsJudged};
 use crate::judged::{judge_fault, refuse};
 use civl_frontend::{Judged, Text, admitted, read_program};
 use civl_tree::Refused;
-use civl_verify::Admitted;
+use civl_yields::verify::Admitted;
 use std::alloc::Global;
 
 /// The program that a text spells, where it keeps all static rules. Else what is written of the text.

@@ -8,14 +8,14 @@ ghost use Rattle.civl_command.specs.Judge.{IsJudged};
 
 use crate::admission::read_admitted;
 use civl_certify::Certified;
+use civl_certify::proof_reports::{
+    Making, Replaying, make_proof, replay_text, report_making, report_replaying,
+};
 use civl_frontend::{Judged, Report, Status};
 use civl_layers::Layered;
 use civl_maker::Maker;
 use civl_portfolio::Prover;
-use civl_proof_reports::{
-    Making, Replaying, make_proof, replay_text, report_making, report_replaying,
-};
-use civl_verify::{Admitted, locals_held, source};
+use civl_yields::verify::{Admitted, locals_held, source};
 use std::alloc::Global;
 
 /// The status of what is found of a condition.

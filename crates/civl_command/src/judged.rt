@@ -7,8 +7,8 @@ ghost use Rattle.civl_command.specs.Judge.{IsJudged, usage_text};
 use civl_conditions::Condition;
 use civl_frontend::{Fault, Judged, Report, Status, report_fault, report_long, report_refusal};
 use civl_layers::Layered;
-use civl_reports::report_heavy;
 use civl_tree::Refusal;
+use civl_verdicts::reports::report_heavy;
 use std::alloc::Global;
 
 /// The most bytes that a certificate may have.

@@ -11,13 +11,13 @@ use crate::judged::{judge_fault, refuse};
 use civl_frontend::{Judged, Report, Status, Text, admitted, read_outline, verdict_status};
 use civl_layers::Layered;
 use civl_maker::Maker;
-use civl_outline_reports::{Proving, prove_outline, report_proving};
 use civl_outlines::Outline;
 use civl_portfolio::Prover;
 use civl_prove::Proved;
+use civl_prove::outline_reports::{Proving, prove_outline, report_proving};
 use civl_tree::{Refused, copy_program};
 use civl_verdicts::Verdict;
-use civl_verify::{Admitted, locals_held, source};
+use civl_yields::verify::{Admitted, locals_held, source};
 use std::alloc::Global;
 
 /// The status of what is found of the goals.

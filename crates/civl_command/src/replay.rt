@@ -1,7 +1,7 @@
 // Schedules of scripts.
 ghost use Rattle.std.specs.Prelude.{◌≡◌, ◌+◌, ◌<◌, ◌^◌, length, IfOk};
 ghost use Rattle.civl_tree.specs.Numbered.{IsNumbered};
-ghost use Rattle.civl_run.specs.Trace.{trace_of};
+ghost use Rattle.civl_script.specs.replays.Trace.{trace_of};
 ghost use Rattle.civl_frontend.specs.Rules.{IsLawful};
 ghost use Rattle.civl_command.specs.Replay.{plain_for};
 ghost use Rattle.civl_command.specs.Outcome.{Misfit, Ran, Runs};
@@ -12,10 +12,10 @@ use crate::report::report_run;
 use civl_frontend::{Judged, Report, Status, admitted, report_misfit};
 use civl_layers::{Layered, low, program, top};
 use civl_meaning::{Move, Plain, Store};
-use civl_run::run;
+use civl_script::replays::run;
 use civl_script::{Schedule, read_schedule};
 use civl_tree::{Entry, List, Memory, Refused, Script, Told};
-use civl_verify::source;
+use civl_yields::verify::source;
 use std::alloc::Global;
 
 /// The end of the chain of layers whose program is run.

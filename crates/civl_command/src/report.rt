@@ -5,9 +5,9 @@ ghost use Rattle.civl_command.specs.Report.{store_lines, answer_text, stopped_te
 use civl_bits::Value;
 use civl_frontend::{put_failing, put_place};
 use civl_meaning::Stepped;
-use civl_reports::{put, put_value};
-use civl_run::Trace;
+use civl_script::replays::Trace;
 use civl_tree::{Global as GlobalVar, List, Memory, Program};
+use civl_verdicts::reports::{put, put_value};
 use std::alloc::Global;
 
 /// A line for each global, with its value in the store.

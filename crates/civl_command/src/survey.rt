@@ -9,14 +9,14 @@ ghost use Rattle.civl_command.specs.Judge.{IsJudged};
 use crate::admission::read_admitted;
 use crate::judged::too_heavy;
 use civl_frontend::{Judged, Report, Status};
-use civl_judging::survey;
 use civl_layers::Layered;
 use civl_maker::Maker;
 use civl_portfolio::Prover;
-use civl_reports::report_survey;
 use civl_verdicts::Survey;
-use civl_verify::{Admitted, locals_held, source};
+use civl_verdicts::judging::survey;
+use civl_verdicts::reports::report_survey;
 use civl_weights::TooMuch;
+use civl_yields::verify::{Admitted, locals_held, source};
 use std::alloc::Global;
 
 /// The status of a survey.

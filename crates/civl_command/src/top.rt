@@ -12,8 +12,8 @@ use crate::judge::judge;
 use civl_frontend::Status;
 use civl_outside::{Sent, Sink, Source, write_all};
 use civl_portfolio::Prover;
+use civl_reduction::simulation::laws::accepted_programs_preserve;
 use civl_safety::laws::lowest_is_safe;
-use civl_simulation::laws::accepted_programs_preserve;
 use std::alloc::Global;
 
 /// Judges the words and the input, and writes the report.

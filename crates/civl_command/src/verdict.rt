@@ -9,14 +9,14 @@ ghost use Rattle.civl_command.specs.Judge.{IsJudged};
 use crate::admission::read_admitted;
 use crate::judged::too_heavy;
 use civl_frontend::{Judged, Report, verdict_status};
-use civl_judging::verify;
 use civl_layers::Layered;
 use civl_maker::Maker;
 use civl_portfolio::Prover;
-use civl_verdict_reports::report_verdict;
 use civl_verdicts::Verdict;
-use civl_verify::{Admitted, locals_held, source};
+use civl_verdicts::judging::verify;
+use civl_verdicts::verdict_reports::report_verdict;
 use civl_weights::TooMuch;
+use civl_yields::verify::{Admitted, locals_held, source};
 use std::alloc::Global;
 
 /// What is written of a verdict.

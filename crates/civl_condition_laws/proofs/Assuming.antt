@@ -23,12 +23,12 @@ use Rattle.civl_layers.specs.Names.{action_range}
 use Rattle.civl_layers.specs.NotThere.{action_missing, refines_missing}
 use Rattle.civl_layers.specs.LayerRules.{layer_rules, not_there_rule}
 use Rattle.civl_layers.specs.Layered.{IsLayered}
-use Rattle.civl_footprints.specs.Agreement.{names_other, action_uses}
-use Rattle.civl_footprints.specs.Laws.{ActsAlike}
-use Rattle.civl_footprints.proofs.Acting.{acts_alike}
-use Rattle.civl_footprints.proofs.Existing.{through_in}
-use Rattle.civl_paths.specs.Seen.{IsProcOf, exists_near}
-use Rattle.civl_paths.specs.Choices.{action_meant}
+use Rattle.civl_conditions.specs.footprints.Agreement.{names_other, action_uses}
+use Rattle.civl_conditions.specs.footprints.Laws.{ActsAlike}
+use Rattle.civl_conditions.proofs.footprints.Acting.{acts_alike}
+use Rattle.civl_conditions.proofs.footprints.Existing.{through_in}
+use Rattle.civl_conditions.specs.paths.Seen.{IsProcOf, exists_near}
+use Rattle.civl_conditions.specs.paths.Choices.{action_meant}
 use Rattle.civl_conditions.specs.Variables.{passed_choices}
 use Rattle.civl_conditions.specs.Values.{Begun}
 use Rattle.civl_conditions.specs.Permissions.{held_at, of_held}

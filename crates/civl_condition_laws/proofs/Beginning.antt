@@ -4,7 +4,7 @@ use Rattle.std.specs.Prelude.{codes, if◌then◌else◌}
 use Rattle.std.proofs.lemmas.List.{length-append, length-map, map-append, append_assoc, append-nil, drop_at, take-append-drop}
 use Rattle.civl_bits.specs.declared.value.Value.{Value}
 use Rattle.civl_bits.specs.declared.value.Value.TheVariants as value
-use Rattle.civl_values.specs.Values.{HaveSorts}
+use Rattle.civl_firing.specs.values.Values.{HaveSorts}
 use Rattle.civl_tree.specs.declared.expr.Sort.{Sort}
 use Rattle.civl_tree.specs.declared.action.Choice.{Choice}
 use Rattle.civl_tree.specs.declared.program.Proc.{Proc}
@@ -17,9 +17,9 @@ use Rattle.civl_layers.specs.declared.cut.Cut.{Cut}
 use Rattle.civl_layers.specs.declared.cut.CutKind.{CutKind}
 use Rattle.civl_layers.specs.declared.cut.CutKind.TheVariants as kind
 use Rattle.civl_layers.specs.Layered.{IsLayered}
-use Rattle.civl_footprints.specs.Agreement.{AgreeOn}
-use Rattle.civl_paths.specs.Ends.{is_entry, is_rank_loop}
-use Rattle.civl_paths.specs.Seen.{exists_near}
+use Rattle.civl_conditions.specs.footprints.Agreement.{AgreeOn}
+use Rattle.civl_conditions.specs.paths.Ends.{is_entry, is_rank_loop}
+use Rattle.civl_conditions.specs.paths.Seen.{exists_near}
 use Rattle.civl_conditions.specs.Variables.{near_globals, of_params, of_locals, where_has, flag, passed_choices, of_passed, path_variables}
 use Rattle.civl_conditions.specs.Values.{part, flag_at, spread, store_of, count_of, where_so, choices_count, Layout, layout, Begun, begun}
 use Rattle.civl_condition_laws.specs.States.{IsFresh, IsNew, BeginsAs, IsBegun}

@@ -9,8 +9,8 @@ use Rattle.civl_firing.specs.declared.store.Store.{Store}
 use Rattle.civl_firing.specs.Fired.{guard_holds, offers}
 use Rattle.civl_meaning.specs.Permissions.{pairwise_disjoint, permissions_of_global, of_globals, of_params}
 use Rattle.civl_linear.specs.Modes.{is_lent}
-use Rattle.civl_footprints.specs.Agreement.{AgreeOn, StoresAgree, exists_at}
-use Rattle.civl_footprints.specs.Laws.{ActsAlike, FireAlike}
+use Rattle.civl_conditions.specs.footprints.Agreement.{AgreeOn, StoresAgree, exists_at}
+use Rattle.civl_conditions.specs.footprints.Laws.{ActsAlike, FireAlike}
 use Rattle.civl_conditions.specs.Values.{Invoked, same_in, same_values}
 use Rattle.civl_conditions.specs.Permissions.{in_store, of_inputs, of_modes, included}
 use Rattle.civl_conditions.specs.Movers.{on_some, fires_of, apart, loses, clashes, spoils, reveals, waits, pair_fails}

@@ -13,8 +13,8 @@ use Rattle.civl_layers.specs.declared.cut.CutKind.TheVariants as kind
 use Rattle.civl_layers.specs.Cuts.{cuts_among, proc_cuts}
 use Rattle.civl_firing.specs.examples.Written.{named, lit, call}
 use Rattle.civl_linear.specs.Held.{traced_proc}
-use Rattle.civl_paths.specs.Paths.{Progress, from_loop, path_from}
-use Rattle.civl_paths.specs.Flows.{Flow, flow_all}
+use Rattle.civl_conditions.specs.paths.Paths.{Progress, from_loop, path_from}
+use Rattle.civl_conditions.specs.paths.Flows.{Flow, flow_all}
 use Rattle.civl_condition_laws.specs.examples.Countdown.{i, steady, anew, goes_on, loop, spin, counting, settle, settling}
 use Rattle.civl_condition_laws.proofs.Going.{flows}
 use Rattle.civl_condition_laws.proofs.Forms.{sizes, inners, traces, rests}

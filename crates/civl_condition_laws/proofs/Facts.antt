@@ -22,10 +22,10 @@ use Rattle.civl_layers.specs.declared.cut.CutKind.TheVariants as kind
 use Rattle.civl_layers.specs.Cuts.{proc_cuts}
 use Rattle.civl_linear.specs.Held.{Traced, entry_held, traced_proc}
 use Rattle.civl_linear.specs.Cuts.{held_numbers, held_at_cuts, held_under}
-use Rattle.civl_paths.specs.Flows.{Flow, flow_all, flow_with, flow_or, flow_layer, flow_rest, flow_from}
-use Rattle.civl_paths.specs.NoteValues.{note_values}
-use Rattle.civl_paths.specs.Paths.{Course, Progress, pass_all, from_loop, from_layer, from_rest, path_from}
-use Rattle.civl_paths.proofs.Passing.{from_yield_loop, from_rank_loop, from_yield, flow_yield_loop, flow_rank_loop, flow_yield}
+use Rattle.civl_conditions.specs.paths.Flows.{Flow, flow_all, flow_with, flow_or, flow_layer, flow_rest, flow_from}
+use Rattle.civl_conditions.specs.paths.NoteValues.{note_values}
+use Rattle.civl_conditions.specs.paths.Paths.{Course, Progress, pass_all, from_loop, from_layer, from_rest, path_from}
+use Rattle.civl_conditions.proofs.paths.Passing.{from_yield_loop, from_rank_loop, from_yield, flow_yield_loop, flow_rank_loop, flow_yield}
 use Rattle.civl_conditions.specs.declared.condition.Condition.TheVariants.{Path, Block}
 use Rattle.civl_conditions.specs.declared.condition.Part.{Part}
 use Rattle.civl_conditions.specs.declared.condition.Target.{Target}

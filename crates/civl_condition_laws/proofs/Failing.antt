@@ -4,8 +4,8 @@ use Rattle.std.specs.Prelude.{slice_get, nat_eq, if◌then◌else◌}
 use Rattle.std.specs.List.{Contains}
 use Rattle.std.proofs.lemmas.Option.{none-some, same_Some}
 use Rattle.civl_bits.specs.declared.value.Value.{Value}
-use Rattle.civl_values.specs.Operators.{two_value}
-use Rattle.civl_values.specs.Values.{is_true}
+use Rattle.civl_firing.specs.values.Operators.{two_value}
+use Rattle.civl_firing.specs.values.Values.{is_true}
 use Rattle.civl_tree.specs.declared.expr.Expr.{Expr}
 use Rattle.civl_tree.specs.declared.expr.Two.TheVariants.{Lt}
 use Rattle.civl_tree.specs.declared.stmt.Stmt.{Stmt, out-Stmt}
@@ -22,14 +22,14 @@ use Rattle.civl_meaning.specs.Permissions.{pairwise_disjoint}
 use Rattle.civl_layers.specs.declared.cut.Cut.{Cut}
 use Rattle.civl_layers.specs.Cuts.{proc_cuts}
 use Rattle.civl_layers.specs.Layered.{IsLayered}
-use Rattle.civl_paths.specs.NoteValues.{plain_note_values, note_values, steady_note_values}
-use Rattle.civl_paths.specs.Paths.{Progress, Outcome, Past, Comes, Fails, Stops, progress_of, has_failed}
-use Rattle.civl_paths.specs.Flows.{flow_from}
-use Rattle.civl_paths.specs.Ends.{is_exit, exit_of, cut_number, ends_block, arrived}
-use Rattle.civl_paths.specs.Seen.{StatesAgree, OutcomesAgree, exists_near}
-use Rattle.civl_paths.proofs.Layering.{paths_see_their_globals}
-use Rattle.civl_paths.proofs.Choosing.{paths_read_their_choices}
-use Rattle.civl_footprints.specs.Agreement.{exists_at}
+use Rattle.civl_conditions.specs.paths.NoteValues.{plain_note_values, note_values, steady_note_values}
+use Rattle.civl_conditions.specs.paths.Paths.{Progress, Outcome, Past, Comes, Fails, Stops, progress_of, has_failed}
+use Rattle.civl_conditions.specs.paths.Flows.{flow_from}
+use Rattle.civl_conditions.specs.paths.Ends.{is_exit, exit_of, cut_number, ends_block, arrived}
+use Rattle.civl_conditions.specs.paths.Seen.{StatesAgree, OutcomesAgree, exists_near}
+use Rattle.civl_conditions.proofs.paths.Layering.{paths_see_their_globals}
+use Rattle.civl_conditions.proofs.paths.Choosing.{paths_read_their_choices}
+use Rattle.civl_conditions.specs.footprints.Agreement.{exists_at}
 use Rattle.civl_conditions.specs.declared.condition.Part.{Part}
 use Rattle.civl_conditions.specs.declared.condition.Part.TheVariants.{Gate, Invariant, Once, Stutter, Perform, Rank}
 use Rattle.civl_conditions.specs.declared.condition.Target.{Target}

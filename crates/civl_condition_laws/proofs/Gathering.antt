@@ -4,13 +4,13 @@ use Rattle.std.specs.Prelude.{if◌then◌else◌}
 use Rattle.std.proofs.lemmas.Bool.{false≢true, true≢false}
 use Rattle.std.proofs.lemmas.List.{length-map, length-append, map-append, append-nil, append_assoc, take_at, drop_at}
 use Rattle.civl_bits.specs.declared.value.Value.{Value}
-use Rattle.civl_values.specs.Values.{HaveSorts, zero_of}
+use Rattle.civl_firing.specs.values.Values.{HaveSorts, zero_of}
 use Rattle.civl_tree.specs.declared.name.Name.{Name}
 use Rattle.civl_tree.specs.declared.expr.Sort.{Sort}
 use Rattle.civl_tree.specs.declared.program.Global.{Global}
 use Rattle.civl_tree.specs.declared.program.Program.{Program}
 use Rattle.civl_firing.proofs.Having.{no_sorts, more_sorts, first_sort, rest_sorts}
-use Rattle.civl_footprints.specs.Agreement.{AgreeOn}
+use Rattle.civl_conditions.specs.footprints.Agreement.{AgreeOn}
 use Rattle.civl_conditions.specs.declared.condition.Variable.{Variable}
 use Rattle.civl_conditions.specs.Variables.{variable, of_globals, of_params, of_instance}
 use Rattle.civl_conditions.specs.Values.{Invoked, part, spread, invoked}

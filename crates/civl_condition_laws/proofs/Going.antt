@@ -7,9 +7,9 @@ use Rattle.civl_tree.specs.declared.stmt.Stmt.{Stmt, out-Stmt, the_lemmas as of_
 use Rattle.civl_tree.specs.declared.stmt.Stmt as stmt
 use Rattle.civl_tree.specs.declared.stmt.Stmt.TheOpen as layer
 use Rattle.civl_tree.specs.Numbering.{sizes_of, numbered}
-use Rattle.civl_paths.specs.Paths.{Course, Progress, Past, Comes, stepped, tested, committed, introduced, pass, pass_all}
-use Rattle.civl_paths.specs.Flows.{onward_flow, ended_flow, flow_with, flow_or, flow, flow_all}
-use Rattle.civl_paths.proofs.Passing.{pass_layer, pass_is, pass_none, pass_more, flow_of_layer, flow_is, flow_none, flow_more, from_yield_loop, from_rank_loop, from_yield, flow_yield_loop, flow_rank_loop, flow_yield}
+use Rattle.civl_conditions.specs.paths.Paths.{Course, Progress, Past, Comes, stepped, tested, committed, introduced, pass, pass_all}
+use Rattle.civl_conditions.specs.paths.Flows.{onward_flow, ended_flow, flow_with, flow_or, flow, flow_all}
+use Rattle.civl_conditions.proofs.paths.Passing.{pass_layer, pass_is, pass_none, pass_more, flow_of_layer, flow_is, flow_none, flow_more, from_yield_loop, from_rank_loop, from_yield, flow_yield_loop, flow_rank_loop, flow_yield}
 
 pass_as : (c : Course) (s : Stmt) (d : layer.Stmt-F Stmt) (at : ℕ) (p : Progress) → out-Stmt s ≡ d → pass c s at p ≡ pass_layer c d at p
 pass_as c s d at p e = pass_is c s at p ∙ ap (λ (d : layer.Stmt-F Stmt). pass_layer c d at p) e

@@ -15,9 +15,9 @@ use Rattle.civl_meaning.specs.Rest.{Rest}
 use Rattle.civl_firing.specs.Fired.{gate_holds, fires, fired}
 use Rattle.civl_layers.specs.Cuts.{entry_cut}
 use Rattle.civl_firing.specs.examples.Written.{word, bool, named, name, lit, param, local, refines, proc, call, holding}
-use Rattle.civl_paths.specs.Paths.{Course, Progress, Outcome, Past, after, pass, pass_all, path_from}
-use Rattle.civl_paths.specs.Flows.{Flow, flow_from}
-use Rattle.civl_paths.proofs.Passing.{pass_none, pass_more}
+use Rattle.civl_conditions.specs.paths.Paths.{Course, Progress, Outcome, Past, after, pass, pass_all, path_from}
+use Rattle.civl_conditions.specs.paths.Flows.{Flow, flow_from}
+use Rattle.civl_conditions.proofs.paths.Passing.{pass_none, pass_more}
 use Rattle.civl_conditions.specs.declared.condition.Condition.TheVariants.{Path}
 use Rattle.civl_conditions.specs.declared.condition.Part.TheVariants.{Perform}
 use Rattle.civl_conditions.specs.Values.{Begun}

@@ -12,9 +12,9 @@ use Rattle.civl_firing.specs.declared.store.Store.{Store}
 use Rattle.civl_firing.specs.Stores.{IsStore}
 use Rattle.civl_meaning.specs.Permissions.{pairwise_disjoint}
 use Rattle.civl_layers.specs.Layered.{IsLayered}
-use Rattle.civl_footprints.specs.Laws.{ActsAlike, FireAlike}
-use Rattle.civl_footprints.proofs.Acting.{acts_alike}
-use Rattle.civl_paths.specs.Seen.{exists_near}
+use Rattle.civl_conditions.specs.footprints.Laws.{ActsAlike, FireAlike}
+use Rattle.civl_conditions.proofs.footprints.Acting.{acts_alike}
+use Rattle.civl_conditions.specs.paths.Seen.{exists_near}
 use Rattle.civl_conditions.specs.declared.condition.Condition.TheVariants.{Act}
 use Rattle.civl_conditions.specs.declared.condition.Target.{Target}
 use Rattle.civl_conditions.specs.Steps.{of_action, lasts_through}

@@ -19,8 +19,8 @@ use Rattle.civl_layers.specs.declared.cut.CutKind.TheVariants as kind
 use Rattle.civl_layers.specs.Cuts.{cuts_among, entry_cut, proc_cuts}
 use Rattle.civl_firing.specs.examples.Written.{named, name, lit, param, local, refines, proc, call}
 use Rattle.civl_linear.specs.Held.{traced_proc}
-use Rattle.civl_paths.specs.Flows.{Flow, onward_flow, flow_with, flow_or, flow, flow_all, flow_from}
-use Rattle.civl_paths.proofs.Passing.{flow_none, flow_more}
+use Rattle.civl_conditions.specs.paths.Flows.{Flow, onward_flow, flow_with, flow_or, flow, flow_all, flow_from}
+use Rattle.civl_conditions.proofs.paths.Passing.{flow_none, flow_more}
 use Rattle.civl_condition_laws.specs.examples.Spinlock.{forgets, forgetful}
 use Rattle.civl_condition_laws.proofs.Going.{flow_if, flow_call, flow_yield_loop_head, flows}
 use Rattle.civl_condition_laws.proofs.Forms.{sizes, inners, traces, rests}

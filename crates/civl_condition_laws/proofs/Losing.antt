@@ -8,8 +8,8 @@ use Rattle.std.proofs.lemmas.Option.{same_Some}
 use Rattle.std.proofs.lemmas.List.{get_or-drop}
 use Rattle.std.proofs.lemmas.List.Elements.{Contains-append_cases}
 use Rattle.civl_bits.specs.declared.value.Value.{Value}
-use Rattle.civl_values.specs.Operators.{nothing}
-use Rattle.civl_values.specs.Values.{is_true}
+use Rattle.civl_firing.specs.values.Operators.{nothing}
+use Rattle.civl_firing.specs.values.Values.{is_true}
 use Rattle.civl_tree.specs.declared.program.Refines.{Refines}
 use Rattle.civl_tree.specs.declared.program.Proc.{Proc}
 use Rattle.civl_tree.specs.declared.program.Program.{Program}
@@ -18,8 +18,8 @@ use Rattle.civl_firing.specs.declared.store.Store.{Store}
 use Rattle.civl_layers.specs.declared.cut.Cut.{Cut}
 use Rattle.civl_layers.specs.Cuts.{proc_cuts}
 use Rattle.civl_layers.specs.Layered.{IsLayered}
-use Rattle.civl_paths.specs.Ends.{is_yield_cut}
-use Rattle.civl_paths.specs.Seen.{IsProcOf}
+use Rattle.civl_conditions.specs.paths.Ends.{is_yield_cut}
+use Rattle.civl_conditions.specs.paths.Seen.{IsProcOf}
 use Rattle.civl_conditions.specs.declared.condition.Target.{Target}
 use Rattle.civl_conditions.specs.declared.condition.Target.TheVariants as target
 use Rattle.civl_conditions.specs.Steps.{each_at, refines_at, has_layer, step_invariants}

@@ -9,8 +9,8 @@ use Rattle.civl_tree.specs.declared.program.Program.{Program}
 use Rattle.civl_meaning.specs.Layers.{program_at}
 use Rattle.civl_layers.specs.declared.cut.Cut.{Cut}
 use Rattle.civl_layers.specs.Cuts.{proc_cuts}
-use Rattle.civl_paths.specs.Flows.{Flow}
-use Rattle.civl_paths.specs.Ends.{is_entry, is_rank_loop, ends_block, reaches, ends_among}
+use Rattle.civl_conditions.specs.paths.Flows.{Flow}
+use Rattle.civl_conditions.specs.paths.Ends.{is_entry, is_rank_loop, ends_block, reaches, ends_among}
 use Rattle.civl_conditions.specs.declared.condition.Condition.TheVariants.{Path, Block}
 use Rattle.civl_conditions.specs.declared.condition.Part.{Part}
 use Rattle.civl_conditions.specs.declared.condition.Target.{Target}
@@ -20,7 +20,7 @@ use Rattle.civl_conditions.specs.Steps.{step_invariants, of_cut}
 use Rattle.civl_conditions.specs.Variables.{near_globals, where_has, of_params, of_locals, flag, of_passed, path_variables, other_variables, variables}
 use Rattle.civl_conditions.specs.Permissions.{held_at}
 use Rattle.civl_conditions.specs.Assumed.{refined_action, cut_invariant}
-use Rattle.civl_values.specs.ActionWeights.{gate_weight}
+use Rattle.civl_firing.specs.values.ActionWeights.{gate_weight}
 use Rattle.civl_conditions.specs.Weights.{summed, lin, bits_of_variables, weights_of, global_weight, note_weight, maybe_weight, linear_globals, layer_weight, part_weight, path_weight, target_weight, together, block_weight, weight}
 use Rattle.civl_condition_laws.proofs.Facts.{IsCut, choices_in, of_cut_is}
 

@@ -15,10 +15,10 @@ use Rattle.civl_layers.specs.Ranges.{exists_in, exists_through}
 use Rattle.civl_layers.specs.Names.{global_range, action_range}
 use Rattle.civl_layers.specs.LayerRules.{layer_rules, range_rule, introduced_rule}
 use Rattle.civl_layers.specs.Layered.{IsLayered}
-use Rattle.civl_footprints.specs.Agreement.{StoresAgree, exists_at}
-use Rattle.civl_footprints.specs.Laws.{ActsAlike}
-use Rattle.civl_footprints.proofs.Acting.{acts_alike}
-use Rattle.civl_footprints.proofs.Existing.{through_in, uses_what_exists}
+use Rattle.civl_conditions.specs.footprints.Agreement.{StoresAgree, exists_at}
+use Rattle.civl_conditions.specs.footprints.Laws.{ActsAlike}
+use Rattle.civl_conditions.proofs.footprints.Acting.{acts_alike}
+use Rattle.civl_conditions.proofs.footprints.Existing.{through_in, uses_what_exists}
 use Rattle.civl_conditions.specs.declared.condition.Condition.TheVariants.{Start, Keep, Pair, Fire}
 use Rattle.civl_conditions.specs.declared.condition.Variable.{Variable}
 use Rattle.civl_conditions.specs.Steps.{of_action, begins_below, meet_below}

@@ -5,7 +5,7 @@ use Rattle.std.specs.List.{Contains, list_all, list_any}
 use Rattle.std.specs.Option.{option_map_or}
 use Rattle.std.proofs.lemmas.Bool.{or_parts, or_left, and_parts, and_from, not-false, le-leb, leb-true, eqb-true}
 use Rattle.civl_bits.specs.declared.value.Value.{Value}
-use Rattle.civl_values.specs.Values.{is_true}
+use Rattle.civl_firing.specs.values.Values.{is_true}
 use Rattle.civl_tree.specs.declared.name.Name.{Name}
 use Rattle.civl_tree.specs.declared.expr.Expr.{Expr}
 use Rattle.civl_tree.specs.declared.stmt.Stmt.{Stmt, out-Stmt}
@@ -31,12 +31,12 @@ use Rattle.civl_layers.specs.Hidden.{hidden_around, hidden_at_step, form_hidden,
 use Rattle.civl_layers.specs.Range.{refines_range}
 use Rattle.civl_layers.specs.LayerRules.{layer_rules, range_rule, hidden_rule, introduced_rule}
 use Rattle.civl_layers.specs.Layered.{IsLayered}
-use Rattle.civl_footprints.specs.Agreement.{AgreeBut, AgreeOn, StoresAgree, fails_test, names_other, action_uses, exists_at}
-use Rattle.civl_footprints.proofs.Seeing.{one_value_in}
-use Rattle.civl_footprints.proofs.Acting.{look_agrees, present_agree}
-use Rattle.civl_footprints.proofs.Existing.{through_in, uses_less, action_uses_less, uses_what_exists}
-use Rattle.civl_paths.specs.NoteValues.{plain_note_values, note_values, with_outs}
-use Rattle.civl_paths.specs.Seen.{IsProcOf, exists_near}
+use Rattle.civl_conditions.specs.footprints.Agreement.{AgreeBut, AgreeOn, StoresAgree, fails_test, names_other, action_uses, exists_at}
+use Rattle.civl_conditions.proofs.footprints.Seeing.{one_value_in}
+use Rattle.civl_conditions.proofs.footprints.Acting.{look_agrees, present_agree}
+use Rattle.civl_conditions.proofs.footprints.Existing.{through_in, uses_less, action_uses_less, uses_what_exists}
+use Rattle.civl_conditions.specs.paths.NoteValues.{plain_note_values, note_values, with_outs}
+use Rattle.civl_conditions.specs.paths.Seen.{IsProcOf, exists_near}
 use Rattle.civl_conditions.specs.Steps.{step_invariants}
 use Rattle.civl_conditions.specs.Invariants.{holds_of_globals, invariant_lost, invariants_hold}
 use Rattle.civl_conditions.specs.Assumed.{layer_invariant, layer_rank, said_at, note_holds, with_of}

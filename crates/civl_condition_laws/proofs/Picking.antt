@@ -9,7 +9,7 @@ use Rattle.civl_meaning.specs.Rest.{rest_at}
 use Rattle.civl_layers.specs.declared.cut.Cut.{Cut}
 use Rattle.civl_layers.specs.declared.cut.CutKind.TheVariants as kind
 use Rattle.civl_layers.specs.Cuts.{cuts_among, proc_cuts}
-use Rattle.civl_paths.specs.Flows.{Flow, flow_all}
+use Rattle.civl_conditions.specs.paths.Flows.{Flow, flow_all}
 use Rattle.civl_conditions.specs.Permissions.{held_at}
 use Rattle.civl_condition_laws.specs.examples.Naming.{i, picks, goes_down, goes_on, loop, picker, picking}
 use Rattle.civl_condition_laws.proofs.Going.{flows}

@@ -6,8 +6,8 @@ use Rattle.std.proofs.lemmas.Bool.{false≢true, true≢false, eqb-true, eq-eqb}
 use Rattle.std.proofs.lemmas.List.{length-append, length-map, append_assoc, take_at, drop_at, drop-drop, get_or-drop}
 use Rattle.civl_bits.specs.declared.value.Value.{Value}
 use Rattle.civl_bits.specs.declared.value.Value.TheVariants as value
-use Rattle.civl_values.specs.Operators.{nothing}
-use Rattle.civl_values.specs.Values.{HaveSorts, is_true}
+use Rattle.civl_firing.specs.values.Operators.{nothing}
+use Rattle.civl_firing.specs.values.Values.{HaveSorts, is_true}
 use Rattle.civl_tree.specs.declared.expr.Sort.{Sort}
 use Rattle.civl_tree.specs.declared.action.Choice.{Choice}
 use Rattle.civl_tree.proofs.Pairs.{contains_nil, contains_here, contains_there, contains_cons}

@@ -14,8 +14,8 @@ use Rattle.civl_layers.specs.declared.cut.CutKind.TheVariants as kind
 use Rattle.civl_layers.specs.Cuts.{cuts_among, proc_cuts}
 use Rattle.civl_firing.specs.examples.Written.{proc}
 use Rattle.civl_linear.specs.Held.{traced_proc}
-use Rattle.civl_paths.specs.Paths.{Progress, pass_all, path_from}
-use Rattle.civl_paths.specs.Flows.{Flow, flow_all}
+use Rattle.civl_conditions.specs.paths.Paths.{Progress, pass_all, path_from}
+use Rattle.civl_conditions.specs.paths.Flows.{Flow, flow_all}
 use Rattle.civl_conditions.specs.declared.condition.Condition.TheVariants.{Path}
 use Rattle.civl_conditions.specs.declared.condition.Part.{Part}
 use Rattle.civl_conditions.specs.Violated.{violated}

@@ -2,7 +2,7 @@
 -- globals have that are no variables of it, and of all other values of their sorts.
 use Rattle.std.specs.Prelude.{ℕ, ◌≡◌, false, List, ◌++◌, length, drop, map, Some, slice_get, IsTrue, Contains}
 use Rattle.civl_bits.specs.declared.value.Value.{Value}
-use Rattle.civl_values.specs.Values.{HaveSorts}
+use Rattle.civl_firing.specs.values.Values.{HaveSorts}
 use Rattle.civl_tree.specs.declared.expr.Sort.{Sort}
 use Rattle.civl_tree.specs.declared.action.Choice.{Choice}
 use Rattle.civl_tree.specs.declared.program.Proc.{Proc}
@@ -16,7 +16,7 @@ use Rattle.civl_layers.specs.declared.cut.CutKind.{CutKind}
 use Rattle.civl_layers.specs.declared.cut.CutKind.TheVariants as kind
 use Rattle.civl_layers.specs.Cuts.{proc_cuts}
 use Rattle.civl_layers.specs.Layered.{IsLayered}
-use Rattle.civl_paths.specs.Seen.{IsProcOf}
+use Rattle.civl_conditions.specs.paths.Seen.{IsProcOf}
 use Rattle.civl_conditions.specs.declared.condition.Condition.TheVariants.{Start, Keep, Pair, Fire, Path, Block, Act}
 use Rattle.civl_conditions.specs.declared.condition.Part.{Part}
 use Rattle.civl_conditions.specs.declared.condition.Target.{Target}

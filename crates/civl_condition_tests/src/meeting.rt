@@ -1,8 +1,8 @@
 // What the paths from a cut meet, and the program of a layer.
 
 use crate::layering::{MIXED, layered_of};
+use civl_conditions::paths::{ends_from, met_from};
 use civl_layers::{Layered, at, cuts, program};
-use civl_paths::{ends_from, met_from};
 use civl_tree::Memory;
 use std::alloc::Global;
 use std::test::Fail;

@@ -14,11 +14,11 @@ use Rattle.civl_firing.proofs.Finding.{found_at}
 use Rattle.civl_meaning.specs.Layers.{means_body, program_at}
 use Rattle.civl_meaning.specs.Meaning.{Meaning, Does, Runs, Missing, meaning_of_action, meaning_by, meaning_of, meaning_else, proc_number, called}
 use Rattle.civl_layers.specs.declared.cut.Cut.{Cut}
-use Rattle.civl_paths.specs.declared.met.Met.{Met}
-use Rattle.civl_paths.specs.Flows.{flow_from}
-use Rattle.civl_paths.specs.Meets.{numbers_met}
-use Rattle.civl_paths.proofs.Standing.{Stand, passed_stand}
-use Rattle.civl_paths.specs.Choices.{action_meant}
+use Rattle.civl_conditions.specs.declared.paths.met.Met.{Met}
+use Rattle.civl_conditions.specs.paths.Flows.{flow_from}
+use Rattle.civl_conditions.specs.paths.Meets.{numbers_met}
+use Rattle.civl_conditions.proofs.paths.Standing.{Stand, passed_stand}
+use Rattle.civl_conditions.specs.paths.Choices.{action_meant}
 use Rattle.civl_conditions.specs.declared.condition.Variable.{Variable}
 use Rattle.civl_conditions.specs.Passed.{refined_at, choices_at}
 use Rattle.civl_conditions.specs.Variables.{choices_of, layer_choices, passed_choices, of_passed}

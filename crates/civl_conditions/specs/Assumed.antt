@@ -18,8 +18,8 @@ use Rattle.civl_meaning.specs.Meaning.{Meaning, Does, Runs, Missing, refined}
 use Rattle.civl_layers.specs.declared.cut.Cut.{Cut}
 use Rattle.civl_layers.specs.declared.cut.CutKind.{CutKind}
 use Rattle.civl_layers.specs.declared.cut.CutKind.TheVariants as kind
-use Rattle.civl_paths.specs.NoteValues.{note_values}
-use Rattle.civl_paths.specs.Choices.{action_meant}
+use Rattle.civl_conditions.specs.paths.NoteValues.{note_values}
+use Rattle.civl_conditions.specs.paths.Choices.{action_meant}
 use Rattle.civl_conditions.specs.Values.{Begun}
 use Rattle.civl_conditions.specs.Permissions.{in_store, held_at, of_held}
 use Rattle.civl_conditions.specs.Invariants.{holds_in, invariants_hold}

@@ -13,3 +13,5 @@ pub mod Parts
 pub mod Targets
 pub mod Violated
 pub mod Weights
+pub mod footprints
+pub mod paths

@@ -9,7 +9,7 @@ use Rattle.civl_conditions.specs.declared.condition.Part.{Part}
 use Rattle.civl_conditions.specs.declared.condition.Part.TheVariants.{Gate, Invariant, Once, Stutter, Perform, Rank}
 use Rattle.civl_conditions.specs.declared.condition.Target.{Target}
 use Rattle.civl_conditions.specs.declared.condition.Target.TheVariants as target
-use Rattle.civl_paths.specs.Ends.{is_yield_cut, is_rank_loop}
+use Rattle.civl_conditions.specs.paths.Ends.{is_yield_cut, is_rank_loop}
 use Rattle.civl_conditions.specs.Steps.{each_at, each_cut, steps_to, step_invariants, is_right, is_left, begins_below, meet_below, lasts_through}
 
 -- K1: each invariant of the step

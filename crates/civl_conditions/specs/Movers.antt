@@ -7,7 +7,7 @@ use Rattle.civl_firing.specs.declared.store.Store.{Store}
 use Rattle.civl_firing.specs.Fired.{gate_holds, guard_holds, fires, offers}
 use Rattle.civl_meaning.specs.Permissions.{pairwise_disjoint, of_params}
 use Rattle.civl_linear.specs.Modes.{is_lent}
-use Rattle.civl_footprints.specs.Agreement.{exists_at}
+use Rattle.civl_conditions.specs.footprints.Agreement.{exists_at}
 use Rattle.civl_conditions.specs.Values.{Invoked, same_values, same_stores}
 use Rattle.civl_conditions.specs.Permissions.{in_store, of_inputs, of_modes, included}
 

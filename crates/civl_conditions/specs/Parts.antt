@@ -1,8 +1,8 @@
 -- When values violate a condition on the paths of a procedure: it refines its action block by block (refinement by blocks
 -- between yields: Hawblitzel, Petrank, Qadeer, Tasiran, CAV 2015; Kragl, Qadeer, CAV 2018. Ranks: Floyd, 1967).
 use Rattle.std.specs.Prelude.{ℕ, ◌-◌, Bool, false, not, ◌&&◌, ◌||◌, nat_eq, slice_get}
-use Rattle.civl_values.specs.Operators.{two_value}
-use Rattle.civl_values.specs.Values.{is_true}
+use Rattle.civl_firing.specs.values.Operators.{two_value}
+use Rattle.civl_firing.specs.values.Values.{is_true}
 use Rattle.civl_tree.specs.declared.expr.Two.TheVariants.{Lt}
 use Rattle.civl_tree.specs.declared.program.Proc.{Proc}
 use Rattle.civl_tree.specs.declared.program.Program.{Program}
@@ -13,10 +13,10 @@ use Rattle.civl_meaning.specs.Change.{outs_in}
 use Rattle.civl_meaning.specs.Layers.{program_at}
 use Rattle.civl_layers.specs.declared.cut.Cut.{Cut}
 use Rattle.civl_layers.specs.Cuts.{proc_cuts}
-use Rattle.civl_paths.specs.NoteValues.{plain_note_values, note_values, steady_note_values}
-use Rattle.civl_paths.specs.Paths.{Progress, Outcome, path_from, progress_of, has_failed}
-use Rattle.civl_paths.specs.Ends.{is_exit, ends_block, arrived}
-use Rattle.civl_footprints.specs.Agreement.{exists_at}
+use Rattle.civl_conditions.specs.paths.NoteValues.{plain_note_values, note_values, steady_note_values}
+use Rattle.civl_conditions.specs.paths.Paths.{Progress, Outcome, path_from, progress_of, has_failed}
+use Rattle.civl_conditions.specs.paths.Ends.{is_exit, ends_block, arrived}
+use Rattle.civl_conditions.specs.footprints.Agreement.{exists_at}
 use Rattle.civl_conditions.specs.declared.condition.Part.{Part}
 use Rattle.civl_conditions.specs.declared.condition.Part.TheVariants.{Gate, Invariant, Once, Stutter, Perform, Rank}
 use Rattle.civl_conditions.specs.Values.{Begun, same_bool, same_values, same_stores}

@@ -2,7 +2,7 @@
 use Rattle.std.specs.Prelude.{ℕ, Bool, nat_eq, if◌then◌else◌, List, [], ◌∷◌, ◌++◌, map, flat_map, get_or}
 use Rattle.std.specs.List.{list_all, list_any}
 use Rattle.civl_bits.specs.declared.value.Value.{Value}
-use Rattle.civl_values.specs.Operators.{nothing}
+use Rattle.civl_firing.specs.values.Operators.{nothing}
 use Rattle.civl_tree.specs.declared.action.Mode.{Mode}
 use Rattle.civl_tree.specs.declared.action.Param.{Param}
 use Rattle.civl_tree.specs.declared.program.Proc.{Proc}

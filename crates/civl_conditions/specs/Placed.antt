@@ -7,7 +7,7 @@ use Rattle.civl_conditions.specs.declared.condition.Condition.TheVariants.{Path,
 use Rattle.civl_conditions.specs.declared.condition.Target.{Target}
 use Rattle.civl_conditions.specs.declared.condition.Target.TheVariants as target
 use Rattle.civl_conditions.specs.declared.places.Place.{Place}
-use Rattle.civl_paths.specs.Ends.{is_yield_cut}
+use Rattle.civl_conditions.specs.paths.Ends.{is_yield_cut}
 use Rattle.civl_conditions.specs.Steps.{each_cut}
 use Rattle.civl_conditions.specs.Listed.{parts_of}
 

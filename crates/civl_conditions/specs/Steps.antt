@@ -14,8 +14,8 @@ use Rattle.civl_layers.specs.declared.cut.Cut.{Cut}
 use Rattle.civl_layers.specs.Ranges.{exists_in, exists_around}
 use Rattle.civl_layers.specs.Names.{global_range}
 use Rattle.civl_layers.specs.Cuts.{proc_cuts}
-use Rattle.civl_footprints.specs.Agreement.{exists_at}
-use Rattle.civl_paths.specs.Seen.{exists_near}
+use Rattle.civl_conditions.specs.footprints.Agreement.{exists_at}
+use Rattle.civl_conditions.specs.paths.Seen.{exists_near}
 
 -- what is said of each of these with its number, the first having this one
 abbrev pub each_at : {A B : Type 0} → (ℕ → A → List B) → ℕ → List A → List B

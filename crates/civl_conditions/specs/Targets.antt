@@ -7,7 +7,7 @@ use Rattle.civl_tree.specs.declared.program.Program.{Program}
 use Rattle.civl_firing.specs.declared.store.Store.{Store}
 use Rattle.civl_meaning.specs.Permissions.{pairwise_disjoint}
 use Rattle.civl_layers.specs.declared.cut.Cut.{Cut}
-use Rattle.civl_paths.specs.NoteValues.{steady_note_values}
+use Rattle.civl_conditions.specs.paths.NoteValues.{steady_note_values}
 use Rattle.civl_conditions.specs.declared.condition.Target.{Target}
 use Rattle.civl_conditions.specs.declared.condition.Target.TheVariants as target
 use Rattle.civl_conditions.specs.Steps.{of_proc, of_cut}

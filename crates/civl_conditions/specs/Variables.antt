@@ -16,10 +16,10 @@ use Rattle.civl_meaning.specs.declared.config.Plain.{Plain}
 use Rattle.civl_meaning.specs.Meaning.{Meaning, Does, Runs, Missing, called}
 use Rattle.civl_meaning.specs.Layers.{program_at}
 use Rattle.civl_layers.specs.declared.cut.Cut.{Cut}
-use Rattle.civl_paths.specs.Flows.{flow_from}
-use Rattle.civl_paths.specs.Ends.{is_entry, is_rank_loop}
-use Rattle.civl_footprints.specs.Agreement.{exists_at}
-use Rattle.civl_paths.specs.Seen.{exists_near}
+use Rattle.civl_conditions.specs.paths.Flows.{flow_from}
+use Rattle.civl_conditions.specs.paths.Ends.{is_entry, is_rank_loop}
+use Rattle.civl_conditions.specs.footprints.Agreement.{exists_at}
+use Rattle.civl_conditions.specs.paths.Seen.{exists_near}
 use Rattle.civl_conditions.specs.declared.condition.Variable.{Variable}
 use Rattle.civl_conditions.specs.declared.condition.Condition.{Condition}
 use Rattle.civl_conditions.specs.declared.condition.Condition.TheVariants.{Start, Keep, Pair, Fire, Path, Block, Act}

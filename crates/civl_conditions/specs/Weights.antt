@@ -15,8 +15,8 @@ use Rattle.civl_tree.specs.rules.Names.{has_name}
 use Rattle.civl_tree.specs.rules.Scopes.{Binding, global_scope, body_scope, note_scope, bind_globals, bind_params, bind_locals}
 use Rattle.civl_tree.specs.rules.Sorts.{sort_of}
 use Rattle.civl_tree.specs.rules.StoreSize.{bits_of}
-use Rattle.civl_values.specs.Weights.{bits_in, weight_of}
-use Rattle.civl_values.specs.ActionWeights.{gate_weight, guard_weight, updates_weight, offers_weight, action_weight}
+use Rattle.civl_firing.specs.values.Weights.{bits_in, weight_of}
+use Rattle.civl_firing.specs.values.ActionWeights.{gate_weight, guard_weight, updates_weight, offers_weight, action_weight}
 use Rattle.civl_meaning.specs.declared.config.Plain.{Plain}
 use Rattle.civl_meaning.specs.Meaning.{called, proc_number}
 use Rattle.civl_meaning.specs.Layers.{program_at}
@@ -24,10 +24,10 @@ use Rattle.civl_tree.specs.rules.Width.{is_linear}
 use Rattle.civl_linear.specs.Modes.{is_lent, is_given}
 use Rattle.civl_layers.specs.declared.cut.Cut.{Cut}
 use Rattle.civl_layers.specs.Cuts.{proc_cuts}
-use Rattle.civl_paths.specs.Flows.{flow_from}
-use Rattle.civl_paths.specs.Ends.{ends_block, ends_from}
-use Rattle.civl_footprints.specs.Agreement.{exists_at}
-use Rattle.civl_paths.specs.Choices.{action_meant}
+use Rattle.civl_conditions.specs.paths.Flows.{flow_from}
+use Rattle.civl_conditions.specs.paths.Ends.{ends_block, ends_from}
+use Rattle.civl_conditions.specs.footprints.Agreement.{exists_at}
+use Rattle.civl_conditions.specs.paths.Choices.{action_meant}
 use Rattle.civl_conditions.specs.declared.condition.Variable.{Variable}
 use Rattle.civl_conditions.specs.declared.condition.Condition.{Condition}
 use Rattle.civl_conditions.specs.declared.condition.Condition.TheVariants.{Start, Keep, Pair, Fire, Path, Block, Act}

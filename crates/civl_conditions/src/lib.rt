@@ -1,9 +1,12 @@
 //! The conditions of a layered program: which there are, in order, their names, variables and weights, and what it is to violate one.
+//! Below them stand what expressions and actions see of a store ([`footprints`]), and what a body comes to between two cuts ([`paths`]).
 #![tactic(auto)]
 
 mod condition;
+pub mod footprints;
 mod listing;
 mod naming;
+pub mod paths;
 mod places;
 mod steps;
 mod variables_all;

@@ -4,17 +4,17 @@ ghost use Rattle.civl_tree.specs.declared.stmt.Stmt.{out-Stmt};
 ghost use Rattle.civl_tree.specs.Numbering.{sizes_of};
 ghost use Rattle.civl_meaning.specs.Meaning.{called};
 ghost use Rattle.civl_meaning.specs.Layers.{program_at};
-ghost use Rattle.civl_paths.specs.Choices.{action_meant};
+ghost use Rattle.civl_conditions.specs.paths.Choices.{action_meant};
 ghost use Rattle.civl_conditions.specs.Passed.{refined_at, choices_at};
 ghost use Rattle.civl_conditions.specs.Variables.{of_choices, choices_of, layer_choices, call_front, passed_choices, of_passed};
 
 use crate::condition::Variable;
+use crate::paths::met_from;
 use crate::variables_groups::push_choices;
 use civl_layers::Cut;
-use civl_paths::met_from;
+use civl_names::walks::statements;
 use civl_tree::{Action, List, Memory, Name, Proc, Program, Refines, Stmt};
 use civl_types::names::{action_named, proc_named};
-use civl_walks::statements;
 use itoa::Buffer;
 use std::alloc::Global;
 

@@ -1,7 +1,7 @@
 // The variables of one kind: of globals, parameters, choices and locals.
 ghost use Rattle.std.specs.Prelude.{◌≡◌, ◌++◌, ◌∷◌, [], filter, OnOk};
-ghost use Rattle.civl_footprints.specs.Agreement.{exists_at};
-ghost use Rattle.civl_paths.specs.Seen.{exists_near};
+ghost use Rattle.civl_conditions.specs.footprints.Agreement.{exists_at};
+ghost use Rattle.civl_conditions.specs.paths.Seen.{exists_near};
 ghost use Rattle.civl_conditions.specs.Variables.{variable, flag, of_globals, of_params, of_choices, of_locals, of_instance, lower_globals, near_globals};
 
 use crate::condition::Variable;

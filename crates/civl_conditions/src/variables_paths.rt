@@ -1,7 +1,7 @@
 // The variables of paths from a cut.
 ghost use Rattle.std.specs.Prelude.{◌≡◌, ◌<◌, ◌^◌, ◌++◌, ◌∷◌, [], not, codes, OnOk};
 ghost use Rattle.civl_tree.specs.Numbering.{sizes_of};
-ghost use Rattle.civl_paths.specs.Ends.{is_entry, is_rank_loop};
+ghost use Rattle.civl_conditions.specs.paths.Ends.{is_entry, is_rank_loop};
 ghost use Rattle.civl_conditions.specs.Variables.{where_has, flag, of_params, of_locals, near_globals, path_variables};
 
 use crate::condition::Variable;

@@ -13,7 +13,7 @@ use Rattle.civl_tree.specs.declared.expr.Expr.{Expr, map-Expr}
 use Rattle.civl_tree.specs.declared.expr.Expr.TheFolds.{fold-roll-Expr, ind-Expr}
 use Rattle.civl_tree.specs.declared.expr.Expr.TheOpen as expr
 use Rattle.civl_firing.specs.Truth.{place_of, truth_of, truth_step, one_truth, two_truth}
-use Rattle.civl_values.specs.Operators.{nothing, one_value, two_value}
+use Rattle.civl_firing.specs.values.Operators.{nothing, one_value, two_value}
 use Rattle.civl_firing.specs.Eval.{value_of, value_step}
 use Rattle.civl_firing.specs.Scope.{present_values}
 use Rattle.civl_firing.specs.Agreement.{is_negation, is_and_or, logical_step, is_logical, Agrees, TruthIsValue}

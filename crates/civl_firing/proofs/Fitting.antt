@@ -1,7 +1,7 @@
 -- Values behind the end of a list of sorts.
 use Rattle.std.proofs.Common.{ℕ, ◌≡◌, ◌≤◌, ◌<◌, true, false, List, [], ◌∷◌, drop, length, zero, suc, refl, arith}
 use Rattle.civl_bits.specs.declared.value.Value.{Value}
-use Rattle.civl_values.specs.Values.{are_of}
+use Rattle.civl_firing.specs.values.Values.{are_of}
 
 -- behind all sorts: whether there are no values left
 pub fits_past : (vs : List Value) (at : ℕ) → at < length vs → are_of (drop at vs) [] ≡ false

@@ -19,10 +19,10 @@ use Rattle.civl_tree.specs.rules.Sorted.{any_missorted}
 use Rattle.civl_tree.specs.rules.Exprs.{widths_fit, indices_fit}
 use Rattle.civl_firing.specs.declared.scope.Scope.{Scope}
 use Rattle.civl_firing.specs.Truth.{place_of}
-use Rattle.civl_values.specs.Values.{is_of, are_of, HasSort, HaveSorts}
+use Rattle.civl_firing.specs.values.Values.{is_of, are_of, HasSort, HaveSorts}
 use Rattle.civl_firing.specs.Eval.{look, value_of, values_of}
 use Rattle.civl_firing.specs.Sorts.{IsSorted}
-use Rattle.civl_values.proofs.Sorting.{both, same_sort-true}
+use Rattle.civl_firing.proofs.values.Sorting.{both, same_sort-true}
 use Rattle.civl_firing.proofs.Soundness.{values_have_their_sorts}
 
 pub no_sorts : HaveSorts [] []

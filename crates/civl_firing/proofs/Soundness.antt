@@ -12,11 +12,11 @@ use Rattle.civl_tree.specs.rules.Sorts.{sort_of, sort_step}
 use Rattle.civl_tree.specs.rules.Exprs.{is_index, widths_fit, indices_fit, index_step, IsOfSort}
 use Rattle.civl_tree.proofs.Layers.{width_layer, widths_is}
 use Rattle.civl_firing.specs.declared.scope.Scope.{Scope}
-use Rattle.civl_values.specs.Operators.{literal_value}
+use Rattle.civl_firing.specs.values.Operators.{literal_value}
 use Rattle.civl_firing.specs.Eval.{value_of, value_step}
-use Rattle.civl_values.specs.Values.{HasSort}
+use Rattle.civl_firing.specs.values.Values.{HasSort}
 use Rattle.civl_firing.specs.Sorts.{IsSorted, ValuesHaveTheirSorts}
-use Rattle.civl_values.proofs.Sorting.{both, is_bool, Given, one_fits, two_fits, pick_fits, literal_has_sort, get_fits, set_fits, fill_fits, slice_has_sort, widen_has_sort, join_has_sort}
+use Rattle.civl_firing.proofs.values.Sorting.{both, is_bool, Given, one_fits, two_fits, pick_fits, literal_has_sort, get_fits, set_fits, fill_fits, slice_has_sort, widen_has_sort, join_has_sort}
 
 -- what is to be shown of an expression
 abbrev Sound : Scope → Sorts → Expr → Type 0

@@ -9,7 +9,7 @@ use Rattle.civl_tree.specs.declared.expr.Expr.TheFolds.{fold-Expr}
 use Rattle.civl_tree.specs.declared.expr.Expr.TheOpen as expr
 use Rattle.civl_firing.specs.declared.scope.Scope.{Scope}
 use Rattle.civl_firing.specs.Truth.{place_of}
-use Rattle.civl_values.specs.Operators.{nothing, literal_value, one_value, two_value, pick_value, get_value, set_value, fill_value, slice_value, widen_value, join_value}
+use Rattle.civl_firing.specs.values.Operators.{nothing, literal_value, one_value, two_value, pick_value, get_value, set_value, fill_value, slice_value, widen_value, join_value}
 
 -- the value at the place of a name
 abbrev pub look : List Name → List Value → Name → Value

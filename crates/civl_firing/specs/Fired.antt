@@ -11,7 +11,7 @@ use Rattle.civl_firing.specs.declared.firing.Fired.{Fired}
 use Rattle.civl_firing.specs.declared.firing.Fired.TheVariants.{GateFalse, Blocked, Moved}
 use Rattle.civl_firing.specs.declared.scope.Scope.{Scope}
 use Rattle.civl_firing.specs.Truth.{place_of}
-use Rattle.civl_values.specs.Values.{is_true, are_of}
+use Rattle.civl_firing.specs.values.Values.{is_true, are_of}
 use Rattle.civl_firing.specs.Eval.{value_of}
 use Rattle.civl_firing.specs.Scope.{zeros_of_params, gate_values, guard_values}
 use Rattle.civl_tree.specs.rules.Names.{global_names, param_names}

@@ -10,3 +10,4 @@ pub mod Asked
 pub mod Fired
 pub mod Agreement
 pub mod examples
+pub mod values

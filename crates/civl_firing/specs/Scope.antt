@@ -12,7 +12,7 @@ use Rattle.civl_tree.specs.declared.program.Proc.{Proc}
 use Rattle.civl_tree.specs.rules.Names.{global_names, param_names, names_in_proc}
 use Rattle.civl_firing.specs.declared.store.Store.{Store}
 use Rattle.civl_firing.specs.declared.scope.Scope.{Scope}
-use Rattle.civl_values.specs.Values.{zero_of}
+use Rattle.civl_firing.specs.values.Values.{zero_of}
 
 abbrev pub choice_names : List Choice → List Name
 choice_names choices = map (λ c. c.name) choices

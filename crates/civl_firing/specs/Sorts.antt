@@ -7,7 +7,7 @@ use Rattle.civl_tree.specs.rules.Scopes.{Scope as Sorts, sort_in}
 use Rattle.civl_tree.specs.rules.Exprs.{IsOfSort}
 use Rattle.civl_firing.specs.declared.scope.Scope.{Scope}
 use Rattle.civl_firing.specs.Eval.{look, value_of}
-use Rattle.civl_values.specs.Values.{HasSort}
+use Rattle.civl_firing.specs.values.Values.{HasSort}
 
 -- each name that has a sort has a value of it, and so has each name that may stand in `old(name)`
 pub record IsSorted (scope : Scope) (sorts : Sorts) : Type 0 where

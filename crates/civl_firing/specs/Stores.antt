@@ -2,7 +2,7 @@
 use Rattle.std.specs.Prelude.{List, map}
 use Rattle.civl_tree.specs.declared.program.Global.{Global}
 use Rattle.civl_firing.specs.declared.store.Store.{Store}
-use Rattle.civl_values.specs.Values.{HaveSorts}
+use Rattle.civl_firing.specs.values.Values.{HaveSorts}
 
 -- a store has one value of the right sort for every global
 abbrev pub IsStore : List Global → Store → Type 0

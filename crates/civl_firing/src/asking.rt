@@ -1,6 +1,6 @@
 // The gate of a call whose arguments aren't evaluated into a list.
 ghost use Rattle.std.specs.Prelude.{◌≡◌, ◌++◌, slice_index_or};
-ghost use Rattle.civl_values.specs.Operators.{nothing};
+ghost use Rattle.civl_firing.specs.values.Operators.{nothing};
 ghost use Rattle.civl_firing.specs.Eval.{values_of};
 ghost use Rattle.civl_firing.specs.Scope.{gate_values, frame_values, zeros_of_params, zeros_of_globals};
 ghost use Rattle.civl_firing.specs.Settings.{scope_in};

@@ -1,13 +1,13 @@
 //! The values of expressions, where the names stand for what a scope or a setting says.
 ghost use Rattle.std.specs.Prelude.{◌≡◌, IfOk, map};
 ghost use Rattle.civl_firing.specs.Eval.{value_of, values_of};
-ghost use Rattle.civl_values.specs.Values.{is_true};
+ghost use Rattle.civl_firing.specs.values.Values.{is_true};
 
 use crate::scope::Scope;
 use crate::setting::Bindings;
+use crate::values::{fill, get, is_true, join, literal, one, pick, set, slice, two, widen};
 use civl_bits::Value;
 use civl_tree::{Expr, List, Memory};
-use civl_values::{fill, get, is_true, join, literal, one, pick, set, slice, two, widen};
 use std::alloc::Global;
 
 /// The value of an expression, where the names stand for these values.

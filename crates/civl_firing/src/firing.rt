@@ -1,6 +1,6 @@
 //! What comes of an action, and its parts: the gate, the choices, the transition and the writing of a value.
 ghost use Rattle.std.specs.Prelude.{◌≡◌, ◌<◌, length, map, slice_get, slice_set, IfOk, IfSome};
-ghost use Rattle.civl_values.specs.Values.{are_of};
+ghost use Rattle.civl_firing.specs.values.Values.{are_of};
 ghost use Rattle.civl_tree.specs.rules.Names.{global_names, param_names};
 ghost use Rattle.civl_firing.specs.Names.{names_of};
 ghost use Rattle.civl_firing.specs.Settings.{scope_in};
@@ -11,9 +11,9 @@ use crate::names::{Names, place};
 use crate::setting::{Setting, at_gate, at_guard};
 use crate::sorts::push_params;
 use crate::store::Store;
+use crate::values::is_of;
 use civl_bits::Value;
 use civl_tree::{Action, Choice, Global, List, Memory, Param, Program, Update};
-use civl_values::is_of;
 use std::alloc::Global as Alloc;
 
 /// What comes of an action: its gate is false, or its guard is, or it gives a store and its outputs.

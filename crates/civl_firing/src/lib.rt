@@ -26,6 +26,7 @@ pub mod sorts;
 mod store;
 mod table;
 mod truth;
+pub mod values;
 
 pub use asking::gate_of_call;
 pub use expressions::evaluate;

@@ -1,7 +1,7 @@
 //! What the names of an expression stand for, at the places of a program. No list of values is made for them.
 ghost use Rattle.std.specs.Prelude.{◌≡◌, ◌++◌, slice_index_or};
 ghost use Rattle.civl_firing.specs.declared.scope.Scope.{Scope as Given};
-ghost use Rattle.civl_values.specs.Operators.{nothing};
+ghost use Rattle.civl_firing.specs.values.Operators.{nothing};
 ghost use Rattle.civl_firing.specs.Eval.{look};
 ghost use Rattle.civl_firing.specs.Names.{names_of};
 ghost use Rattle.civl_firing.specs.Settings.{values_in, scope_in};
@@ -10,9 +10,9 @@ ghost use Rattle.civl_firing.specs.Scope.{zeros_of_params, zeros_of_globals, glo
 use crate::names::{Names, place};
 use crate::scope::Scope;
 use crate::store::Store;
+use crate::values::{nothing, zero};
 use civl_bits::Value;
 use civl_tree::{Action, Global, Name, Param, Proc};
-use civl_values::{nothing, zero};
 
 /// What the names of an expression stand for.
 pub trait Bindings {

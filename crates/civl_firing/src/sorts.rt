@@ -2,9 +2,9 @@
 ghost use Rattle.std.specs.Prelude.{◌≡◌, ◌++◌, OnOk};
 ghost use Rattle.civl_firing.specs.Scope.{zeros_of_params, zeros_of_locals};
 
+use crate::values::zero;
 use civl_bits::Value;
 use civl_tree::{Local, Memory, Param};
-use civl_values::zero;
 
 /// Puts the zeros of parameters or outputs behind some values.
 ///

@@ -12,9 +12,9 @@ use Rattle.civl_meaning.specs.declared.config.Running.{Running}
 use Rattle.civl_meaning.specs.declared.config.Stepped.TheVariants.{Moved}
 use Rattle.civl_meaning.specs.Layers.{program_at}
 use Rattle.civl_meaning.specs.Step.{step_of}
-use Rattle.civl_blocks.specs.Cuts.{frame_at}
-use Rattle.civl_blocks.specs.Shadow.{merged}
-use Rattle.civl_simulation.specs.Refined.{last_frame}
+use Rattle.civl_reduction.specs.blocks.Cuts.{frame_at}
+use Rattle.civl_reduction.specs.blocks.Shadow.{merged}
+use Rattle.civl_reduction.specs.simulation.Refined.{last_frame}
 use Rattle.civl_shadows.specs.declared.shadow.Shadowed as given
 use Rattle.civl_shadows.specs.Shadows.{done_in}
 use Rattle.civl_followed.specs.declared.walk.Opening.{Opening}

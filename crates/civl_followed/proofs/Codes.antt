@@ -20,12 +20,12 @@ use Rattle.civl_meaning.specs.declared.config.Activation.{Activation}
 use Rattle.civl_meaning.specs.Change.{outs_in}
 use Rattle.civl_meaning.specs.Rest.{Rest, rest_at}
 use Rattle.civl_conditions.specs.Assumed.{refined_action, inputs_of}
-use Rattle.civl_paths.specs.Paths.{Course, Progress, committed, introduced}
-use Rattle.civl_blocks.specs.Blocks.{layer_at_yield}
-use Rattle.civl_blocks.specs.Cuts.{settled}
-use Rattle.civl_blocks.specs.Shadow.{course_of}
-use Rattle.civl_simulation.specs.Refined.{with_values}
-use Rattle.civl_staged.specs.Stops.{layer_stops, StopsAt}
+use Rattle.civl_conditions.specs.paths.Paths.{Course, Progress, committed, introduced}
+use Rattle.civl_reduction.specs.blocks.Blocks.{layer_at_yield}
+use Rattle.civl_reduction.specs.blocks.Cuts.{settled}
+use Rattle.civl_reduction.specs.blocks.Shadow.{course_of}
+use Rattle.civl_reduction.specs.simulation.Refined.{with_values}
+use Rattle.civl_reduction.specs.staged.Stops.{layer_stops, StopsAt}
 use Rattle.civl_shadows.specs.declared.rests.Numbered.{Numbered}
 use Rattle.civl_shadows.specs.Notes.{layer_glides}
 use Rattle.civl_shadows.specs.Rests.{rest_of}

@@ -8,8 +8,8 @@ use Rattle.civl_meaning.specs.declared.config.Plain.{Plain}
 use Rattle.civl_meaning.specs.declared.config.Stepped.{Stepped}
 use Rattle.civl_meaning.specs.declared.config.Stepped.TheVariants.{Moved}
 use Rattle.civl_meaning.specs.Step.{step_of}
-use Rattle.civl_blocks.specs.Challenged.{is_challenged}
-use Rattle.civl_blocks.specs.Shadow.{Shadowed, shadowed_step}
+use Rattle.civl_reduction.specs.blocks.Challenged.{is_challenged}
+use Rattle.civl_reduction.specs.blocks.Shadow.{Shadowed, shadowed_step}
 use Rattle.civl_shadows.specs.declared.shadow.Shadowed as given
 use Rattle.civl_shadows.specs.Shadows.{IsLayerOf, Shows}
 use Rattle.civl_shadows.proofs.Dropping.{drop_more}

@@ -4,7 +4,7 @@ use Rattle.std.specs.Prelude.{IsTrue, Bool}
 use Rattle.std.proofs.lemmas.List.{drop_all}
 use Rattle.civl_bits.specs.declared.value.Value.{Value}
 use Rattle.civl_tree.specs.declared.program.Global.{Global}
-use Rattle.civl_footprints.specs.Agreement.{AgreeOn}
+use Rattle.civl_conditions.specs.footprints.Agreement.{AgreeOn}
 use Rattle.civl_shadows.proofs.Dropping.{drop_more}
 
 module _ (test : Global → Bool) (gs : List Global) (vs ws : List Value) (at : ℕ) (g : Global) (v w : Value) (hg : at < length gs) (eg : g ≡ get_or gs at g) (hv : at < length vs) (ev : v ≡ get_or vs at v) (hw : at < length ws) (ew : w ≡ get_or ws at w) where

@@ -20,23 +20,23 @@ use Rattle.civl_meaning.specs.Failing.{IsMove}
 use Rattle.civl_meaning.specs.Layers.{program_at}
 use Rattle.civl_meaning.specs.Run as run
 use Rattle.civl_meaning.specs.Step as step
-use Rattle.civl_footprints.specs.Agreement.{StoresAgree, exists_at}
+use Rattle.civl_conditions.specs.footprints.Agreement.{StoresAgree, exists_at}
 use Rattle.civl_conditions.specs.Assumed.{inputs_of}
-use Rattle.civl_interleavings.specs.Systems.{System}
-use Rattle.civl_interleavings.specs.Runs.{RunsTo, BlocksTo, Staged, ends, Opens, opened}
-use Rattle.civl_interleavings.specs.Threads.{Threads, Config, Move, inside_in, stepping_of, step_of}
-use Rattle.civl_exchanges.specs.Interleavings.{Chosen, Call, as_config}
-use Rattle.civl_exchanges.proofs.Exchanging.{steps_back}
-use Rattle.civl_blocks.specs.Blocks.{inside}
-use Rattle.civl_blocks.specs.Reduces.{plain_move, plain_config, layer_threads, layer_system}
-use Rattle.civl_blocks.specs.Cuts.{frame_at}
-use Rattle.civl_blocks.specs.Shadow.{Shadowed, merged, seen, shadowed_step, shadowed_from, shadowed}
-use Rattle.civl_blocks.specs.Challenged.{challenged}
-use Rattle.civl_simulation.specs.Meets.{MeetsBeside}
-use Rattle.civl_simulation.specs.Refined.{Sight, Acts, IsRefined, IsPickedBefore, IsPicked, with_values, sight, sight_before, last_frame, BlockIsRefinedBy, BlockIsRefined}
-use Rattle.civl_simulation.proofs.Followed.Blocks.{leads_opens}
-use Rattle.civl_simulation.proofs.Followed.Ending.{HowFollowed}
-use Rattle.civl_simulation.proofs.Followed.Following.{all_follow, block_shadows, last_shadow}
+use Rattle.civl_reduction.specs.interleavings.Systems.{System}
+use Rattle.civl_reduction.specs.interleavings.Runs.{RunsTo, BlocksTo, Staged, ends, Opens, opened}
+use Rattle.civl_reduction.specs.interleavings.Threads.{Threads, Config, Move, inside_in, stepping_of, step_of}
+use Rattle.civl_reduction.specs.exchanges.Interleavings.{Chosen, Call, as_config}
+use Rattle.civl_reduction.proofs.exchanges.Exchanging.{steps_back}
+use Rattle.civl_reduction.specs.blocks.Blocks.{inside}
+use Rattle.civl_reduction.specs.blocks.Reduces.{plain_move, plain_config, layer_threads, layer_system}
+use Rattle.civl_reduction.specs.blocks.Cuts.{frame_at}
+use Rattle.civl_reduction.specs.blocks.Shadow.{Shadowed, merged, seen, shadowed_step, shadowed_from, shadowed}
+use Rattle.civl_reduction.specs.blocks.Challenged.{challenged}
+use Rattle.civl_reduction.specs.simulation.Meets.{MeetsBeside}
+use Rattle.civl_reduction.specs.simulation.Refined.{Sight, Acts, IsRefined, IsPickedBefore, IsPicked, with_values, sight, sight_before, last_frame, BlockIsRefinedBy, BlockIsRefined}
+use Rattle.civl_reduction.proofs.simulation.Followed.Blocks.{leads_opens}
+use Rattle.civl_reduction.proofs.simulation.Followed.Ending.{HowFollowed}
+use Rattle.civl_reduction.proofs.simulation.Followed.Following.{all_follow, block_shadows, last_shadow}
 use Rattle.civl_shadows.specs.declared.shadow.Shadowed as given
 use Rattle.civl_shadows.specs.Shadows.{done_in, Shows}
 use Rattle.civl_followed.specs.declared.walk.Opening.{Opening}

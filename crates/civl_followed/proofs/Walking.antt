@@ -19,18 +19,18 @@ use Rattle.civl_meaning.specs.Failing.{IsMove}
 use Rattle.civl_meaning.specs.Layers.{program_at}
 use Rattle.civl_meaning.specs.Run as run
 use Rattle.civl_meaning.specs.Step as step
-use Rattle.civl_interleavings.specs.Systems.{System, Failing}
-use Rattle.civl_interleavings.specs.Runs.{BlocksTo, MayStep, Staged, begun, goes, Opens}
-use Rattle.civl_interleavings.specs.Threads.{Threads, Config, Move, inside_in, stepping_of, step_of}
-use Rattle.civl_exchanges.specs.Interleavings.{Chosen, Call, as_config}
-use Rattle.civl_exchanges.proofs.Exchanging.{steps_back, fails_back}
-use Rattle.civl_permissions.specs.Apart.{SpawnsStandInRoots}
-use Rattle.civl_blocks.specs.Blocks.{inside}
-use Rattle.civl_blocks.specs.Reduces.{plain_move, plain_config, layer_threads, layer_system}
-use Rattle.civl_blocks.specs.Shadow.{Shadowed, shadowed_start, shadowed}
-use Rattle.civl_blocks.specs.Challenged.{challenged, is_challenged}
-use Rattle.civl_simulation.proofs.Followed.Failing.{challenged_fail}
-use Rattle.civl_simulation.proofs.Followed.Simulating.{starts_meet, failing}
+use Rattle.civl_reduction.specs.interleavings.Systems.{System, Failing}
+use Rattle.civl_reduction.specs.interleavings.Runs.{BlocksTo, MayStep, Staged, begun, goes, Opens}
+use Rattle.civl_reduction.specs.interleavings.Threads.{Threads, Config, Move, inside_in, stepping_of, step_of}
+use Rattle.civl_reduction.specs.exchanges.Interleavings.{Chosen, Call, as_config}
+use Rattle.civl_reduction.proofs.exchanges.Exchanging.{steps_back, fails_back}
+use Rattle.civl_reduction.specs.permissions.Apart.{SpawnsStandInRoots}
+use Rattle.civl_reduction.specs.blocks.Blocks.{inside}
+use Rattle.civl_reduction.specs.blocks.Reduces.{plain_move, plain_config, layer_threads, layer_system}
+use Rattle.civl_reduction.specs.blocks.Shadow.{Shadowed, shadowed_start, shadowed}
+use Rattle.civl_reduction.specs.blocks.Challenged.{challenged, is_challenged}
+use Rattle.civl_reduction.proofs.simulation.Followed.Failing.{challenged_fail}
+use Rattle.civl_reduction.proofs.simulation.Followed.Simulating.{starts_meet, failing}
 use Rattle.civl_shadows.specs.declared.shadow.Shadowed as given
 use Rattle.civl_shadows.specs.Shadows.{Shows}
 use Rattle.civl_followed.specs.declared.walk.Opening.{Opening}

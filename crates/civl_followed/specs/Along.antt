@@ -14,24 +14,24 @@ use Rattle.civl_meaning.specs.Layers.{program_at}
 use Rattle.civl_meaning.specs.Run.{RunsTo}
 use Rattle.civl_meaning.specs.Step.{start}
 use Rattle.civl_conditions.specs.Assumed.{inputs_of}
-use Rattle.civl_interleavings.specs.Systems.{Failing}
-use Rattle.civl_interleavings.specs.Runs.{BlocksTo, Staged, Opens, opened}
-use Rattle.civl_interleavings.specs.Threads.{Config, stepping_of, inside_in, step_of}
-use Rattle.civl_interleavings.specs.Threads as threads
-use Rattle.civl_exchanges.specs.Interleavings.{Chosen}
-use Rattle.civl_checked.specs.Checked.{IsChecked, SpawnsAreInRoots}
-use Rattle.civl_blocks.specs.Blocks.{rest_of}
-use Rattle.civl_staged.specs.Stops.{StopsAt}
-use Rattle.civl_blocks.specs.Reduces.{plain_move, plain_config, layer_threads, layer_system}
-use Rattle.civl_blocks.specs.Cuts.{frame_at, settled}
-use Rattle.civl_blocks.specs.Shadow.{Shadowed, seen, course_of, shadowed, shadowed_from, shadowed_step}
-use Rattle.civl_blocks.specs.Challenged.{challenged, is_challenged}
-use Rattle.civl_simulation.specs.Refined.{Acts, with_values, sight_before, IsPickedBefore}
-use Rattle.civl_simulation.specs.Meets.{Meets}
-use Rattle.civl_simulation.specs.Sound.{BlocksAreSound}
+use Rattle.civl_reduction.specs.interleavings.Systems.{Failing}
+use Rattle.civl_reduction.specs.interleavings.Runs.{BlocksTo, Staged, Opens, opened}
+use Rattle.civl_reduction.specs.interleavings.Threads.{Config, stepping_of, inside_in, step_of}
+use Rattle.civl_reduction.specs.interleavings.Threads as threads
+use Rattle.civl_reduction.specs.exchanges.Interleavings.{Chosen}
+use Rattle.civl_reduction.specs.checked.Checked.{IsChecked, SpawnsAreInRoots}
+use Rattle.civl_reduction.specs.blocks.Blocks.{rest_of}
+use Rattle.civl_reduction.specs.staged.Stops.{StopsAt}
+use Rattle.civl_reduction.specs.blocks.Reduces.{plain_move, plain_config, layer_threads, layer_system}
+use Rattle.civl_reduction.specs.blocks.Cuts.{frame_at, settled}
+use Rattle.civl_reduction.specs.blocks.Shadow.{Shadowed, seen, course_of, shadowed, shadowed_from, shadowed_step}
+use Rattle.civl_reduction.specs.blocks.Challenged.{challenged, is_challenged}
+use Rattle.civl_reduction.specs.simulation.Refined.{Acts, with_values, sight_before, IsPickedBefore}
+use Rattle.civl_reduction.specs.simulation.Meets.{Meets}
+use Rattle.civl_reduction.specs.simulation.Sound.{BlocksAreSound}
 use Rattle.civl_shadows.specs.declared.shadow.Shadowed as given
 use Rattle.civl_shadows.specs.Shadows.{done_in, Shows}
-use Rattle.civl_footprints.specs.Agreement.{StoresAgree, exists_at}
+use Rattle.civl_conditions.specs.footprints.Agreement.{StoresAgree, exists_at}
 use Rattle.civl_followed.specs.declared.acting.Done.{Done}
 use Rattle.civl_followed.specs.declared.walk.Opening.{Opening}
 use Rattle.civl_followed.specs.declared.walk.Walk.{Walk}

@@ -12,14 +12,14 @@ use Rattle.civl_meaning.specs.Failing.{IsMove, is_failing}
 use Rattle.civl_meaning.specs.Layers.{program_at}
 use Rattle.civl_meaning.specs.Run.{RunsTo}
 use Rattle.civl_meaning.specs.Step.{start, step_of}
-use Rattle.civl_interleavings.specs.Systems.{Failing}
-use Rattle.civl_interleavings.specs.Runs.{IsBlockRun}
-use Rattle.civl_interleavings.specs.Threads.{Config, stepping_of}
-use Rattle.civl_interleavings.specs.Threads as threads
-use Rattle.civl_exchanges.specs.Interleavings.{Chosen}
-use Rattle.civl_blocks.specs.Blocks.{inside}
-use Rattle.civl_blocks.specs.Reduces.{plain_move, layer_threads, layer_system}
-use Rattle.civl_blocks.specs.Challenged.{challenged}
+use Rattle.civl_reduction.specs.interleavings.Systems.{Failing}
+use Rattle.civl_reduction.specs.interleavings.Runs.{IsBlockRun}
+use Rattle.civl_reduction.specs.interleavings.Threads.{Config, stepping_of}
+use Rattle.civl_reduction.specs.interleavings.Threads as threads
+use Rattle.civl_reduction.specs.exchanges.Interleavings.{Chosen}
+use Rattle.civl_reduction.specs.blocks.Blocks.{inside}
+use Rattle.civl_reduction.specs.blocks.Reduces.{plain_move, layer_threads, layer_system}
+use Rattle.civl_reduction.specs.blocks.Challenged.{challenged}
 
 -- ---- how many blocks there are
 

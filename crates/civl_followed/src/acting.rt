@@ -6,11 +6,11 @@ ghost use Rattle.civl_followed.specs.Along.{Does, IsAfter};
 use crate::agreeing::{agree, are_same};
 use civl_bits::Value;
 use civl_firing::firing::{choices_fit, gate, transition};
+use civl_firing::values::sort_of;
 use civl_firing::{Fired, Store};
 use civl_shadows::frames::{inputs, outputs};
 use civl_shadows::refined_action;
 use civl_tree::{Memory, Proc, Program};
-use civl_values::sort_of;
 use std::alloc::Global;
 
 /// What a block did: the procedure, the locals of its frame at the end, the store at its beginning and that at its end.

@@ -1,6 +1,6 @@
 // Values of globals that are the same in a layer.
 ghost use Rattle.std.specs.Prelude.{◌≡◌, true, false, IsTrue};
-ghost use Rattle.civl_footprints.specs.Agreement.{AgreeOn, exists_at};
+ghost use Rattle.civl_conditions.specs.footprints.Agreement.{AgreeOn, exists_at};
 
 use civl_bits::Value;
 use civl_tree::Global;

@@ -1,6 +1,6 @@
 // Whether threads stand inside blocks, and their frames.
 ghost use Rattle.std.specs.Prelude.{◌≡◌, ◌+◌, ◌<◌, ◌^◌, IfOk};
-ghost use Rattle.civl_blocks.specs.Cuts.{frame_at};
+ghost use Rattle.civl_reduction.specs.blocks.Cuts.{frame_at};
 ghost use Rattle.civl_followed.specs.Followed.{inside_at};
 ghost use Rattle.civl_followed.specs.Frames.{IsKept};
 

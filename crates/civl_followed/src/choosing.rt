@@ -3,9 +3,9 @@ ghost use Rattle.std.specs.Prelude.{ℕ, ◌≡◌, ◌+◌, ◌<◌, ◌^◌, t
 ghost use Rattle.civl_bits.specs.declared.value.Value.{Value as Given};
 ghost use Rattle.civl_firing.specs.declared.store.Store.{Store as Kept};
 ghost use Rattle.civl_tree.specs.declared.stmt.Stmt.{out-Stmt};
-ghost use Rattle.civl_blocks.specs.Blocks.{layer_at_yield};
-ghost use Rattle.civl_simulation.specs.Refined.{with_values};
-ghost use Rattle.civl_staged.specs.Stops.{StopsAt};
+ghost use Rattle.civl_reduction.specs.blocks.Blocks.{layer_at_yield};
+ghost use Rattle.civl_reduction.specs.simulation.Refined.{with_values};
+ghost use Rattle.civl_reduction.specs.staged.Stops.{StopsAt};
 ghost use Rattle.civl_shadows.specs.Notes.{noted, progress_of};
 ghost use Rattle.civl_shadows.specs.Rests.{rest_of};
 ghost use Rattle.civl_followed.specs.Along.{IsChosenOf};

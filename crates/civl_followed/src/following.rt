@@ -1,10 +1,10 @@
 // A failing block run is followed.
 ghost use Rattle.std.specs.Prelude.{ℕ, ◌≡◌, ◌+◌, ◌<◌, ◌≤◌, ◌^◌, [], length, IfOk, OnOk};
 ghost use Rattle.civl_meaning.specs.Step.{start};
-ghost use Rattle.civl_blocks.specs.Shadow.{shadowed_start};
+ghost use Rattle.civl_reduction.specs.blocks.Shadow.{shadowed_start};
 ghost use Rattle.civl_meaning.specs.Layers.{program_at};
 ghost use Rattle.civl_meaning.specs.Table.{ArePlaces};
-ghost use Rattle.civl_checked.specs.Checked.{IsChecked};
+ghost use Rattle.civl_reduction.specs.checked.Checked.{IsChecked};
 ghost use Rattle.civl_shadows.specs.Shadows.{IsLayerOf, Shows};
 ghost use Rattle.civl_followed.specs.Followed.{FailsInBlocks, FollowsBlocks};
 ghost use Rattle.civl_followed.specs.Along.{Grounds, FollowsOne, FollowsAll};
@@ -177,8 +177,8 @@ pub fn follow(
     requires fails { FailsInBlocks src.now layer store.now moves.now }
     ensures { IfOk result (λ followed. FollowsBlocks src.now layer store.now moves.now followed) }
 {
-    civl_checked::laws::checked();
-    civl_simulation::laws::blocks_are_sound();
+    civl_reduction::checked::laws::checked();
+    civl_reduction::simulation::laws::blocks_are_sound();
     let lower = at(alloc, src, layer)?;
     let upper = at(alloc, src, layer + 1)?;
     let followed = follow_in(alloc, &lower, &upper, layer, store, moves.as_slice())?;

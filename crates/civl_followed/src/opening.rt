@@ -1,7 +1,7 @@
 // Where a block begins.
 ghost use Rattle.std.specs.Prelude.{ℕ, ◌≡◌, ◌+◌, ◌<◌, ◌^◌, List, Contains, IfOk};
 ghost use Rattle.civl_bits.specs.declared.value.Value.{Value as Given};
-ghost use Rattle.civl_blocks.specs.Shadow.{Shadowed as Beside};
+ghost use Rattle.civl_reduction.specs.blocks.Shadow.{Shadowed as Beside};
 ghost use Rattle.civl_shadows.specs.Frames.{framed_of};
 ghost use Rattle.civl_shadows.specs.Shadows.{done_in, Shows};
 ghost use Rattle.civl_followed.specs.Along.{BeginsAs, IsOffered, done_by};

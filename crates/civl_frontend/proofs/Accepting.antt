@@ -11,14 +11,14 @@ use Rattle.civl_meaning.specs.Preserves.{Preserves}
 use Rattle.civl_layers.specs.LayerRules.{layer_rules}
 use Rattle.civl_linear.specs.LinearRules.{linear_rules}
 use Rattle.civl_yields.specs.YieldRules.{yield_rules}
-use Rattle.civl_verify.specs.Admitted.{admission_rules}
-use Rattle.civl_verify.proofs.Admitting.{keeps_first, keeps_second}
+use Rattle.civl_yields.specs.verify.Admitted.{admission_rules}
+use Rattle.civl_yields.proofs.verify.Admitting.{keeps_first, keeps_second}
 use Rattle.civl_conditions.specs.declared.condition.Condition.{Condition}
 use Rattle.civl_conditions.specs.Listed.{conditions}
 use Rattle.civl_conditions.specs.Violated.{Holds}
 use Rattle.civl_verdicts.specs.Verdicts.{HasInitial, AllHold}
-use Rattle.civl_simulation.specs.Followed.{IsAccepted}
-use Rattle.civl_simulation.specs.Preserved.{AcceptedProgramsPreserve}
+use Rattle.civl_reduction.specs.simulation.Followed.{IsAccepted}
+use Rattle.civl_reduction.specs.simulation.Preserved.{AcceptedProgramsPreserve}
 use Rattle.civl_frontend.specs.Rules.{IsLawful}
 use Rattle.civl_frontend.specs.Texts.{SpellsProgram, limit}
 use Rattle.civl_frontend.proofs.Lawful.{text_numbered, text_written}

@@ -13,8 +13,8 @@ use Rattle.civl_tree.specs.rules.Typing.{typing_rules}
 use Rattle.civl_types.specs.Checked.{IsCause}
 use Rattle.civl_layers.specs.LayerRules.{layer_rules}
 use Rattle.civl_layers.specs.Layered.{IsAt}
-use Rattle.civl_verify.specs.Admitted.{admission_rules}
-use Rattle.civl_verify.proofs.Admitting.{keeps_both, cause_of_first, cause_of_second}
+use Rattle.civl_yields.specs.verify.Admitted.{admission_rules}
+use Rattle.civl_yields.proofs.verify.Admitting.{keeps_both, cause_of_first, cause_of_second}
 use Rattle.civl_frontend.specs.Rules.{static_refusal, IsLawful}
 use Rattle.civl_script.proofs.Counting.{text_numbers, script_numbers, script_counts}
 use Rattle.civl_frontend.specs.Texts.{SpellsProgram, SpellsScript, limit}

@@ -1,7 +1,7 @@
 -- Parts of reports that commands have in common. Each line ends with byte 10.
 use Rattle.std.specs.Prelude.{ℕ, List, ◌++◌, codes, decimal, Option, None, Some}
 use Rattle.civl_tree.specs.declared.refusal.Refusal.{Refusal}
-use Rattle.civl_reports.specs.Lines.{line}
+use Rattle.civl_verdicts.specs.reports.Lines.{line}
 use Rattle.civl_frontend.specs.declared.reader.Fault.{Fault}
 use Rattle.civl_frontend.specs.declared.reader.Fault.TheVariants.{NoToken, NotHere, Deep}
 use Rattle.civl_frontend.specs.declared.judged.Report.{Report}

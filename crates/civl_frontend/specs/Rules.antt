@@ -4,7 +4,7 @@ use Rattle.civl_tree.specs.declared.program.Program.{Program}
 use Rattle.civl_tree.specs.declared.refusal.Refusal.{Refusal}
 use Rattle.civl_tree.specs.rules.Rules.{refusal_by, Keeps}
 use Rattle.civl_conditions.specs.Weights.{heavy}
-use Rattle.civl_verify.specs.Admitted.{static_rules}
+use Rattle.civl_yields.specs.verify.Admitted.{static_rules}
 
 -- the first static rule that a program breaks, with its place
 abbrev pub static_refusal : Program → Option Refusal

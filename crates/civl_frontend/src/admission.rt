@@ -7,7 +7,7 @@ ghost use Rattle.civl_frontend.specs.Rules.{static_refusal, IsLawful};
 use civl_layers::layered;
 use civl_tree::{Program, Refused};
 use civl_types::check;
-use civl_verify::{Admitted, admit};
+use civl_yields::verify::{Admitted, admit};
 use std::alloc::Global;
 
 /// Takes a program that keeps all static rules. The program has fewer than 2^32 items, and each procedure fewer than 2^32 statements.

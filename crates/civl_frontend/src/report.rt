@@ -1,11 +1,11 @@
 // Parts of reports that commands have in common.
 ghost use Rattle.std.specs.Prelude.{◌≡◌, ◌++◌, OnOk, IfOk, decimal};
-ghost use Rattle.civl_reports.specs.Lines.{line};
+ghost use Rattle.civl_verdicts.specs.reports.Lines.{line};
 ghost use Rattle.civl_frontend.specs.Report.{too_long_text, fault_text, refusal_text, misfit_text, failing_text};
 
 use crate::reader::Fault;
-use civl_reports::{put, put_number};
 use civl_tree::{Memory, Refusal};
+use civl_verdicts::reports::{put, put_number};
 use std::alloc::Global;
 
 /// Puts a line that ends with a number behind what is there.

@@ -15,8 +15,8 @@ use Rattle.civl_terms.specs.Graphs.{sort_at}
 use Rattle.civl_terms.specs.Building.{Grows, Lengthens}
 use Rattle.civl_actions.specs.Scopes.{AreOf}
 use Rattle.civl_conditions.specs.Permissions.{in_store, of_held}
-use Rattle.civl_formulas.specs.Said.{Env}
-use Rattle.civl_formulas.proofs.Listing.{sorts_stay, said_stay, said_after}
+use Rattle.civl_states.specs.formula_parts.Said.{Env}
+use Rattle.civl_states.proofs.formula_parts.Listing.{sorts_stay, said_stay, said_after}
 use Rattle.civl_states.proofs.Variables.{there_is}
 use Rattle.civl_outlines.specs.declared.outline.Outline.{Outline}
 use Rattle.civl_goals.specs.Outlines.{invariant_holds, note_holds}

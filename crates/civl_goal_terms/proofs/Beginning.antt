@@ -11,12 +11,12 @@ use Rattle.civl_meaning.specs.Meaning.{proc_number}
 use Rattle.civl_meaning.proofs.Begun.{proc_is}
 use Rattle.civl_conditions.specs.Invariants.{is_initial}
 use Rattle.civl_conditions.specs.Weights.{initial_own}
-use Rattle.civl_formulas.specs.Given.{bits_of_sorts}
+use Rattle.civl_states.specs.formula_parts.Given.{bits_of_sorts}
 use Rattle.civl_states.specs.Stores.{global_sorts}
 use Rattle.civl_states.proofs.Variables.{globals_named, there_is}
-use Rattle.civl_interfere.specs.Arguments.{arg_sorts, thread_weight, threads_weight}
-use Rattle.civl_interfere.proofs.Arguing.{Callable}
-use Rattle.civl_interfere.proofs.Starting.{all_bits}
+use Rattle.civl_movers.specs.interfere.Arguments.{arg_sorts, thread_weight, threads_weight}
+use Rattle.civl_movers.proofs.interfere.Arguing.{Callable}
+use Rattle.civl_movers.proofs.interfere.Starting.{all_bits}
 use Rattle.civl_outlines.specs.declared.outline.Outline.{Outline}
 use Rattle.civl_goals.specs.declared.goal.Goal.TheVariants as goal
 use Rattle.civl_goals.specs.Outlines.{invariant_holds}

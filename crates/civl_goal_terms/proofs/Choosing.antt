@@ -13,7 +13,7 @@ use Rattle.civl_tree.specs.declared.program.Program.{Program}
 use Rattle.civl_tree.specs.rules.Names.{action_named}
 use Rattle.civl_tree.specs.rules.Rules.{Keeps}
 use Rattle.civl_tree.specs.rules.Typing.{typing_rules}
-use Rattle.civl_values.specs.Values.{is_sort}
+use Rattle.civl_firing.specs.values.Values.{is_sort}
 use Rattle.civl_firing.specs.Truth.{place_of}
 use Rattle.civl_firing.proofs.Finding.{found_at}
 use Rattle.civl_meaning.specs.Layers.{topmost}

@@ -33,8 +33,8 @@ use Rattle.civl_terms.specs.Graphs.{Fits}
 use Rattle.civl_actions.specs.Actions.{values_at}
 use Rattle.civl_actions.specs.Scopes.{AreOf, IsTyped}
 use Rattle.civl_conditions.specs.Movers.{on_some}
-use Rattle.civl_formulas.specs.Said.{Env}
-use Rattle.civl_formulas.specs.Lists.{AreSaid}
+use Rattle.civl_states.specs.formula_parts.Said.{Env}
+use Rattle.civl_states.specs.formula_parts.Lists.{AreSaid}
 use Rattle.civl_moves.specs.Calls.{AreBodyTerms}
 use Rattle.civl_body.proofs.Typed.{Kept, form_kept, args_typed, args_sorted}
 use Rattle.civl_goals.specs.Outlines.{note_holds}

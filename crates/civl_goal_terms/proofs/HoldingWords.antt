@@ -32,7 +32,7 @@ use Rattle.civl_tree.specs.rules.Rules.{Keeps}
 use Rattle.civl_tree.specs.rules.Typing.{typing_rules, sort_rule, width_rule}
 use Rattle.civl_tree.proofs.Kept.{proc_kept, statement_kept, sort_among, width_among}
 use Rattle.civl_tree.proofs.Preorder.{inner_layer, inner_is}
-use Rattle.civl_values.proofs.Sorting.{same_sort-true}
+use Rattle.civl_firing.proofs.values.Sorting.{same_sort-true}
 use Rattle.civl_meaning.specs.Config.{frame_sorts}
 use Rattle.civl_linear.specs.Modes.{is_passed, is_taken, is_given, passed_names, given_names}
 use Rattle.civl_linear.specs.Held.{Traced, traced, traced_all, traced_proc, without_names, with_names, both_held, call_held, spawn_held, entry_held}

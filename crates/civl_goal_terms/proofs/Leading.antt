@@ -3,7 +3,7 @@ use Rattle.std.specs.Prelude.{slice_get, is_some, if◌then◌else◌}
 use Rattle.std.proofs.Common.{◌≡◌, ◌∙◌, ℕ, Bool, true, false, not, ◌&&◌, List, refl, sym, ap, Option, Some, None}
 use Rattle.std.proofs.lemmas.Bool.{false≢true, true≢false}
 use Rattle.civl_bits.specs.declared.value.Value.{Value}
-use Rattle.civl_values.specs.Values.{is_true}
+use Rattle.civl_firing.specs.values.Values.{is_true}
 use Rattle.civl_tree.specs.declared.name.Name.{Name}
 use Rattle.civl_tree.specs.declared.expr.Expr.{Expr}
 use Rattle.civl_tree.specs.declared.stmt.Stmt.{Stmt, out-Stmt}
@@ -27,9 +27,9 @@ use Rattle.civl_meaning.specs.Meaning.{Meaning, Does, Runs, Missing, called}
 use Rattle.civl_meaning.specs.Places.{skip_layer}
 use Rattle.civl_meaning.specs.Change.{with_results, acted, call_change, layer_change, spot_change, proc_change}
 use Rattle.civl_meaning.specs.Failing.{call_fails, layer_fails, spot_fails, proc_fails}
-use Rattle.civl_paths.specs.Paths.{Course}
+use Rattle.civl_conditions.specs.paths.Paths.{Course}
 use Rattle.civl_conditions.specs.Movers.{on_some}
-use Rattle.civl_sweeps.specs.Sweeps.{Swept, with_meaning}
+use Rattle.civl_moves.specs.sweeps.Sweeps.{Swept, with_meaning}
 use Rattle.civl_body.specs.Passing.{course_in}
 use Rattle.civl_goals.specs.Outlines.{invariant_holds, note_holds}
 use Rattle.civl_goals.specs.Failed.{does, fired_store, led_to, loses_invariant, begins_badly, leads_astray}

@@ -9,11 +9,11 @@ use Rattle.civl_firing.specs.declared.store.Store.{Store}
 use Rattle.civl_terms.specs.declared.node.Node.{Node}
 use Rattle.civl_terms.specs.Building.{Grows}
 use Rattle.civl_actions.specs.Actions.{values_at, store_at}
-use Rattle.civl_paths.specs.NoteValues.{plain_note_values}
+use Rattle.civl_conditions.specs.paths.NoteValues.{plain_note_values}
 use Rattle.civl_conditions.specs.Invariants.{holds_in}
 use Rattle.civl_conditions.specs.Weights.{note_weight}
-use Rattle.civl_formulas.specs.Said.{IsTest}
-use Rattle.civl_formulas.proofs.Saying.{test_where, test_as}
+use Rattle.civl_states.specs.formula_parts.Said.{IsTest}
+use Rattle.civl_states.proofs.formula_parts.Saying.{test_where, test_as}
 use Rattle.civl_states.proofs.Variables.{there_is}
 use Rattle.civl_outlines.specs.declared.outline.Note.{Note}
 use Rattle.civl_outlines.specs.declared.outline.Outline.{Outline}

@@ -12,7 +12,7 @@ use Rattle.civl_tree.specs.Numbering.{statement_at}
 use Rattle.civl_terms.specs.declared.node.Node.{Node}
 use Rattle.civl_terms.specs.Graphs.{value_at}
 use Rattle.civl_actions.specs.Actions.{values_at}
-use Rattle.civl_formulas.specs.Said.{Env}
+use Rattle.civl_states.specs.formula_parts.Said.{Env}
 use Rattle.civl_meaning.specs.Permissions.{disjoint, pairwise_disjoint, permissions_of_word}
 use Rattle.civl_conditions.specs.Permissions.{in_store}
 use Rattle.civl_conditions.specs.Steps.{of_proc}

@@ -20,7 +20,7 @@ use Rattle.civl_meaning.specs.Layers.{topmost}
 use Rattle.civl_meaning.specs.Meaning.{Meaning, Does, Runs, Missing, called}
 use Rattle.civl_meaning.specs.Places.{Spot}
 use Rattle.civl_conditions.specs.Movers.{on_some}
-use Rattle.civl_sweeps.specs.Sweeps.{with_meaning}
+use Rattle.civl_moves.specs.sweeps.Sweeps.{with_meaning}
 use Rattle.civl_body.specs.Passing.{course_in}
 use Rattle.civl_goals.specs.Failed.{does, fired_store}
 use Rattle.civl_goal_terms.specs.declared.places.At.{At}

@@ -20,7 +20,7 @@ use Rattle.civl_tree.specs.rules.Names.{action_named}
 use Rattle.civl_tree.specs.rules.Rules.{Keeps}
 use Rattle.civl_tree.specs.rules.Typing.{typing_rules}
 use Rattle.civl_tree.specs.rules.Uses.{param_sorts}
-use Rattle.civl_values.specs.Values.{is_sort}
+use Rattle.civl_firing.specs.values.Values.{is_sort}
 use Rattle.civl_firing.specs.declared.store.Store.{Store}
 use Rattle.civl_terms.specs.declared.node.Node.{Node}
 use Rattle.civl_meaning.specs.Config.{frame_sorts}
@@ -32,10 +32,10 @@ use Rattle.civl_conditions.specs.Steps.{of_proc}
 use Rattle.civl_conditions.specs.Values.{part}
 use Rattle.civl_conditions.specs.Variables.{of_globals, of_params, of_choices, of_locals, choices_of, layer_choices, call_front}
 use Rattle.civl_conditions.specs.Weights.{lin, linear_globals, note_weight}
-use Rattle.civl_formulas.specs.Said.{Env}
-use Rattle.civl_formulas.specs.Given.{given, sorts_from, bits_of_sorts}
-use Rattle.civl_formulas.specs.Lists.{AreSaid}
-use Rattle.civl_formulas.proofs.Giving.{bits-append}
+use Rattle.civl_states.specs.formula_parts.Said.{Env}
+use Rattle.civl_states.specs.formula_parts.Given.{given, sorts_from, bits_of_sorts}
+use Rattle.civl_states.specs.formula_parts.Lists.{AreSaid}
+use Rattle.civl_states.proofs.formula_parts.Giving.{bits-append}
 use Rattle.civl_states.specs.declared.stores.Existing.TheVariants.{Layer}
 use Rattle.civl_states.specs.Groups.{StandFrom}
 use Rattle.civl_states.proofs.Given.{part_given, stand_past, stand_sorts}

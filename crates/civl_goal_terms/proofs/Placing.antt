@@ -23,7 +23,7 @@ use Rattle.civl_meaning.proofs.Spots.{spot_stands}
 use Rattle.civl_layers.specs.Layered.{IsLayered}
 use Rattle.civl_yields.specs.Places.{form_misplaced, stmt_misplaced}
 use Rattle.civl_yields.specs.YieldRules.{commit_rule, yield_rules}
-use Rattle.civl_paths.proofs.Heading.{number_begins}
+use Rattle.civl_conditions.proofs.paths.Heading.{number_begins}
 use Rattle.civl_body.specs.declared.rests.Numbered.{Numbered}
 use Rattle.civl_body.specs.Rests.{rest_of}
 use Rattle.civl_body.proofs.Forms.{if_size, is_if}

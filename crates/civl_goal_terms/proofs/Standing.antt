@@ -23,11 +23,11 @@ use Rattle.civl_layers.specs.Layered.{IsLayered}
 use Rattle.civl_conditions.specs.Values.{part}
 use Rattle.civl_conditions.specs.Variables.{layer_choices}
 use Rattle.civl_conditions.specs.Weights.{lin, linear_globals, note_weight}
-use Rattle.civl_formulas.specs.Said.{Env}
-use Rattle.civl_formulas.specs.Given.{given, sorts_from, bits_of_sorts}
-use Rattle.civl_formulas.specs.Lists.{AreSaid}
+use Rattle.civl_states.specs.formula_parts.Said.{Env}
+use Rattle.civl_states.specs.formula_parts.Given.{given, sorts_from, bits_of_sorts}
+use Rattle.civl_states.specs.formula_parts.Lists.{AreSaid}
 use Rattle.civl_terms.specs.declared.node.Node.{Node}
-use Rattle.civl_formulas.proofs.Giving.{bits-append}
+use Rattle.civl_states.proofs.formula_parts.Giving.{bits-append}
 use Rattle.civl_states.specs.declared.stores.Existing.TheVariants.{Layer}
 use Rattle.civl_states.specs.Groups.{StandFrom}
 use Rattle.civl_states.proofs.Given.{part_given, stand_first, stand_front, stand_past, given_group, group_bits}
@@ -45,7 +45,7 @@ use Rattle.civl_goal_terms.specs.declared.places.At.{At}
 use Rattle.civl_goal_terms.specs.Places.{IsAt}
 use Rattle.civl_goal_terms.specs.declared.settings.Setting.{Setting}
 use Rattle.civl_goal_terms.specs.Settings.{Here, sorts_at, frame_at, CanStand, SaysHere}
-use Rattle.civl_values.specs.Values.{is_sort}
+use Rattle.civl_firing.specs.values.Values.{is_sort}
 use Rattle.std.proofs.lemmas.List.Elements.{All-nil}
 use Rattle.civl_goal_terms.specs.Formulas.{sorts_of}
 use Rattle.civl_goal_terms.specs.Sorted.{top_sorts, sorts_in_frame, statement_sorts}

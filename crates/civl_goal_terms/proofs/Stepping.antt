@@ -21,13 +21,13 @@ use Rattle.civl_terms.specs.Building.{Grows}
 use Rattle.civl_actions.specs.Scopes.{AreOf}
 use Rattle.civl_actions.specs.Actions.{values_at}
 use Rattle.civl_actions.proofs.Staying.{are_stay, values_stay}
-use Rattle.civl_paths.specs.Choices.{action_meant}
+use Rattle.civl_conditions.specs.paths.Choices.{action_meant}
 use Rattle.civl_conditions.specs.Variables.{choices_of}
-use Rattle.civl_sweeps.specs.Sweeps.{Swept, with_action, with_meaning, with_call}
-use Rattle.civl_formulas.specs.Said.{Env, IsTest}
-use Rattle.civl_formulas.specs.Lists.{AreSaid}
-use Rattle.civl_formulas.proofs.Saying.{test_where}
-use Rattle.civl_formulas.proofs.Listing.{said_stay}
+use Rattle.civl_moves.specs.sweeps.Sweeps.{Swept, with_action, with_meaning, with_call}
+use Rattle.civl_states.specs.formula_parts.Said.{Env, IsTest}
+use Rattle.civl_states.specs.formula_parts.Lists.{AreSaid}
+use Rattle.civl_states.proofs.formula_parts.Saying.{test_where}
+use Rattle.civl_states.proofs.formula_parts.Listing.{said_stay}
 use Rattle.civl_moves.specs.declared.sweep.Stop.{Stop}
 use Rattle.civl_moves.specs.declared.sweep.Sweep.{Sweep}
 use Rattle.civl_moves.specs.Calls.{AreBodyTerms}

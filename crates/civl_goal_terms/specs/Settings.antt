@@ -12,8 +12,8 @@ use Rattle.civl_meaning.specs.Layers.{topmost}
 use Rattle.civl_terms.specs.declared.node.Node.{Node}
 use Rattle.civl_actions.specs.Scopes.{AreOf}
 use Rattle.civl_conditions.specs.Variables.{layer_choices}
-use Rattle.civl_formulas.specs.Said.{Env, IsTest}
-use Rattle.civl_formulas.specs.Lists.{AreSaid}
+use Rattle.civl_states.specs.formula_parts.Said.{Env, IsTest}
+use Rattle.civl_states.specs.formula_parts.Lists.{AreSaid}
 use Rattle.civl_states.specs.Stores.{AreGlobals, AreStore}
 use Rattle.civl_goals.specs.Failed.{does}
 use Rattle.civl_goal_terms.specs.declared.places.At.{At}

@@ -7,10 +7,10 @@ use Rattle.civl_tree.specs.declared.stmt.Stmt.{Stmt, out-Stmt}
 use Rattle.civl_tree.specs.declared.stmt.Stmt.TheOpen.{Stmt-F, Assign, Assert, Call}
 use Rattle.civl_meaning.specs.Config.{frame_sorts}
 use Rattle.civl_terms.specs.declared.node.Node.{Node}
-use Rattle.civl_paths.specs.Paths.{Course, tested}
-use Rattle.civl_sweeps.specs.Sweeps.{Swept, gated, standing, sweep_begins, with_assign, with_call}
-use Rattle.civl_formulas.specs.Said.{Env, IsTest}
-use Rattle.civl_formulas.specs.Lists.{AreSaid}
+use Rattle.civl_conditions.specs.paths.Paths.{Course, tested}
+use Rattle.civl_moves.specs.sweeps.Sweeps.{Swept, gated, standing, sweep_begins, with_assign, with_call}
+use Rattle.civl_states.specs.formula_parts.Said.{Env, IsTest}
+use Rattle.civl_states.specs.formula_parts.Lists.{AreSaid}
 use Rattle.civl_states.specs.Stores.{AreStore}
 use Rattle.civl_moves.specs.declared.sweep.Sweep.{Sweep}
 use Rattle.civl_body.specs.Passing.{course_in}

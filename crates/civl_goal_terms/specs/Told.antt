@@ -8,8 +8,8 @@ use Rattle.civl_firing.specs.declared.store.Store.{Store}
 use Rattle.civl_meaning.specs.declared.config.Activation.{Activation}
 use Rattle.civl_meaning.specs.Config.{frame_sorts}
 use Rattle.civl_terms.specs.declared.node.Node.{Node}
-use Rattle.civl_formulas.specs.Said.{Env, IsTest}
-use Rattle.civl_formulas.specs.Lists.{AreSaid}
+use Rattle.civl_states.specs.formula_parts.Said.{Env, IsTest}
+use Rattle.civl_states.specs.formula_parts.Lists.{AreSaid}
 use Rattle.civl_states.specs.Stores.{AreStore}
 use Rattle.civl_goals.specs.Outlines.{invariant_holds, note_holds}
 

@@ -11,10 +11,10 @@ ghost use Rattle.civl_terms.specs.Weights.{graph_weight};
 ghost use Rattle.civl_actions.specs.Actions.{values_at};
 ghost use Rattle.civl_conditions.specs.Permissions.{in_store};
 ghost use Rattle.civl_conditions.specs.Weights.{lin, linear_globals};
-ghost use Rattle.civl_formulas.specs.Said.{Env, IsTest};
+ghost use Rattle.civl_states.specs.formula_parts.Said.{Env, IsTest};
 ghost use Rattle.civl_states.specs.Stores.{AreGlobals, AreStore};
 
-use civl_formulas::no_items;
+use civl_states::formula_parts::no_items;
 use civl_states::{global_items, with_words};
 use civl_terms::{Id, Memory, Terms};
 use civl_tree::{List, Program};

@@ -8,7 +8,7 @@ ghost use Rattle.civl_terms.specs.Building.{Grows};
 ghost use Rattle.civl_terms.specs.Weights.{graph_weight};
 ghost use Rattle.civl_conditions.specs.Invariants.{holds_of_globals};
 ghost use Rattle.civl_conditions.specs.Weights.{global_weight};
-ghost use Rattle.civl_formulas.specs.Said.{Env, IsTest};
+ghost use Rattle.civl_states.specs.formula_parts.Said.{Env, IsTest};
 ghost use Rattle.civl_states.specs.Stores.{AreGlobals, AreStore};
 ghost use Rattle.civl_states.specs.Notes.{HasType};
 ghost use Rattle.civl_goals.specs.Weights.{invariant_weight};
@@ -16,8 +16,8 @@ ghost use Rattle.civl_goal_terms.specs.Outlined.{IsOutlined};
 ghost use Rattle.civl_goal_terms.specs.Told.{TellsHolds};
 
 use civl_bits::Value;
-use civl_formulas::both;
 use civl_outlines::Outline;
+use civl_states::formula_parts::both;
 use civl_states::global_note;
 use civl_terms::{Id, Memory, Terms};
 use civl_tree::{Expr, List, Program};

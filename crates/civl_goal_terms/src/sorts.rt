@@ -7,7 +7,7 @@ ghost use Rattle.civl_tree.specs.rules.Uses.{param_sorts};
 ghost use Rattle.civl_meaning.specs.Config.{frame_sorts};
 ghost use Rattle.civl_meaning.specs.Layers.{topmost};
 ghost use Rattle.civl_meaning.specs.Meaning.{called};
-ghost use Rattle.civl_footprints.specs.Agreement.{exists_at};
+ghost use Rattle.civl_conditions.specs.footprints.Agreement.{exists_at};
 ghost use Rattle.civl_conditions.specs.Steps.{of_action};
 ghost use Rattle.civl_conditions.specs.Variables.{choices_of, layer_choices};
 ghost use Rattle.civl_states.specs.Runs.{instance_sorts};
@@ -17,9 +17,9 @@ ghost use Rattle.civl_goal_terms.specs.Sorted.{top_sorts, sorts_in_frame, choice
 use civl_conditions::action_called;
 use civl_goals::Goal;
 use civl_layers::{Layered, program};
+use civl_names::walks::statements;
 use civl_terms::Memory;
 use civl_tree::{Action, Choice, Global, List, Local, Name, Param, Proc, Program, Sort, Stmt};
-use civl_walks::statements;
 use std::alloc::Global as Alloc;
 
 // ---- groups

@@ -4,9 +4,9 @@ ghost use Rattle.civl_tree.specs.declared.expr.Sort.TheVariants.{Bool as Truth};
 ghost use Rattle.civl_terms.specs.Graphs.{sort_at};
 ghost use Rattle.civl_terms.specs.Building.{Grows};
 ghost use Rattle.civl_terms.specs.Weights.{graph_weight};
-ghost use Rattle.civl_formulas.specs.Said.{Env, IsTest};
+ghost use Rattle.civl_states.specs.formula_parts.Said.{Env, IsTest};
 
-use civl_formulas::{both, either, negated};
+use civl_states::formula_parts::{both, either, negated};
 use civl_terms::{Id, Memory, Terms};
 
 /// Whether the first test is true and the second isn't.

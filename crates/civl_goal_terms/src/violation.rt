@@ -6,7 +6,7 @@ ghost use Rattle.civl_tree.specs.rules.Rules.{Keeps};
 ghost use Rattle.civl_yields.specs.YieldRules.{yield_rules};
 ghost use Rattle.civl_terms.specs.Building.{Lengthens};
 ghost use Rattle.civl_terms.specs.Weights.{graph_weight};
-ghost use Rattle.civl_formulas.specs.Given.{AreVariablesOf};
+ghost use Rattle.civl_states.specs.formula_parts.Given.{AreVariablesOf};
 ghost use Rattle.civl_goals.specs.declared.goal.Goal.TheVariants as goal;
 ghost use Rattle.civl_goals.specs.Listed.{goals};
 ghost use Rattle.civl_goals.specs.Rules.{unfit};

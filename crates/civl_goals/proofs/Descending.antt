@@ -3,7 +3,7 @@ use Rattle.std.proofs.Common.{◌≡◌, ℕ, map, None, Some, sym, ap, ◌∙�
 use Rattle.std.specs.Prelude.{Option}
 use Rattle.civl_tree.specs.declared.program.Program.{Program}
 use Rattle.civl_tree.specs.rules.Rules.{each_place, first_of}
-use Rattle.civl_walks.proofs.Walking.{or_first}
+use Rattle.civl_names.proofs.walks.Walking.{or_first}
 use Rattle.civl_goals.specs.Rules.{descending_in, descending_thread, descending}
 use Rattle.civl_goals.specs.Told.{told}
 use Rattle.civl_goals.proofs.Placed.{first_both}

@@ -16,7 +16,7 @@ use Rattle.civl_outlines.specs.declared.outline.Note.{Note}
 use Rattle.civl_outlines.specs.declared.outline.Outline.{Outline}
 use Rattle.civl_goals.specs.declared.spots.Spot.{Spot}
 use Rattle.civl_goals.specs.Listed.{is_root}
-use Rattle.civl_walks.proofs.Walking.{or_first, first_append}
+use Rattle.civl_names.proofs.walks.Walking.{or_first, first_append}
 use Rattle.civl_goals.specs.Rules.{says_of, hold_scope, root_at, stands_in, note_fits, misplaced, unfit_holds, unfit}
 use Rattle.civl_goals.specs.Spots.{same_spot, spot_of, has_spot, with_spot}
 use Rattle.civl_goals.proofs.Noting.{added_has, any_there, or_false}

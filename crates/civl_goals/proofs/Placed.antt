@@ -3,7 +3,7 @@ use Rattle.std.proofs.Common.{◌≡◌, ℕ, ◌+◌, ◌<◌, ◌≤◌, List,
 use Rattle.std.specs.Prelude.{Option, option_map}
 use Rattle.std.proofs.lemmas.List.{drop_more, drop_all, map-append}
 use Rattle.civl_tree.specs.rules.Rules.{Place, statement_places, each_place, first_of}
-use Rattle.civl_walks.proofs.Walking.{or_first, first_append}
+use Rattle.civl_names.proofs.walks.Walking.{or_first, first_append}
 use Rattle.civl_goals.specs.Told.{told}
 
 module _ {T R : Type 0} (tell : Place → R) (f : ℕ → T → List Place) (items : List T) (at : ℕ) where

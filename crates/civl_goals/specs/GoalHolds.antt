@@ -1,7 +1,7 @@
 -- When a goal of an outline holds.
 use Rattle.std.specs.Prelude.{◌≡◌, false, List, map}
 use Rattle.civl_bits.specs.declared.value.Value.{Value}
-use Rattle.civl_values.specs.Values.{HaveSorts}
+use Rattle.civl_firing.specs.values.Values.{HaveSorts}
 use Rattle.civl_tree.specs.declared.program.Program.{Program}
 use Rattle.civl_outlines.specs.declared.outline.Outline.{Outline}
 use Rattle.civl_goals.specs.declared.goal.Goal.{Goal}

@@ -10,8 +10,8 @@ use Rattle.civl_outlines.specs.declared.outline.Note.{Note}
 use Rattle.civl_outlines.specs.declared.outline.Outline.{Outline}
 use Rattle.civl_firing.specs.declared.store.Store.{Store}
 use Rattle.civl_meaning.specs.declared.config.Activation.{Activation}
-use Rattle.civl_footprints.specs.Agreement.{exists_at}
-use Rattle.civl_paths.specs.NoteValues.{plain_note_values}
+use Rattle.civl_conditions.specs.footprints.Agreement.{exists_at}
+use Rattle.civl_conditions.specs.paths.NoteValues.{plain_note_values}
 use Rattle.civl_conditions.specs.Steps.{of_proc}
 use Rattle.civl_conditions.specs.Invariants.{holds_in, holds_of_globals}
 

@@ -7,12 +7,12 @@ use Rattle.civl_tree.specs.declared.stmt.Stmt.TheOpen.{Stmt-F, Assign, Assert, I
 use Rattle.civl_tree.specs.declared.program.Proc.{Proc}
 use Rattle.civl_tree.specs.declared.program.Program.{Program}
 use Rattle.civl_tree.specs.Numbering.{sizes_of}
-use Rattle.civl_values.specs.ActionWeights.{action_weight}
+use Rattle.civl_firing.specs.values.ActionWeights.{action_weight}
 use Rattle.civl_outlines.specs.declared.outline.Outline.{Outline}
 use Rattle.civl_meaning.specs.Places.{Spot, start_of, spot_at}
 use Rattle.civl_meaning.specs.Meaning.{called, proc_number}
 use Rattle.civl_meaning.specs.Layers.{topmost}
-use Rattle.civl_paths.specs.Choices.{action_meant}
+use Rattle.civl_conditions.specs.paths.Choices.{action_meant}
 use Rattle.civl_conditions.specs.declared.condition.Condition.TheVariants.{Keep as KeepsPermissions}
 use Rattle.civl_conditions.specs.Steps.{of_proc}
 use Rattle.civl_conditions.specs.Weights.{weight_limit, lin, bits_of_variables, weights_of, global_weight, body_weight, note_weight, linear_globals, initial_own, own_weight as condition_own}

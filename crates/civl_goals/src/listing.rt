@@ -18,10 +18,10 @@ use crate::roots::{begins, is_root};
 use crate::rules::proc_item;
 use crate::spots::{Spot, Spots, spots_of};
 use civl_layers::{Layered, program};
+use civl_names::walks::statements;
 use civl_outlines::Outline;
 use civl_tree::{Action, List, Memory, Mode, Name, Param, Proc, Program, Stmt, Thread, Update};
 use civl_types::names::same_name;
-use civl_walks::statements;
 use std::alloc::Global;
 
 // ---- threads

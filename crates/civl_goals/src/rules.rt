@@ -14,10 +14,10 @@ use crate::roots::is_root;
 use crate::sayings::{Place, says};
 use crate::spots::{Spots, spot_of};
 use civl_layers::{Layered, program};
+use civl_names::walks::{Test, first_in_body, statements};
 use civl_outlines::{Note, Outline};
 use civl_tree::{Expr, Memory, Name, Proc, Program, Stmt, Thread};
 use civl_types::names::{action_named, proc_named};
-use civl_walks::{Test, first_in_body, statements};
 use std::alloc::Global;
 
 // ---- items
@@ -94,7 +94,7 @@ impl<'a> Test for Descends<'a> {
 }
 
 /// The first such statement of a procedure, where it is a root.
-#[tactic(auto, using(civl_walks::proofs::Placing::body_counts))]
+#[tactic(auto, using(civl_names::proofs::walks::Placing::body_counts))]
 fn first_statement(program: &Program, proc: &Proc) -> Option<u32>
     requires { sizes_of proc.now.body < 2 ^ 32 }
     ensures { result ≡ first_of (if is_root proc.now then statements_where (λ stmt. form_descends program.now (out-Stmt stmt)) proc.now else []) }

@@ -14,8 +14,8 @@ use crate::goal::Goal;
 use crate::sayings::exists_on_top;
 use civl_conditions::{Condition, Variable, action_called, variables as condition_variables};
 use civl_layers::{Layered, program};
+use civl_names::walks::statements;
 use civl_tree::{Choice, Global, List, Local, Memory, Name, Param, Proc, Program, Sort, Stmt};
-use civl_walks::statements;
 use itoa::Buffer;
 use std::alloc::Global as Alloc;
 

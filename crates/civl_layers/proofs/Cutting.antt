@@ -4,7 +4,7 @@ use Rattle.std.proofs.lemmas.List.{append_assoc, drop_more}
 use Rattle.civl_tree.specs.declared.stmt.Stmt.{Stmt}
 use Rattle.civl_tree.specs.Numbering.{statements_of, inner_of}
 use Rattle.civl_tree.proofs.Preorder.{preorder}
-use Rattle.civl_walks.proofs.Walking.{lengths}
+use Rattle.civl_names.proofs.walks.Walking.{lengths}
 use Rattle.civl_layers.specs.declared.cut.Cut.{Cut}
 use Rattle.civl_layers.specs.Cuts.{cut_at, cut_kind, cuts_among}
 

@@ -8,12 +8,12 @@ ghost use Rattle.civl_layers.specs.Layered.{IsAt, IsAtFirst};
 
 use crate::rule::LayerRule;
 use crate::source::Layered;
+use civl_names::walks::first_broken;
 use civl_tree::{Program, Refusal, Refused};
 use civl_types::Typed;
-use civl_walks::first_broken;
 
 /// The refusal of the first of the rules that is broken.
-#[tactic(auto, using(civl_walks::proofs::Placing::of_rules))]
+#[tactic(auto, using(civl_names::proofs::walks::Placing::of_rules))]
 fn first_of_rules(program: &Program) -> Option<Refusal>
     requires { IsNumbered program.now }
     ensures { result ≡ refusal_by layer_rules program.now }

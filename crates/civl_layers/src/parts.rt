@@ -9,8 +9,8 @@ use crate::ranges::{range_fails, refines_range, step_fails};
 use crate::rule::LayerRule;
 use crate::signature::proc_signature_differs;
 use crate::there::{refines_missing, stmt_missing, thread_missing};
+use civl_names::walks::{Decides, Test, first_in_body};
 use civl_tree::{Action, Global, Invariant, Proc, Program, Stmt, Thread};
-use civl_walks::{Decides, Test, first_in_body};
 
 /// What a rule asks of a statement of a procedure, which stands behind the earlier ones.
 #[derive(Clone, Copy)]

@@ -13,8 +13,8 @@ use Rattle.civl_conditions.specs.Listed.{conditions}
 use Rattle.civl_verdicts.specs.declared.verdict.Verdict.{Verdict}
 use Rattle.civl_verdicts.specs.declared.verdict.Verdict.TheVariants as verdict
 use Rattle.civl_verdicts.specs.Verdicts.{IsVerdict}
-use Rattle.civl_judgements.specs.Agreement.{VerdictsAgree}
-use Rattle.civl_judgements.proofs.Judging.{verdicts_on_one_agree}
+use Rattle.civl_verdicts.specs.judgements.Agreement.{VerdictsAgree}
+use Rattle.civl_verdicts.proofs.judgements.Judging.{verdicts_on_one_agree}
 use Rattle.civl_frontend.specs.Texts.{limit}
 use Rattle.civl_frontend.specs.Told.{OfRead}
 use Rattle.civl_frontend.specs.declared.reader.Fault.{Fault}

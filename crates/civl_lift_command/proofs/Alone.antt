@@ -4,7 +4,7 @@ use Rattle.std.proofs.Common.{◌≡◌, ℕ, inl, inr, List, [], ◌∷◌, ◌
 use Rattle.civl_tree.specs.declared.program.Program.{Program}
 use Rattle.civl_verdicts.specs.declared.verdict.Verdict.{Verdict}
 use Rattle.civl_verdicts.specs.declared.verdict.Verdict.TheVariants as verdict
-use Rattle.civl_verdict_reports.specs.Verdicts.{verdict_text}
+use Rattle.civl_verdicts.specs.verdict_reports.Verdicts.{verdict_text}
 use Rattle.civl_frontend.specs.Report.{fault_text}
 use Rattle.civl_frontend.specs.Streams.{ReadState, WriteState}
 use Rattle.civl_frontend.specs.declared.reader.Fault.{Fault}

@@ -9,8 +9,8 @@ use Rattle.civl_firing.specs.declared.store.Store.{Store}
 use Rattle.civl_meaning.specs.declared.config.Move.{Move}
 use Rattle.civl_meaning.specs.Preserves.{Preserves}
 use Rattle.civl_verdicts.specs.declared.verdict.Verdict.TheVariants as verdict
-use Rattle.civl_verdict_reports.specs.Verdicts.{rejected_text, undecided_text}
-use Rattle.civl_simulation.specs.Preserved.{AcceptedProgramsPreserve}
+use Rattle.civl_verdicts.specs.verdict_reports.Verdicts.{rejected_text, undecided_text}
+use Rattle.civl_reduction.specs.simulation.Preserved.{AcceptedProgramsPreserve}
 use Rattle.civl_frontend.specs.Status.{code_of}
 use Rattle.civl_frontend.specs.Streams.{ReadState, WriteState, ReadsAndWrites}
 use Rattle.civl_frontend.specs.Texts.{IsScriptReading, SpellsScript, limit}

@@ -10,14 +10,14 @@ use Rattle.civl_firing.specs.declared.store.Store.{Store}
 use Rattle.civl_meaning.specs.declared.config.Plain.{Plain}
 use Rattle.civl_meaning.specs.declared.config.Move.{Move}
 use Rattle.civl_meaning.specs.Layers.{lowest, topmost}
-use Rattle.civl_run.specs.Trace.{trace_of}
-use Rattle.civl_run.specs.declared.trace.Trace.{Trace}
+use Rattle.civl_script.specs.replays.Trace.{trace_of}
+use Rattle.civl_script.specs.declared.replays.trace.Trace.{Trace}
 use Rattle.civl_script.specs.Schedules.{AreMovesOf, IsSchedule}
 use Rattle.civl_script.specs.declared.schedule.Schedule.{Schedule}
 use Rattle.civl_script.proofs.Only.{moves_count}
 use Rattle.civl_verdicts.specs.Verdicts.{IsVerdict}
 use Rattle.civl_verdicts.specs.declared.verdict.Verdict.TheVariants.{Accepted}
-use Rattle.civl_simulation.specs.Followed.{IsAccepted as IsSound}
+use Rattle.civl_reduction.specs.simulation.Followed.{IsAccepted as IsSound}
 use Rattle.civl_lifting.specs.Lifted.{FailsBy}
 use Rattle.civl_frontend.specs.Rules.{IsTaken}
 use Rattle.civl_frontend.proofs.Accepting.{accepted_by}

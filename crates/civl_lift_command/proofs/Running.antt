@@ -14,8 +14,8 @@ use Rattle.civl_meaning.specs.Failing.{IsMove, thread_fails, is_failing, failing
 use Rattle.civl_meaning.specs.Step.{start, step_of}
 use Rattle.civl_meaning.specs.Run.{RunsTo, has_moved, run_of}
 use Rattle.civl_meaning.proofs.Runs.{runs_are_made}
-use Rattle.civl_run.specs.Trace.{read_off, trace_of}
-use Rattle.civl_run.specs.declared.trace.Trace.{Trace}
+use Rattle.civl_script.specs.replays.Trace.{read_off, trace_of}
+use Rattle.civl_script.specs.declared.replays.trace.Trace.{Trace}
 use Rattle.civl_lifting.specs.Lifted.{FailsBy}
 
 -- ---- there is a first one that passes where any does

@@ -2,7 +2,7 @@
 use Rattle.std.specs.Prelude.{◌≡◌, ⊤}
 use Rattle.civl_verdicts.specs.declared.verdict.Verdict.{Verdict}
 use Rattle.civl_verdicts.specs.declared.verdict.Verdict.TheVariants as verdict
-use Rattle.civl_judgements.specs.Agreement.{VerdictsAgree}
+use Rattle.civl_verdicts.specs.judgements.Agreement.{VerdictsAgree}
 use Rattle.civl_lift_command.specs.Outcome.{Outcome, Judged, Misfit, NotInitial, NotFailing, Lifted, Spent}
 
 -- a search spent its budget, so that another may come to acceptance

@@ -7,7 +7,7 @@ use Rattle.civl_firing.specs.declared.store.Store.{Store}
 use Rattle.civl_meaning.specs.declared.config.Move.{Move}
 use Rattle.civl_meaning.specs.Initial.{IsInitial}
 use Rattle.civl_meaning.specs.Layers.{lowest}
-use Rattle.civl_run.specs.Trace.{trace_of}
+use Rattle.civl_script.specs.replays.Trace.{trace_of}
 use Rattle.civl_script.specs.Schedules.{IsSchedule}
 use Rattle.civl_script.specs.declared.schedule.Schedule.TheVariants.{Wrong}
 use Rattle.civl_conditions.specs.declared.condition.Condition.{Condition}
@@ -15,8 +15,8 @@ use Rattle.civl_conditions.specs.Weights.{heavy}
 use Rattle.civl_verdicts.specs.declared.verdict.Verdict.{Verdict}
 use Rattle.civl_verdicts.specs.declared.verdict.Verdict.TheVariants as verdict
 use Rattle.civl_verdicts.specs.Verdicts.{IsVerdict}
-use Rattle.civl_reports.specs.Findings.{heavy_text}
-use Rattle.civl_verdict_reports.specs.Verdicts.{verdict_text}
+use Rattle.civl_verdicts.specs.reports.Findings.{heavy_text}
+use Rattle.civl_verdicts.specs.verdict_reports.Verdicts.{verdict_text}
 use Rattle.civl_lifting.specs.Lifted.{FailsBy}
 use Rattle.civl_frontend.specs.Report.{too_long_text, fault_text, refusal_text, misfit_text}
 use Rattle.civl_frontend.specs.Rules.{static_refusal, IsLawful, IsTaken}

@@ -10,7 +10,7 @@ use Rattle.civl_conditions.specs.declared.condition.Condition.{Condition}
 use Rattle.civl_conditions.specs.Violated.{Violates}
 use Rattle.civl_verdicts.specs.declared.verdict.Counter.{Counter}
 use Rattle.civl_verdicts.specs.Verdicts.{IsReached, IsUndecided}
-use Rattle.civl_verdict_reports.specs.Verdicts.{rejected_text, undecided_text}
+use Rattle.civl_verdicts.specs.verdict_reports.Verdicts.{rejected_text, undecided_text}
 use Rattle.civl_frontend.specs.Rules.{IsTaken}
 use Rattle.civl_frontend.specs.Streams.{ReadState, WriteState, ReadsAndWrites, IsAlone}
 use Rattle.civl_frontend.specs.Texts.{SpellsScript}

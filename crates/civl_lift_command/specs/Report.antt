@@ -2,8 +2,8 @@
 use Rattle.std.specs.Prelude.{ℕ, List, ◌++◌, map, length, codes, decimal, Some}
 use Rattle.std.specs.List.{flat_map}
 use Rattle.civl_meaning.specs.declared.config.Move.{Move}
-use Rattle.civl_models.specs.Text.{value_text, listed}
-use Rattle.civl_reports.specs.Lines.{line}
+use Rattle.civl_verdicts.specs.models.Text.{value_text, listed}
+use Rattle.civl_verdicts.specs.reports.Lines.{line}
 use Rattle.civl_frontend.specs.Report.{failing_text}
 
 -- that the words are no command's

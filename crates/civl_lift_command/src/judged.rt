@@ -13,10 +13,10 @@ use civl_frontend::{
 };
 use civl_layers::Layered;
 use civl_meaning::Move;
-use civl_reports::report_heavy;
 use civl_tree::{List, Refusal};
-use civl_verdict_reports::report_verdict;
 use civl_verdicts::Verdict;
+use civl_verdicts::reports::report_heavy;
+use civl_verdicts::verdict_reports::report_verdict;
 use std::alloc::Global;
 
 /// What is written where the words are no command's.

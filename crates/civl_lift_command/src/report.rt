@@ -1,15 +1,15 @@
 // The text of a report.
 ghost use Rattle.std.specs.Prelude.{◌≡◌, ◌++◌, OnOk, IfOk, map, codes};
 ghost use Rattle.std.specs.List.{flat_map};
-ghost use Rattle.civl_models.specs.Text.{value_text, listed};
+ghost use Rattle.civl_verdicts.specs.models.Text.{value_text, listed};
 ghost use Rattle.civl_lift_command.specs.Report.{not_failing_text, move_line, lifted_text, spent_text};
 
 use civl_bits::Value;
 use civl_frontend::{put_failing, put_place};
 use civl_meaning::Move;
-use civl_models::put_value_text;
-use civl_reports::{put, put_number};
 use civl_tree::{List, Memory};
+use civl_verdicts::models::put_value_text;
+use civl_verdicts::reports::{put, put_number};
 use std::alloc::Global;
 
 /// A value behind others.

@@ -3,7 +3,7 @@ ghost use Rattle.std.specs.Prelude.{◌+◌, ◌<◌, ◌^◌, length, IsTrue};
 ghost use Rattle.civl_tree.specs.Numbered.{IsNumbered};
 ghost use Rattle.civl_tree.specs.SpellingDomain.{allows_program};
 ghost use Rattle.civl_verdicts.specs.Verdicts.{IsVerdict};
-ghost use Rattle.civl_simulation.specs.Followed.{IsAccepted as IsSound};
+ghost use Rattle.civl_reduction.specs.simulation.Followed.{IsAccepted as IsSound};
 ghost use Rattle.civl_frontend.specs.Rules.{IsLawful, IsTaken};
 ghost use Rattle.civl_frontend.specs.Told.{IsJudged};
 ghost use Rattle.civl_lift_command.specs.Lifting.{IsAccepted};
@@ -12,15 +12,15 @@ ghost use Rattle.civl_lift_command.specs.Outcome.{Lifts, telling};
 use crate::judged::{decided, misfit, refuse, too_heavy};
 use crate::schedule::judge_schedule;
 use civl_frontend::{Judged, admitted};
-use civl_judging::verify;
 use civl_layers::{Layered, program};
 use civl_maker::Maker;
 use civl_portfolio::Prover;
 use civl_script::{Schedule, read_schedule};
 use civl_tree::{Entry, List, Refused, Script, Told};
 use civl_verdicts::Verdict;
-use civl_verify::{Admitted, locals_held, source};
+use civl_verdicts::judging::verify;
 use civl_weights::TooMuch;
+use civl_yields::verify::{Admitted, locals_held, source};
 use std::alloc::Global;
 
 /// What is found of the entries and moves of a script whose program is accepted.

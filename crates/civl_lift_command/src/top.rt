@@ -8,7 +8,7 @@ ghost use Rattle.civl_lift_command.specs.Promises.{LiftsRightly, LiftsAlone, Rej
 use crate::judge::judge;
 use civl_frontend::Status;
 use civl_outside::{Sent, Sink, Source, write_all};
-use civl_simulation::laws::accepted_programs_preserve;
+use civl_reduction::simulation::laws::accepted_programs_preserve;
 use std::alloc::Global;
 
 /// Judges the words and the input, and writes the report.

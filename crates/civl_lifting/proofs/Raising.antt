@@ -15,18 +15,18 @@ use Rattle.civl_meaning.specs.declared.config.Stepped.TheVariants as answer
 use Rattle.civl_meaning.specs.Failing.{thread_fails, is_failing}
 use Rattle.civl_meaning.specs.Layers.{program_at}
 use Rattle.civl_meaning.specs.Step.{start, step_of}
-use Rattle.civl_interleavings.specs.Systems.{Failing, System}
-use Rattle.civl_interleavings.specs.Runs.{BlocksTo, opened}
-use Rattle.civl_interleavings.specs.Threads.{stepping_of}
-use Rattle.civl_exchanges.specs.Interleavings.{as_config}
-use Rattle.civl_blocks.specs.Blocks.{inside}
-use Rattle.civl_blocks.specs.Challenged.{challenged}
-use Rattle.civl_blocks.specs.Reduces.{layer_threads}
-use Rattle.civl_gathering.specs.Gathered.{blocks}
-use Rattle.civl_gathering.proofs.Counting.{blocks_step}
-use Rattle.civl_gathered.specs.System.{made, there_fails, there_inside, layer_run}
-use Rattle.civl_gathered.proofs.Moving.{fails_same}
-use Rattle.civl_gathered.proofs.Stages.{blocks_raised}
+use Rattle.civl_reduction.specs.interleavings.Systems.{Failing, System}
+use Rattle.civl_reduction.specs.interleavings.Runs.{BlocksTo, opened}
+use Rattle.civl_reduction.specs.interleavings.Threads.{stepping_of}
+use Rattle.civl_reduction.specs.exchanges.Interleavings.{as_config}
+use Rattle.civl_reduction.specs.blocks.Blocks.{inside}
+use Rattle.civl_reduction.specs.blocks.Challenged.{challenged}
+use Rattle.civl_reduction.specs.blocks.Reduces.{layer_threads}
+use Rattle.civl_reduction.specs.gathering.Gathered.{blocks}
+use Rattle.civl_reduction.proofs.gathering.Counting.{blocks_step}
+use Rattle.civl_reduction.specs.gathered.System.{made, there_fails, there_inside, layer_run}
+use Rattle.civl_reduction.proofs.gathered.Moving.{fails_same}
+use Rattle.civl_reduction.proofs.gathered.Stages.{blocks_raised}
 use Rattle.civl_blocked.specs.Blocked.{IsTurned}
 use Rattle.civl_followed.specs.Followed.{inside_at, ended, block_count, FailsInBlocks, FollowsBlocks}
 use Rattle.civl_lifting.specs.Lifted.{FailsBy}

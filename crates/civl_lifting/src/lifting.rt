@@ -2,7 +2,7 @@
 ghost use Rattle.std.specs.Prelude.{IfOk};
 ghost use Rattle.civl_meaning.specs.Initial.{IsInitial};
 ghost use Rattle.civl_meaning.specs.Layers.{lowest};
-ghost use Rattle.civl_simulation.specs.Followed.{IsAccepted};
+ghost use Rattle.civl_reduction.specs.simulation.Followed.{IsAccepted};
 ghost use Rattle.civl_lifting.specs.Lifted.{FailsBy, IsLifted};
 
 use crate::copying::copies;

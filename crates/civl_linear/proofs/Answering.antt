@@ -12,9 +12,9 @@ use Rattle.civl_tree.specs.rules.Broken.{AreInOrder, IsRefusal}
 use Rattle.civl_tree.proofs.Numbers.{sizes_are_counts}
 use Rattle.civl_tree.proofs.Ordered.{where_in_order}
 use Rattle.civl_tree.proofs.First.{in_order, first_is_answer}
-use Rattle.civl_walks.proofs.Finding.{with_in_order, with_last_in_order}
-use Rattle.civl_walks.proofs.Walking.{or_first}
-use Rattle.civl_walks.proofs.Placing.{AsksProcs, told_of_procs, or_nothing, rule_first}
+use Rattle.civl_names.proofs.walks.Finding.{with_in_order, with_last_in_order}
+use Rattle.civl_names.proofs.walks.Walking.{or_first}
+use Rattle.civl_names.proofs.walks.Placing.{AsksProcs, told_of_procs, or_nothing, rule_first}
 use Rattle.civl_linear.specs.Held.{traced_proc}
 use Rattle.civl_linear.specs.Places.{stmt_not_held, stmt_held_twice, stmt_assigned, not_returned}
 use Rattle.civl_linear.specs.LinearRules.{is_lost, lost_numbers, not_held_rule, held_twice_rule, lost_rule, assigned_rule, linear_rules}

@@ -7,7 +7,7 @@ use Rattle.civl_tree.specs.declared.stmt.Stmt.TheFolds.{fold-roll-Stmt}
 use Rattle.civl_tree.specs.declared.program.Program.{Program}
 use Rattle.civl_tree.specs.rules.Names.{proc_named, proc_signature_of, callee_signature}
 use Rattle.civl_tree.proofs.Layers.{layers}
-use Rattle.civl_walks.proofs.Finding.{computing}
+use Rattle.civl_names.proofs.walks.Finding.{computing}
 use Rattle.civl_linear.specs.Held.{Traced, traced, traced_all, trace_step, trace_one, trace_if, trace_loop, call_held, spawn_held}
 
 abbrev pub traced_form : Program → List Name → Stmt-F Stmt → List Bool → Traced

@@ -3,8 +3,8 @@ use Rattle.std.proofs.Common.{◌≡◌, ℕ, Bool, true, false, List, [], ◌�
 use Rattle.std.specs.Prelude.{Option, not, if◌then◌else◌}
 use Rattle.civl_tree.specs.declared.stmt.Stmt.{Stmt}
 use Rattle.civl_tree.specs.rules.Rules.{first_of}
-use Rattle.civl_walks.specs.Walks.{numbers_with}
-use Rattle.civl_walks.proofs.Walking.{or_first, first_append}
+use Rattle.civl_names.specs.walks.Walks.{numbers_with}
+use Rattle.civl_names.proofs.walks.Walking.{or_first, first_append}
 
 pub noted_same : {A : Type 0} (breaks other : Stmt → A → Bool) (stmts others : List Stmt) (notes same : List A) → breaks ≡ other → stmts ≡ others → notes ≡ same
     → first_of (numbers_with breaks 0 stmts notes) ≡ first_of (numbers_with other 0 others same)

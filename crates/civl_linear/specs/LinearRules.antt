@@ -7,7 +7,7 @@ use Rattle.civl_tree.specs.Numbering.{statements_of, exit_number}
 use Rattle.civl_tree.specs.rules.Names.{names_in_proc}
 use Rattle.civl_tree.specs.rules.Codes.{E40, E41, E42, E43}
 use Rattle.civl_tree.specs.rules.Rules.{Rule, asks_nothing, statements_where}
-use Rattle.civl_walks.specs.Walks.{numbers_with}
+use Rattle.civl_names.specs.walks.Walks.{numbers_with}
 use Rattle.civl_linear.specs.Held.{traced_proc}
 use Rattle.civl_linear.specs.Places.{stmt_not_held, stmt_held_twice, stmt_assigned, not_returned}
 

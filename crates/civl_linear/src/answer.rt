@@ -10,8 +10,8 @@ ghost use Rattle.civl_linear.specs.LinearRules.{linear_rules};
 use crate::finders::{DoubledLocals, LostLocals, MisassignedNames, UnheldArguments};
 use crate::listing::held_in;
 use civl_layers::{Held, Layered, program};
+use civl_names::walks::first_in_procs;
 use civl_tree::{Memory, Program, Refusal, Refused};
-use civl_walks::first_in_procs;
 use std::alloc::Global;
 
 /// The refusal of the first of the rules that is broken.

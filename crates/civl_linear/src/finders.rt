@@ -6,8 +6,8 @@ use crate::flags::{covers, exit_owed};
 use crate::places::names_in_proc;
 use crate::rules::{Doubled, Losing, Misassigned, Unheld};
 use crate::tracing::traced_proc;
+use civl_names::walks::{Finder, first_in_body, first_with, statements};
 use civl_tree::{Memory, Proc, Program};
-use civl_walks::{Finder, first_in_body, first_with, statements};
 use std::alloc::Global;
 
 /// Arguments that aren't held (E40).
@@ -112,7 +112,7 @@ impl Finder for MisassignedNames {
         43
     }
 
-    #[tactic(auto, using(civl_walks::proofs::Placing::body_counts))]
+    #[tactic(auto, using(civl_names::proofs::walks::Placing::body_counts))]
     fn find(
         &self,
         _alloc: Global,

@@ -9,8 +9,8 @@ use crate::flags::entry_held;
 use crate::places::names_in_proc;
 use crate::tracing::traced_proc;
 use civl_layers::Held;
+use civl_names::walks::statements;
 use civl_tree::{List, Memory, Name, Proc, Program, Stmt};
-use civl_walks::statements;
 use std::alloc::Global;
 
 /// The numbers of those of these names that are held.

@@ -12,9 +12,9 @@ ghost use Rattle.civl_linear.specs.Places.{not_held, any_not_held, passed_twice,
 use crate::modes::{Want, is_given, is_passed};
 use crate::passing::is_passed_name;
 use crate::places::{holds, is_param, may_get, may_pass};
+use civl_names::walks::{NoteTest, Test};
 use civl_tree::{Expr, List, Mode, Name, Param, Proc, Program, Stmt};
 use civl_types::names::{Signature, callee_signature, proc_signature, same_name};
-use civl_walks::{NoteTest, Test};
 
 /// Whether the argument isn't the plain name of something held that may stand for a linear parameter.
 fn not_held(proc: &Proc, names: &[&Name], held: &List<bool>, arg: &Expr) -> bool

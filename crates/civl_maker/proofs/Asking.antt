@@ -9,7 +9,7 @@ use Rattle.civl_movers.specs.Settings.{IsOfActions}
 use Rattle.civl_movers.proofs.Listed.{HasActions, listed_there}
 use Rattle.civl_maker.specs.Kinds.{kind_of}
 use Rattle.civl_refine.specs.Kinds.{IsOfPaths}
-use Rattle.civl_steady.specs.Kinds.{IsOfSteadiness}
+use Rattle.civl_refine.specs.steadiness.Kinds.{IsOfSteadiness}
 use Rattle.civl_maker.specs.declared.violation.Kind.TheVariants.{Actions, Paths, Steadiness}
 use Rattle.civl_maker.proofs.Listed.{HasPlaces, places_there}
 

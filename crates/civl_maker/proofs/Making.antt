@@ -5,19 +5,19 @@ use Rattle.civl_tree.specs.declared.expr.Sort.{Sort}
 use Rattle.civl_tree.specs.declared.program.Program.{Program}
 use Rattle.civl_tree.specs.rules.Rules.{Keeps}
 use Rattle.civl_tree.specs.rules.Typing.{typing_rules}
-use Rattle.civl_values.specs.Values.{is_sort}
+use Rattle.civl_firing.specs.values.Values.{is_sort}
 use Rattle.civl_terms.specs.declared.node.Node.{Node}
 use Rattle.civl_terms.specs.declared.node.Node.TheVariants.{Variable}
 use Rattle.civl_terms.specs.Weights.{graph_weight}
 use Rattle.civl_conditions.specs.declared.condition.Condition.{Condition}
-use Rattle.civl_formulas.specs.Given.{AreVariablesOf}
+use Rattle.civl_states.specs.formula_parts.Given.{AreVariablesOf}
 use Rattle.civl_states.specs.Formulas.{IsFormula, sorts_of}
 use Rattle.civl_states.specs.Stores.{global_sorts}
 use Rattle.civl_states.proofs.Limits.{global_sorts_are}
 use Rattle.civl_verdicts.specs.Formulas.{Formula, initial_formula, violation_formula}
-use Rattle.civl_judging.specs.declared.formula.Made.{Made}
-use Rattle.civl_judging.specs.Made.{IsMade}
-use Rattle.civl_findings.proofs.Sorted.{variables_have_sorts}
+use Rattle.civl_verdicts.specs.declared.judging.formula.Made.{Made}
+use Rattle.civl_verdicts.specs.judging.Made.{IsMade}
+use Rattle.civl_verdicts.proofs.findings.Sorted.{variables_have_sorts}
 
 -- an empty graph has no variables
 pub no_variables : (ns : List Node) (sorts : List Sort) → ns ≡ [] → AreVariablesOf ns sorts

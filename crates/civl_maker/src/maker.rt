@@ -5,12 +5,12 @@ ghost use Rattle.civl_states.specs.Stores.{global_sorts};
 use crate::violation::violation;
 use civl_bodies::Bodies;
 use civl_conditions::Condition;
-use civl_interfere::initial;
-use civl_judging::{Made, Makes, Memory};
 use civl_layers::{Held, Layered, program};
+use civl_movers::interfere::initial;
 use civl_states::variable_sorts;
 use civl_terms::Terms;
 use civl_tree::{List, Program, Sort};
+use civl_verdicts::judging::{Made, Makes, Memory};
 use std::alloc::Global;
 
 /// The sorts of the globals, in their order.

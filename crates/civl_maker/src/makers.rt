@@ -7,10 +7,10 @@ ghost use Rattle.civl_linear.specs.LinearRules.{linear_rules};
 ghost use Rattle.civl_terms.specs.Building.{Lengthens};
 ghost use Rattle.civl_terms.specs.Weights.{graph_weight};
 ghost use Rattle.civl_conditions.specs.Weights.{weight};
-ghost use Rattle.civl_formulas.specs.Given.{AreVariablesOf};
+ghost use Rattle.civl_states.specs.formula_parts.Given.{AreVariablesOf};
 ghost use Rattle.civl_states.specs.Formulas.{sorts_of, IsViolation};
 ghost use Rattle.civl_refine.specs.Kinds.{IsOfPaths};
-ghost use Rattle.civl_steady.specs.Kinds.{IsOfSteadiness};
+ghost use Rattle.civl_refine.specs.steadiness.Kinds.{IsOfSteadiness};
 
 use civl_bodies::Bodies;
 use civl_conditions::Condition;
@@ -63,6 +63,6 @@ pub(crate) fn steady_violation(
     ensures weighs { OnOk result (graph_weight terms.new ≤ graph_weight terms.old + 4 * weight src.now condition.now) }
     ensures lengthens { Lengthens terms.old terms.new }
 {
-    let id = civl_steady::violation(alloc, terms, src, held, bodies, sorts, condition)?;
+    let id = civl_refine::steadiness::violation(alloc, terms, src, held, bodies, sorts, condition)?;
     Ok(id)
 }

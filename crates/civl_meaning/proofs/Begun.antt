@@ -24,7 +24,7 @@ use Rattle.civl_tree.specs.rules.Typing.{typing_rules, unknown_rule, width_rule,
 use Rattle.civl_tree.proofs.Kept.{thread_kept, unknown_among, width_among, sort_among, index_among, arity_among}
 use Rattle.civl_firing.specs.declared.store.Store.{Store}
 use Rattle.civl_meaning.specs.declared.config.Plain.{Plain}
-use Rattle.civl_values.specs.Values.{HaveSorts}
+use Rattle.civl_firing.specs.values.Values.{HaveSorts}
 use Rattle.civl_firing.specs.Stores.{IsStore}
 use Rattle.civl_firing.specs.Eval.{values_of}
 use Rattle.civl_firing.specs.Scope.{global_values}

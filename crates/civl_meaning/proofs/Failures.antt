@@ -16,7 +16,7 @@ use Rattle.civl_meaning.specs.declared.config.Running.{Running}
 use Rattle.civl_meaning.specs.declared.config.Stepped.TheVariants as answer
 use Rattle.civl_firing.specs.declared.firing.Fired.TheVariants as fire
 use Rattle.civl_meaning.specs.declared.config.Change.TheVariants.{Stays, Goes}
-use Rattle.civl_values.specs.Values.{is_true}
+use Rattle.civl_firing.specs.values.Values.{is_true}
 use Rattle.civl_firing.specs.Eval.{value_of, values_of}
 use Rattle.civl_firing.specs.Scope.{frame_values}
 use Rattle.civl_tree.specs.rules.Names.{names_in_proc}

@@ -20,7 +20,7 @@ use Rattle.civl_meaning.specs.declared.config.State.{State}
 use Rattle.civl_meaning.specs.declared.config.State.TheVariants.{Before, Inside, After}
 use Rattle.civl_meaning.specs.declared.config.Running.{Running}
 use Rattle.civl_meaning.specs.declared.config.Config.{Config}
-use Rattle.civl_values.specs.Values.{HaveSorts}
+use Rattle.civl_firing.specs.values.Values.{HaveSorts}
 use Rattle.civl_firing.specs.Stores.{IsStore}
 use Rattle.civl_meaning.specs.Places.{Spot, spot_at}
 use Rattle.civl_meaning.specs.Meaning.{Meaning, Does, Runs, Missing, meaning_of, called, proc_number}

@@ -17,7 +17,7 @@ use Rattle.civl_meaning.specs.declared.config.Config.{Config}
 use Rattle.civl_meaning.specs.declared.config.Stepped.TheVariants as answer
 use Rattle.civl_meaning.specs.declared.config.Change.{Change}
 use Rattle.civl_meaning.specs.declared.config.Change.TheVariants.{Stays, Goes, Acts, Enters, Leaves, Spawns}
-use Rattle.civl_values.specs.Values.{is_true}
+use Rattle.civl_firing.specs.values.Values.{is_true}
 use Rattle.civl_firing.specs.Eval.{value_of, values_of}
 use Rattle.civl_firing.specs.Scope.{frame_values}
 use Rattle.civl_firing.specs.Fired.{gate_holds}

@@ -3,7 +3,7 @@ ghost use Rattle.std.specs.Prelude.{◌≡◌, ◌+◌, ◌^◌, ◌<◌, Some, 
 ghost use Rattle.civl_tree.specs.declared.stmt.Stmt.{out-Stmt};
 ghost use Rattle.civl_meaning.specs.declared.config.State.TheVariants.{Before};
 ghost use Rattle.civl_firing.specs.Truth.{place_of};
-ghost use Rattle.civl_values.specs.Values.{is_true};
+ghost use Rattle.civl_firing.specs.values.Values.{is_true};
 ghost use Rattle.civl_firing.specs.Eval.{value_of, values_of};
 ghost use Rattle.civl_firing.specs.Scope.{frame_values};
 ghost use Rattle.civl_tree.specs.rules.Names.{names_in_proc};

@@ -7,17 +7,17 @@ use Rattle.civl_tree.specs.declared.action.Action.{Action}
 use Rattle.civl_tree.specs.declared.action.Param.{Param}
 use Rattle.civl_tree.specs.declared.program.Program.{Program}
 use Rattle.civl_tree.specs.rules.StoreSize.{bits_of}
-use Rattle.civl_values.specs.ActionWeights.{gate_weight, guard_weight, offers_weight, action_weight}
+use Rattle.civl_firing.specs.values.ActionWeights.{gate_weight, guard_weight, offers_weight, action_weight}
 use Rattle.civl_firing.specs.declared.store.Store.{Store}
-use Rattle.civl_footprints.specs.Agreement.{exists_at}
+use Rattle.civl_conditions.specs.footprints.Agreement.{exists_at}
 use Rattle.civl_conditions.specs.declared.condition.Condition.TheVariants.{Keep, Pair, Fire}
 use Rattle.civl_conditions.specs.Steps.{of_action}
 use Rattle.civl_conditions.specs.Values.{Invoked as Meant, store_of, invoked, instance_count}
 use Rattle.civl_conditions.specs.Movers.{loses, waits, pair_fails}
 use Rattle.civl_conditions.specs.Violated.{violated}
 use Rattle.civl_conditions.specs.Weights.{weight, keep_weight, pair_weight, globals_bits, outs_bits}
-use Rattle.civl_formulas.specs.Said.{Env}
-use Rattle.civl_formulas.specs.Given.{given, bits_of_sorts}
+use Rattle.civl_states.specs.formula_parts.Said.{Env}
+use Rattle.civl_states.specs.formula_parts.Given.{given, bits_of_sorts}
 use Rattle.civl_states.specs.Runs.{out_sorts}
 use Rattle.civl_states.specs.Same.{layer_sorts, same_weight}
 use Rattle.civl_states.specs.Formulas.{sorts_of}

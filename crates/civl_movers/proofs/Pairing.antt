@@ -12,10 +12,10 @@ use Rattle.civl_terms.specs.declared.node.Node.{Node}
 use Rattle.civl_terms.specs.Building.{Lengthens}
 use Rattle.civl_conditions.specs.declared.condition.Condition.TheVariants.{Keep, Pair, Fire}
 use Rattle.civl_conditions.specs.Values.{store_of, count_of, instance_count}
-use Rattle.civl_formulas.specs.Said.{Env}
-use Rattle.civl_formulas.specs.Lists.{AreSaid}
-use Rattle.civl_formulas.specs.Given.{given, sorts_from}
-use Rattle.civl_formulas.proofs.Listing.{sorts_after, said_after}
+use Rattle.civl_states.specs.formula_parts.Said.{Env}
+use Rattle.civl_states.specs.formula_parts.Lists.{AreSaid}
+use Rattle.civl_states.specs.formula_parts.Given.{given, sorts_from}
+use Rattle.civl_states.proofs.formula_parts.Listing.{sorts_after, said_after}
 use Rattle.civl_states.specs.declared.invoked.Invoked.{Invoked}
 use Rattle.civl_states.specs.declared.stores.Existing.{Existing}
 use Rattle.civl_states.specs.declared.stores.Existing.TheVariants.{Layer}

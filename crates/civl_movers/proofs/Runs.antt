@@ -12,8 +12,8 @@ use Rattle.civl_terms.specs.Building.{Grows}
 use Rattle.civl_terms.proofs.Growing.{grows_trans}
 use Rattle.civl_actions.specs.declared.made.Instance.{Instance}
 use Rattle.civl_actions.specs.Actions.{values_at, IsGuard, AreOffers}
-use Rattle.civl_formulas.proofs.Saying.{sort_stays, test_stays}
-use Rattle.civl_formulas.proofs.Listing.{said_stay}
+use Rattle.civl_states.proofs.formula_parts.Saying.{sort_stays, test_stays}
+use Rattle.civl_states.proofs.formula_parts.Listing.{said_stay}
 use Rattle.civl_states.specs.declared.invoked.Invoked.{Invoked}
 use Rattle.civl_states.specs.Runs.{Runs, TellsInputs, TellsGate}
 use Rattle.civl_states.proofs.Runs.{of_some, at_three, stored, run_stays, invoked_stays}

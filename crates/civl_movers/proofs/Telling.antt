@@ -7,7 +7,7 @@ use Rattle.civl_firing.specs.declared.store.Store.{Store}
 use Rattle.civl_firing.specs.Fired.{gate_holds, guard_holds, store_after, outs_after, fires}
 use Rattle.civl_conditions.specs.Movers.{on_some, spoils, reveals, clashes}
 use Rattle.civl_conditions.specs.Values.{same_values, same_stores}
-use Rattle.civl_footprints.specs.Agreement.{exists_at}
+use Rattle.civl_conditions.specs.footprints.Agreement.{exists_at}
 use Rattle.civl_states.proofs.Firing.{fires_is}
 use Rattle.civl_movers.specs.Runs.{invoke}
 use Rattle.civl_movers.specs.Ends.{end_alike}

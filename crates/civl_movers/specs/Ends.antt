@@ -6,9 +6,9 @@ use Rattle.civl_tree.specs.declared.program.Program.{Program}
 use Rattle.civl_firing.specs.declared.store.Store.{Store}
 use Rattle.civl_firing.specs.Fired.{guard_holds, store_after, outs_after}
 use Rattle.civl_terms.specs.declared.node.Node.{Node}
-use Rattle.civl_footprints.specs.Agreement.{exists_at}
+use Rattle.civl_conditions.specs.footprints.Agreement.{exists_at}
 use Rattle.civl_conditions.specs.Values.{same_values, same_stores}
-use Rattle.civl_formulas.specs.Said.{Env, IsTest}
+use Rattle.civl_states.specs.formula_parts.Said.{Env, IsTest}
 use Rattle.civl_states.specs.Runs.{IsRun}
 use Rattle.civl_movers.specs.declared.sequence.Sequence.{Sequence}
 

@@ -10,8 +10,8 @@ use Rattle.civl_linear.specs.Modes.{is_lent}
 use Rattle.civl_meaning.specs.Permissions.{of_params}
 use Rattle.civl_conditions.specs.Permissions.{in_store, of_modes}
 use Rattle.civl_conditions.specs.Weights.{linear_globals}
-use Rattle.civl_formulas.specs.Said.{Env}
-use Rattle.civl_formulas.specs.Masks.{AreCarried}
+use Rattle.civl_states.specs.formula_parts.Said.{Env}
+use Rattle.civl_states.specs.formula_parts.Masks.{AreCarried}
 use Rattle.civl_states.specs.declared.invoked.Invoked.{Invoked}
 use Rattle.civl_states.specs.declared.items.Which.TheVariants.{Linear, Lent}
 use Rattle.civl_states.specs.Stores.{AreStore}

@@ -2,3 +2,4 @@ pub mod Runs
 pub mod Ends
 pub mod Items
 pub mod Settings
+pub mod interfere

@@ -11,7 +11,7 @@ use Rattle.civl_terms.specs.Graphs.{sort_at}
 use Rattle.civl_actions.specs.declared.made.Instance.{Instance}
 use Rattle.civl_conditions.specs.Values.{Invoked as Meant}
 use Rattle.civl_conditions.specs.Movers.{waits}
-use Rattle.civl_formulas.specs.Said.{Env, IsTest}
+use Rattle.civl_states.specs.formula_parts.Said.{Env, IsTest}
 use Rattle.civl_states.specs.declared.invoked.Invoked.{Invoked}
 use Rattle.civl_states.specs.Stores.{AreStore}
 use Rattle.civl_states.specs.Runs.{IsInvoked, IsRun, Runs, TellsGate}

@@ -5,15 +5,15 @@ use Rattle.std.specs.List.{list_all}
 use Rattle.civl_tree.specs.SpellingDomain.{allows_out}
 use Rattle.civl_tree.specs.declared.action.Action.{Action}
 use Rattle.civl_tree.specs.declared.program.Program.{Program}
-use Rattle.civl_values.specs.ActionWeights.{action_weight}
+use Rattle.civl_firing.specs.values.ActionWeights.{action_weight}
 use Rattle.civl_firing.specs.declared.store.Store.{Store}
 use Rattle.civl_terms.specs.declared.node.Node.{Node}
-use Rattle.civl_footprints.specs.Agreement.{exists_at}
+use Rattle.civl_conditions.specs.footprints.Agreement.{exists_at}
 use Rattle.civl_conditions.specs.declared.condition.Condition.{Condition}
 use Rattle.civl_conditions.specs.declared.condition.Condition.TheVariants.{Keep, Pair, Fire}
 use Rattle.civl_conditions.specs.Values.{Invoked as Meant, count_of, store_of, instance_count}
 use Rattle.civl_conditions.specs.Movers.{clashes, spoils, reveals}
-use Rattle.civl_formulas.specs.Given.{given}
+use Rattle.civl_states.specs.formula_parts.Given.{given}
 use Rattle.civl_states.specs.declared.invoked.Invoked.{Invoked}
 use Rattle.civl_states.specs.Stores.{AreStore}
 use Rattle.civl_states.specs.Runs.{IsReady, IsInvoked, out_sorts}

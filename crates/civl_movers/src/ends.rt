@@ -4,14 +4,14 @@ ghost use Rattle.civl_tree.specs.declared.expr.Sort.TheVariants.{Bool as Truth};
 ghost use Rattle.civl_terms.specs.Graphs.{sort_at};
 ghost use Rattle.civl_terms.specs.Building.{Grows};
 ghost use Rattle.civl_terms.specs.Weights.{graph_weight};
-ghost use Rattle.civl_formulas.specs.Lists.{AreAlike, bits_at};
+ghost use Rattle.civl_states.specs.formula_parts.Lists.{AreAlike, bits_at};
 ghost use Rattle.civl_states.specs.Stores.{AreGlobals};
 ghost use Rattle.civl_states.specs.Same.{layer_sorts, same_weight};
 ghost use Rattle.civl_movers.specs.Runs.{AreTested};
 ghost use Rattle.civl_movers.specs.Ends.{TellsAlike};
 
 use crate::sequence::Sequence;
-use civl_formulas::{all_of, all_same};
+use civl_states::formula_parts::{all_of, all_same};
 use civl_states::same_globals;
 use civl_terms::{Id, Memory, Terms};
 use civl_tree::Program;

@@ -4,7 +4,7 @@ ghost use Rattle.civl_tree.specs.declared.expr.Sort.TheVariants.{Bool as Truth};
 ghost use Rattle.civl_tree.specs.declared.action.Action.{Action};
 ghost use Rattle.civl_tree.specs.rules.Rules.{Keeps};
 ghost use Rattle.civl_tree.specs.rules.Typing.{typing_rules};
-ghost use Rattle.civl_values.specs.ActionWeights.{action_weight};
+ghost use Rattle.civl_firing.specs.values.ActionWeights.{action_weight};
 ghost use Rattle.civl_terms.specs.Graphs.{sort_at};
 ghost use Rattle.civl_terms.specs.Building.{Grows};
 ghost use Rattle.civl_terms.specs.Weights.{graph_weight};
@@ -16,8 +16,8 @@ ghost use Rattle.civl_states.specs.Same.{layer_sorts, same_weight};
 
 use crate::ends::end_alike;
 use crate::sequence::run_in_turn;
-use civl_formulas::{all_of, negated};
 use civl_states::Invoked;
+use civl_states::formula_parts::{all_of, negated};
 use civl_terms::{Id, Memory, Terms};
 use civl_tree::{List, Program};
 use std::alloc::Global as Alloc;

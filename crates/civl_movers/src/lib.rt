@@ -8,6 +8,7 @@
 mod ends;
 mod exchange;
 mod firing;
+pub mod interfere;
 mod items;
 mod meeting;
 mod pairs;

@@ -3,7 +3,7 @@ ghost use Rattle.std.specs.Prelude.{◌≡◌, ◌+◌, ◌≤◌, slice_get, So
 ghost use Rattle.civl_tree.specs.declared.action.Action.{Action};
 ghost use Rattle.civl_tree.specs.rules.Rules.{Keeps};
 ghost use Rattle.civl_tree.specs.rules.Typing.{typing_rules};
-ghost use Rattle.civl_values.specs.ActionWeights.{action_weight};
+ghost use Rattle.civl_firing.specs.values.ActionWeights.{action_weight};
 ghost use Rattle.civl_terms.specs.Building.{Grows};
 ghost use Rattle.civl_terms.specs.Weights.{graph_weight};
 ghost use Rattle.civl_actions.specs.Scopes.{AreOf};

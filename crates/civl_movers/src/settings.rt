@@ -7,7 +7,7 @@ ghost use Rattle.civl_terms.specs.Building.{Lengthens};
 ghost use Rattle.civl_terms.specs.Weights.{graph_weight};
 ghost use Rattle.civl_conditions.specs.declared.condition.Condition.TheVariants.{Pair};
 ghost use Rattle.civl_conditions.specs.Values.{instance_count};
-ghost use Rattle.civl_formulas.specs.Given.{bits_of_sorts, AreVariablesOf};
+ghost use Rattle.civl_states.specs.formula_parts.Given.{bits_of_sorts, AreVariablesOf};
 ghost use Rattle.civl_states.specs.declared.stores.Existing.TheVariants.{Layer};
 ghost use Rattle.civl_states.specs.Formulas.{sorts_of};
 ghost use Rattle.civl_movers.specs.Settings.{lower_count, IsPairing};

@@ -23,21 +23,21 @@ use Rattle.civl_terms.specs.Graphs.{value_at, sort_at, IsGraph, Fits}
 use Rattle.civl_terms.proofs.Soundness.{nodes_have_their_sorts}
 use Rattle.civl_terms.specs.Building.{Grows}
 use Rattle.civl_actions.specs.Scopes.{AreOf, IsTyped}
-use Rattle.civl_formulas.proofs.Listing.{some_within}
+use Rattle.civl_states.proofs.formula_parts.Listing.{some_within}
 use Rattle.civl_actions.specs.Actions.{values_at, IsGate, IsGuard, IsInstance}
 use Rattle.civl_actions.specs.declared.made.Instance.{Instance}
 use Rattle.civl_moves.specs.declared.plain.Gated.{Gated}
 use Rattle.civl_terms.proofs.Growing.{grows_trans}
-use Rattle.civl_formulas.proofs.Saying.{test_stays}
+use Rattle.civl_states.proofs.formula_parts.Saying.{test_stays}
 use Rattle.civl_actions.proofs.Listing.{are_written}
 use Rattle.civl_actions.proofs.Staying.{are_stay, map_values, values_stay}
 use Rattle.civl_conditions.specs.Weights.{summed, weights_of}
-use Rattle.civl_formulas.specs.Said.{Env, IsTest}
+use Rattle.civl_states.specs.formula_parts.Said.{Env, IsTest}
 use Rattle.civl_moves.specs.Expressions.{IsBodyTerm}
 use Rattle.civl_firing.specs.declared.store.Store.{Store}
 use Rattle.civl_firing.specs.Fired.{choices_fit}
-use Rattle.civl_values.specs.Values.{are_of}
-use Rattle.civl_sweeps.specs.Sweeps.{with_action}
+use Rattle.civl_firing.specs.values.Values.{are_of}
+use Rattle.civl_moves.specs.sweeps.Sweeps.{with_action}
 use Rattle.civl_moves.specs.declared.sweep.Sweep.{Sweep}
 use Rattle.civl_moves.specs.declared.calls.Ran.{Ran}
 use Rattle.civl_moves.specs.States.{bool_at, CanSweep, Moves, body_of}

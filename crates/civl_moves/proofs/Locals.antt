@@ -19,9 +19,9 @@ use Rattle.civl_tree.specs.rules.Scopes.{Scope as Sorts, Binding, sort_in, bind_
 use Rattle.civl_tree.specs.rules.Sorts.{sort_of, sort_step, one_sort, two_sort, pick_sort, get_sort, set_sort, fill_sort, slice_sort, widen_sort, join_sort}
 use Rattle.civl_tree.specs.rules.Exprs.{widths_fit, slice_in_range, widen_in_range, join_in_range}
 use Rattle.civl_tree.proofs.Layers.{width_layer}
-use Rattle.civl_values.specs.Operators.{nothing, one_value, two_value, pick_value, get_value, set_value, fill_value, slice_value, widen_value, join_value}
-use Rattle.civl_values.specs.Values.{is_true}
-use Rattle.civl_values.specs.Weights.{weight_of, weight_step, bits_in, one_weight, two_weight, pick_weight, get_weight, set_weight, move_weight}
+use Rattle.civl_firing.specs.values.Operators.{nothing, one_value, two_value, pick_value, get_value, set_value, fill_value, slice_value, widen_value, join_value}
+use Rattle.civl_firing.specs.values.Values.{is_true}
+use Rattle.civl_firing.specs.values.Weights.{weight_of, weight_step, bits_in, one_weight, two_weight, pick_weight, get_weight, set_weight, move_weight}
 use Rattle.civl_firing.specs.declared.scope.Scope.{Scope as Meant}
 use Rattle.civl_firing.specs.Truth.{place_of}
 use Rattle.civl_firing.specs.Eval.{look, value_of, value_step}
@@ -32,7 +32,7 @@ use Rattle.civl_terms.specs.Graphs.{sort_at}
 use Rattle.civl_actions.specs.declared.scope.Scope.{Scope}
 use Rattle.civl_actions.specs.Scopes.{AreOf, IsTyped, ScopeFits}
 use Rattle.civl_actions.proofs.Typing.{sort_layer, widths_layer, weight_layer, layer_typed, typed_one, typed_two, typed_pick, typed_get, typed_set, typed_fill, typed_slice, typed_widen, typed_join}
-use Rattle.civl_formulas.specs.Said.{Env}
+use Rattle.civl_states.specs.formula_parts.Said.{Env}
 use Rattle.civl_moves.specs.Expressions.{IsTermOf, has_old, old_step}
 use Rattle.civl_moves.proofs.Bindings.{names_of, proc_names, proc_sorts}
 use Rattle.civl_moves.proofs.Scoping.{Made, scope_fits}

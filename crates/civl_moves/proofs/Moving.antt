@@ -14,8 +14,8 @@ use Rattle.civl_tree.specs.declared.expr.Expr.{Expr}
 use Rattle.civl_tree.specs.rules.Scopes.{Binding, sort_in, bind_globals, bind_proc, body_scope, note_scope}
 use Rattle.civl_firing.specs.Eval.{value_of}
 use Rattle.civl_firing.specs.Scope.{frame_values}
-use Rattle.civl_paths.specs.NoteValues.{plain_note_values}
-use Rattle.civl_paths.specs.Paths.{set_global}
+use Rattle.civl_conditions.specs.paths.NoteValues.{plain_note_values}
+use Rattle.civl_conditions.specs.paths.Paths.{set_global}
 use Rattle.civl_moves.specs.Expressions.{IsBodyTerm, IsNoteTerm}
 use Rattle.civl_tree.specs.rules.Uses.{place_sort}
 use Rattle.civl_firing.specs.Truth.{place_of}
@@ -27,8 +27,8 @@ use Rattle.civl_actions.specs.Scopes.{AreOf}
 use Rattle.civl_actions.specs.Actions.{values_at}
 use Rattle.civl_actions.proofs.Listing.{are_written}
 use Rattle.civl_actions.proofs.Staying.{are_stay, values_stay}
-use Rattle.civl_formulas.specs.Said.{Env, IsTest}
-use Rattle.civl_sweeps.specs.Sweeps.{Swept, gated, set_locals, with_commit}
+use Rattle.civl_states.specs.formula_parts.Said.{Env, IsTest}
+use Rattle.civl_moves.specs.sweeps.Sweeps.{Swept, gated, set_locals, with_commit}
 use Rattle.civl_moves.specs.declared.sweep.Sweep.{Sweep}
 use Rattle.civl_moves.specs.States.{bool_at, swept_at, CanSweep, Moves, Suits}
 use Rattle.civl_moves.proofs.Bindings.{names_of, sorts_of, names_bound, sorts_bound, proc_names, proc_sorts}

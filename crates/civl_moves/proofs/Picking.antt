@@ -7,24 +7,24 @@ use Rattle.civl_bits.specs.declared.value.Value.{Value}
 use Rattle.civl_bits.specs.declared.value.Value.TheVariants as value
 use Rattle.civl_firing.specs.declared.store.Store.{Store}
 use Rattle.civl_meaning.specs.Config.{frame_sorts}
-use Rattle.civl_formulas.specs.Lists.{AreAlike}
+use Rattle.civl_states.specs.formula_parts.Lists.{AreAlike}
 use Rattle.civl_tree.specs.declared.expr.Sort.{Sort}
 use Rattle.civl_tree.specs.declared.expr.Sort.TheVariants.{Bool as Truth, Word, Row}
 use Rattle.civl_tree.specs.declared.program.Proc.{Proc}
 use Rattle.civl_tree.specs.declared.program.Program.{Program}
 use Rattle.civl_tree.specs.rules.Sorts.{same_sort, common_sort, pick_sort}
-use Rattle.civl_values.specs.Operators.{pick_value}
-use Rattle.civl_values.specs.Weights.{bits_in}
+use Rattle.civl_firing.specs.values.Operators.{pick_value}
+use Rattle.civl_firing.specs.values.Weights.{bits_in}
 use Rattle.civl_terms.specs.declared.node.Node.{Node}
 use Rattle.civl_terms.specs.Graphs.{value_at, sort_at}
 use Rattle.civl_terms.specs.Building.{Grows, Built}
 use Rattle.civl_actions.specs.Scopes.{AreOf}
 use Rattle.civl_actions.specs.Actions.{values_at}
 use Rattle.civl_actions.proofs.Staying.{are_stay, values_stay}
-use Rattle.civl_formulas.specs.Said.{Env, IsTest, IsSaid}
-use Rattle.civl_formulas.proofs.Saying.{sort_stays, said_stays, test_stays}
-use Rattle.civl_formulas.proofs.Listing.{alike_at}
-use Rattle.civl_sweeps.specs.Sweeps.{joined}
+use Rattle.civl_states.specs.formula_parts.Said.{Env, IsTest, IsSaid}
+use Rattle.civl_states.proofs.formula_parts.Saying.{sort_stays, said_stays, test_stays}
+use Rattle.civl_states.proofs.formula_parts.Listing.{alike_at}
+use Rattle.civl_moves.specs.sweeps.Sweeps.{joined}
 use Rattle.civl_moves.specs.declared.branches.Front.{Front}
 use Rattle.civl_moves.specs.declared.sweep.Sweep.{Sweep}
 use Rattle.civl_moves.specs.Branches.{ArePicked, CanEnd, ended_at, differing}

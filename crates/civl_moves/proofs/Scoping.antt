@@ -24,8 +24,8 @@ use Rattle.civl_tree.specs.rules.Scopes.{Scope as Sorts, Binding, sort_in, bind_
 use Rattle.civl_tree.specs.rules.Rules.{Keeps}
 use Rattle.civl_tree.specs.rules.Typing.{typing_rules, twice_rule, width_rule, index_rule}
 use Rattle.civl_tree.proofs.Kept.{global_kept, proc_kept, twice_among, width_among, index_among}
-use Rattle.civl_values.specs.Values.{is_sort, is_true, zero_of, sort_of_value}
-use Rattle.civl_values.proofs.Zeros.{zeros_have_their_sorts}
+use Rattle.civl_firing.specs.values.Values.{is_sort, is_true, zero_of, sort_of_value}
+use Rattle.civl_firing.proofs.values.Zeros.{zeros_have_their_sorts}
 use Rattle.civl_firing.specs.declared.scope.Scope.{Scope as Meant}
 use Rattle.civl_firing.specs.Truth.{place_of}
 use Rattle.civl_firing.specs.Eval.{value_of}
@@ -40,8 +40,8 @@ use Rattle.civl_actions.specs.Scopes.{names_in, meant, StandsAt, ScopeFits, AreO
 use Rattle.civl_actions.specs.Actions.{values_at}
 use Rattle.civl_actions.proofs.Building.{truth_value}
 use Rattle.civl_actions.proofs.Staying.{are_within, are_stay, values_stay}
-use Rattle.civl_paths.specs.NoteValues.{note_names}
-use Rattle.civl_formulas.specs.Said.{Env}
+use Rattle.civl_conditions.specs.paths.NoteValues.{note_names}
+use Rattle.civl_states.specs.formula_parts.Said.{Env}
 use Rattle.civl_moves.specs.Expressions.{AreZeros, IsTermOf, IsProcIn}
 use Rattle.civl_moves.proofs.Bindings.{names_of, sorts_of, in_front, in_back, in_either, not_in_first, Declared, not_declared, names_bound, sorts_bound, joined, proc_names, proc_sorts}
 

@@ -9,18 +9,18 @@ use Rattle.civl_tree.specs.declared.expr.Two.TheVariants.{Implies}
 use Rattle.civl_tree.specs.declared.program.Proc.{Proc}
 use Rattle.civl_tree.specs.declared.program.Program.{Program}
 use Rattle.civl_tree.specs.rules.Sorts.{two_sort}
-use Rattle.civl_values.specs.Operators.{two_value}
-use Rattle.civl_values.specs.Values.{is_true}
-use Rattle.civl_values.specs.Weights.{bits_in, two_weight}
+use Rattle.civl_firing.specs.values.Operators.{two_value}
+use Rattle.civl_firing.specs.values.Values.{is_true}
+use Rattle.civl_firing.specs.values.Weights.{bits_in, two_weight}
 use Rattle.civl_terms.specs.declared.node.Node.{Node}
 use Rattle.civl_terms.specs.Graphs.{value_at, sort_at, Fits}
 use Rattle.civl_terms.specs.Building.{Grows, Built}
 use Rattle.civl_terms.proofs.Growing.{growth}
 use Rattle.civl_actions.proofs.Staying.{sorted_within, are_stay, values_stay}
-use Rattle.civl_formulas.specs.Said.{Env, IsTest}
-use Rattle.civl_formulas.proofs.Saying.{test_stays}
-use Rattle.civl_sweeps.specs.Sweeps.{Swept}
-use Rattle.civl_sweeps.specs.Sweeps.{Stop as Stopped}
+use Rattle.civl_states.specs.formula_parts.Said.{Env, IsTest}
+use Rattle.civl_states.proofs.formula_parts.Saying.{test_stays}
+use Rattle.civl_moves.specs.sweeps.Sweeps.{Swept}
+use Rattle.civl_moves.specs.sweeps.Sweeps.{Stop as Stopped}
 use Rattle.civl_moves.specs.declared.sweep.Stop.{Stop}
 use Rattle.civl_moves.specs.declared.sweep.Sweep.{Sweep}
 use Rattle.civl_moves.specs.States.{bool_at, IsBool, stop_at, swept_at, CanStop, CanSweep}

@@ -8,9 +8,9 @@ use Rattle.civl_tree.specs.declared.program.Program.{Program}
 use Rattle.civl_terms.specs.declared.node.Node.{Node}
 use Rattle.civl_terms.specs.Building.{Grows}
 use Rattle.civl_actions.proofs.Staying.{values_stay}
-use Rattle.civl_formulas.specs.Said.{IsTest}
-use Rattle.civl_sweeps.specs.Sweeps.{cut_at, halted, stopped}
-use Rattle.civl_sweeps.specs.Sweeps.{Stop as Stopped}
+use Rattle.civl_states.specs.formula_parts.Said.{IsTest}
+use Rattle.civl_moves.specs.sweeps.Sweeps.{cut_at, halted, stopped}
+use Rattle.civl_moves.specs.sweeps.Sweeps.{Stop as Stopped}
 use Rattle.civl_moves.specs.declared.sweep.Stop.{Stop}
 use Rattle.civl_moves.specs.declared.sweep.Sweep.{Sweep}
 use Rattle.civl_moves.specs.States.{stop_at, CanStop, CanSweep, Moves}

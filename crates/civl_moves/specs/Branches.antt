@@ -3,14 +3,14 @@ use Rattle.std.specs.Prelude.{◌≡◌, ℕ, ◌+◌, nat_eq, if◌then◌else�
 use Rattle.civl_tree.specs.declared.expr.Sort.{Sort}
 use Rattle.civl_tree.specs.declared.program.Proc.{Proc}
 use Rattle.civl_tree.specs.declared.program.Program.{Program}
-use Rattle.civl_values.specs.Weights.{bits_in}
+use Rattle.civl_firing.specs.values.Weights.{bits_in}
 use Rattle.civl_meaning.specs.Config.{frame_sorts}
 use Rattle.civl_terms.specs.declared.node.Node.{Node}
 use Rattle.civl_terms.specs.Graphs.{sort_at, Fits}
 use Rattle.civl_actions.specs.Scopes.{AreOf}
 use Rattle.civl_actions.specs.Actions.{values_at, store_at}
-use Rattle.civl_sweeps.specs.Sweeps.{Swept}
-use Rattle.civl_formulas.specs.Said.{Env}
+use Rattle.civl_moves.specs.sweeps.Sweeps.{Swept}
+use Rattle.civl_states.specs.formula_parts.Said.{Env}
 use Rattle.civl_moves.specs.declared.branches.Front.{Front}
 use Rattle.civl_moves.specs.declared.sweep.Sweep.{Sweep}
 use Rattle.civl_moves.specs.States.{bool_at, IsBool}

@@ -9,7 +9,7 @@ use Rattle.civl_tree.specs.declared.program.Proc.{Proc}
 use Rattle.civl_tree.specs.declared.program.Program.{Program}
 use Rattle.civl_tree.specs.rules.Scopes.{Scope as Sorts, body_scope, note_scope}
 use Rattle.civl_tree.specs.rules.Sorts.{sort_of}
-use Rattle.civl_values.specs.Values.{is_true}
+use Rattle.civl_firing.specs.values.Values.{is_true}
 use Rattle.civl_firing.specs.declared.scope.Scope.{Scope as Meant}
 use Rattle.civl_firing.specs.Eval.{value_of}
 use Rattle.civl_firing.specs.Scope.{zeros_of_globals, frame_values}
@@ -18,8 +18,8 @@ use Rattle.civl_terms.specs.Graphs.{value_at, sort_at, Fits}
 use Rattle.civl_terms.specs.Weights.{graph_weight}
 use Rattle.civl_actions.specs.Scopes.{AreOf}
 use Rattle.civl_actions.specs.Actions.{values_at, store_at}
-use Rattle.civl_paths.specs.NoteValues.{plain_note_values}
-use Rattle.civl_formulas.specs.Said.{Env, IsTest}
+use Rattle.civl_conditions.specs.paths.NoteValues.{plain_note_values}
+use Rattle.civl_states.specs.formula_parts.Said.{Env, IsTest}
 
 -- the procedure is one of the program
 abbrev pub IsProcIn : Program → Proc → Type 0

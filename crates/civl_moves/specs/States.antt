@@ -6,7 +6,7 @@ use Rattle.civl_tree.specs.declared.program.Proc.{Proc}
 use Rattle.civl_tree.specs.declared.program.Program.{Program}
 use Rattle.civl_tree.specs.rules.Scopes.{Scope as Sorts}
 use Rattle.civl_tree.specs.rules.Sorts.{sort_of}
-use Rattle.civl_values.specs.Values.{is_true}
+use Rattle.civl_firing.specs.values.Values.{is_true}
 use Rattle.civl_firing.specs.Eval.{value_of}
 use Rattle.civl_firing.specs.Scope.{frame_values}
 use Rattle.civl_meaning.specs.Config.{frame_sorts}
@@ -14,11 +14,11 @@ use Rattle.civl_terms.specs.declared.node.Node.{Node}
 use Rattle.civl_terms.specs.Graphs.{value_at, Fits}
 use Rattle.civl_actions.specs.Scopes.{AreOf, IsTyped}
 use Rattle.civl_actions.specs.Actions.{values_at, store_at}
-use Rattle.civl_paths.specs.Paths.{Course}
-use Rattle.civl_paths.specs.Seen.{lower_course}
-use Rattle.civl_sweeps.specs.Sweeps.{Swept}
-use Rattle.civl_sweeps.specs.Sweeps.{Stop as Stopped}
-use Rattle.civl_formulas.specs.Said.{Env, IsTest}
+use Rattle.civl_conditions.specs.paths.Paths.{Course}
+use Rattle.civl_conditions.specs.paths.Seen.{lower_course}
+use Rattle.civl_moves.specs.sweeps.Sweeps.{Swept}
+use Rattle.civl_moves.specs.sweeps.Sweeps.{Stop as Stopped}
+use Rattle.civl_states.specs.formula_parts.Said.{Env, IsTest}
 use Rattle.civl_moves.specs.declared.sweep.Stop.{Stop}
 use Rattle.civl_moves.specs.declared.sweep.Sweep.{Sweep}
 

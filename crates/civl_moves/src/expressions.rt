@@ -4,22 +4,22 @@ ghost use Rattle.civl_tree.specs.rules.Names.{global_names, names_in_proc};
 ghost use Rattle.civl_tree.specs.rules.Rules.{Keeps};
 ghost use Rattle.civl_tree.specs.rules.Scopes.{body_scope, note_scope};
 ghost use Rattle.civl_tree.specs.rules.Typing.{typing_rules};
-ghost use Rattle.civl_values.specs.Values.{is_sort};
+ghost use Rattle.civl_firing.specs.values.Values.{is_sort};
 ghost use Rattle.civl_meaning.specs.Config.{frame_sorts};
 ghost use Rattle.civl_terms.specs.Building.{Grows};
 ghost use Rattle.civl_terms.specs.Weights.{graph_weight};
 ghost use Rattle.civl_actions.specs.Scopes.{AreOf, IsTyped, names_in};
-ghost use Rattle.civl_paths.specs.NoteValues.{note_names};
+ghost use Rattle.civl_conditions.specs.paths.NoteValues.{note_names};
 ghost use Rattle.civl_conditions.specs.Weights.{body_weight, note_weight};
-ghost use Rattle.civl_formulas.specs.Said.{IsTest};
+ghost use Rattle.civl_states.specs.formula_parts.Said.{IsTest};
 ghost use Rattle.civl_moves.specs.Expressions.{AreZeros, IsBodyTerm, IsNoteTerm, IsProcIn, has_old};
 
 use civl_actions::{Scope, term};
 use civl_bits::Value;
 use civl_firing::names::Names;
+use civl_firing::values::zero;
 use civl_terms::{Id, Memory, Terms};
 use civl_tree::{Expr, Global, Proc, Program};
-use civl_values::zero;
 use std::alloc::Global as Alloc;
 
 /// The terms for all the names in an expression, and that of `done`, which is false there.

@@ -1,7 +1,7 @@
 //! The statements of a body at terms.
 //!
 //! A sweep over a body ([`Sweep`]) holds the terms of the state, with whether the path is here. Each plain statement, a cut and
-//! the two ends of an `if` make of it what they make of the values (civl_sweeps).
+//! the two ends of an `if` make of it what they make of the values (civl_moves::sweeps).
 #![tactic(auto)]
 
 mod branches;
@@ -10,6 +10,7 @@ mod expressions;
 mod plain;
 mod stops;
 mod sweep;
+pub mod sweeps;
 
 pub use branches::{Fork, Front, front_with, join, part, swap};
 pub use calls::{body_terms, pass_action};

@@ -4,7 +4,7 @@ ghost use Rattle.civl_tree.specs.declared.program.Proc.{Proc as Procedure};
 ghost use Rattle.civl_tree.specs.declared.program.Program.{Program as Whole};
 ghost use Rattle.civl_terms.specs.Building.{Grows};
 ghost use Rattle.civl_terms.specs.Weights.{graph_weight};
-ghost use Rattle.civl_sweeps.specs.Sweeps.{cut_at, halted, stopped};
+ghost use Rattle.civl_moves.specs.sweeps.Sweeps.{cut_at, halted, stopped};
 ghost use Rattle.civl_moves.specs.States.{CanSweep, Moves};
 
 use crate::sweep::{Stop, Sweep};

@@ -13,8 +13,8 @@ use Rattle.civl_tree.specs.Numbering.{statements_of}
 use Rattle.civl_tree.specs.rules.Broken.{IsRefusal, AreInOrder}
 use Rattle.civl_tree.proofs.First.{first_is_answer, in_order}
 use Rattle.civl_tree.proofs.Ordered.{where_in_order}
-use Rattle.civl_walks.proofs.Walking.{or_first, first_append}
-use Rattle.civl_walks.proofs.Placing.{no_invariants, no_threads}
+use Rattle.civl_names.proofs.walks.Walking.{or_first, first_append}
+use Rattle.civl_names.proofs.walks.Placing.{no_invariants, no_threads}
 use Rattle.civl_names.specs.NameSets.{first_twice}
 
 -- E10 asks nothing of the header, `init`, the invariants and the threads

@@ -1,3 +1,4 @@
 pub mod NameSets
 pub mod InScope
 pub mod Strange
+pub mod walks

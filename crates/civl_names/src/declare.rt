@@ -89,7 +89,7 @@ pub(crate) fn declare_actions<'a>(
 
 /// The refusal of a procedure: of itself, where these are the names of the globals, the actions and the procedures
 /// before it, or of the first call that names a result twice.
-#[tactic(auto, using(civl_walks::proofs::Placing::of_procs))]
+#[tactic(auto, using(crate::proofs::walks::Placing::of_procs))]
 fn proc_refusal(
     alloc: Global,
     program: &Program,

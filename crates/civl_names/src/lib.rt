@@ -10,5 +10,6 @@ mod named;
 mod procs;
 mod twice;
 mod unknown;
+pub mod walks;
 
 pub use misnamed::first_misnamed;

@@ -12,8 +12,8 @@ use crate::declare::{declare_actions, declare_globals, declare_procs};
 use crate::known::{Scope, all_known};
 use crate::name_set::NameSet;
 use crate::unknown::{Sets, first_item, unknown_at};
+use crate::walks::first_in_procs;
 use civl_tree::{Memory, Program, Refusal};
-use civl_walks::first_in_procs;
 use std::alloc::Global;
 
 /// The refusal of the first item in which there is a name that isn't one of these, as what is needed.

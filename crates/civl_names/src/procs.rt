@@ -9,8 +9,8 @@ ghost use Rattle.civl_names.specs.Strange.{declared_in, own_names, inner_names, 
 use crate::known::{Own, Scope, all_known, any_strange};
 use crate::named::{add_all, set_of};
 use crate::unknown::Sets;
+use crate::walks::{Finder, Test, first_in_body};
 use civl_tree::{Expr, List, Memory, Name, Proc, Program, Refines, Stmt};
-use civl_walks::{Finder, Test, first_in_body};
 use std::alloc::Global;
 
 /// The names in scope in a procedure: those of the program, and its parameters, outputs and locals.

@@ -9,8 +9,8 @@ ghost use Rattle.civl_names.specs.NameSets.{names_in, declared_in};
 
 use crate::name_set::NameSet;
 use crate::named::{add_new, any_in, any_twice};
+use crate::walks::statements;
 use civl_tree::{Action, List, Memory, Proc, Stmt};
-use civl_walks::statements;
 use std::alloc::Global;
 
 /// Whether an action declares a name twice.

@@ -13,10 +13,10 @@ use Rattle.civl_weighing.specs.declared.weight.Weight.{Weight}
 use Rattle.civl_weighing.specs.Weighing.{Weighs}
 use Rattle.civl_weighing.proofs.Capping.{weighs_same}
 use Rattle.civl_weighing.proofs.Summing.{bits_append}
-use Rattle.civl_sums.specs.declared.actions.ActionSums.{ActionSums}
-use Rattle.civl_sums.specs.Sums.{OfAction}
-use Rattle.civl_sums.proofs.Acting.{zip_found, zip_none}
-use Rattle.civl_sums.proofs.Groups.{params_bits_are, choices_bits_are}
+use Rattle.civl_weights.specs.declared.sums.actions.ActionSums.{ActionSums}
+use Rattle.civl_weights.specs.sums.Sums.{OfAction}
+use Rattle.civl_weights.proofs.sums.Acting.{zip_found, zip_none}
+use Rattle.civl_weights.proofs.sums.Groups.{params_bits_are, choices_bits_are}
 use Rattle.civl_outlined.specs.Sums.{instance_bits}
 
 module _ (program : Program) (sums : List ActionSums) (x : ℕ) (f : Action → ℕ) {w : Weight} (all : AllZip (OfAction program) program.actions sums) where

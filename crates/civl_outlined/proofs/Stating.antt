@@ -20,7 +20,7 @@ use Rattle.civl_goals.specs.Weights.{form_reaches, once, summed_at}
 use Rattle.civl_weighing.specs.declared.weight.Weight.{Weight}
 use Rattle.civl_weighing.specs.Weighing.{Weighs}
 use Rattle.civl_weighing.proofs.Capping.{weighs_same}
-use Rattle.civl_sums.proofs.Groups.{two_groups}
+use Rattle.civl_weights.proofs.sums.Groups.{two_groups}
 use Rattle.civl_outlined.proofs.Owning.{get_before, get_last}
 use Rattle.civl_outlined.specs.declared.places.Place.{Place}
 use Rattle.civl_outlined.specs.declared.statements.StatementSums.{StatementSums}

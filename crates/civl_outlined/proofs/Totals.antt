@@ -23,9 +23,9 @@ use Rattle.civl_goals.specs.Failed.{held_before}
 use Rattle.civl_goals.specs.Weights.{invariant_weight, note_before_weight, first_note_weight, form_weight, form_begins, form_reaches, summed_at, items_at, statement_weight, weight}
 use Rattle.civl_weighing.specs.Bits.{choices_bits}
 use Rattle.civl_weighing.specs.Weighing.{Weighs}
-use Rattle.civl_sums.specs.declared.actions.ActionSums.{ActionSums}
-use Rattle.civl_sums.specs.Sums.{OfAction}
-use Rattle.civl_sums.proofs.Groups.{two_groups, choices_bits_are}
+use Rattle.civl_weights.specs.declared.sums.actions.ActionSums.{ActionSums}
+use Rattle.civl_weights.specs.sums.Sums.{OfAction}
+use Rattle.civl_weights.proofs.sums.Groups.{two_groups, choices_bits_are}
 use Rattle.civl_outlined.specs.declared.statements.StatementSums.{StatementSums}
 use Rattle.civl_outlined.specs.declared.roots.ProcSums.{ProcSums}
 use Rattle.civl_outlined.specs.declared.weights.Sums.{Sums}

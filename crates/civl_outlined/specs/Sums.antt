@@ -20,8 +20,8 @@ use Rattle.civl_goals.specs.Weights.{invariant_weight, note_before_weight, form_
 use Rattle.civl_weighing.specs.declared.weight.Weight.{Weight}
 use Rattle.civl_weighing.specs.Bits.{choices_bits}
 use Rattle.civl_weighing.specs.Weighing.{Weighs}
-use Rattle.civl_sums.specs.declared.actions.ActionSums.{ActionSums}
-use Rattle.civl_sums.specs.Sums.{OfAction}
+use Rattle.civl_weights.specs.declared.sums.actions.ActionSums.{ActionSums}
+use Rattle.civl_weights.specs.sums.Sums.{OfAction}
 use Rattle.civl_outlined.specs.declared.statements.StatementSums.{StatementSums}
 use Rattle.civl_outlined.specs.declared.roots.ProcSums.{ProcSums}
 use Rattle.civl_outlined.specs.declared.weights.Sums.{Sums}

@@ -25,7 +25,7 @@ fn place_after(index: usize, count: usize, behind: u32, next: u32) -> u32
 
 /// Adds these statements and those in them, where the first has this number and this place comes after them.
 #[cycle(places)]
-#[tactic(auto, using(civl_walks::proofs::Collecting::collecting))]
+#[tactic(auto, using(civl_names::proofs::walks::Collecting::collecting))]
 fn add_all<'a>(
     stmts: &'a List<Stmt>,
     places: &mut Vec<Place<'a>>,
@@ -51,7 +51,7 @@ fn add_all<'a>(
 
 /// Adds the statements in this one, which has this number and which this place comes after.
 #[cycle(places)]
-#[tactic(auto, using(civl_walks::proofs::Collecting::collecting))]
+#[tactic(auto, using(civl_names::proofs::walks::Collecting::collecting))]
 fn add_inner<'a>(
     stmt: &'a Stmt,
     places: &mut Vec<Place<'a>>,

@@ -11,7 +11,7 @@ ghost use Rattle.civl_goals.specs.Failed.{held_before};
 ghost use Rattle.civl_goals.specs.Listed.{is_root};
 ghost use Rattle.civl_goals.specs.Variables.{of_names};
 ghost use Rattle.civl_weighing.specs.Weighing.{Weighs};
-ghost use Rattle.civl_sums.specs.Sums.{OfAction};
+ghost use Rattle.civl_weights.specs.sums.Sums.{OfAction};
 ghost use Rattle.civl_outlined.specs.Places.{ArePlaces};
 ghost use Rattle.civl_outlined.specs.Said.{IsSaid, IsOf};
 ghost use Rattle.civl_outlined.specs.Sums.{AreThere, OfProc, AreProcs};
@@ -21,10 +21,10 @@ use crate::said::Said;
 use crate::statements::{StatementSums, statement_sums};
 use civl_goals::held_counts;
 use civl_layers::Layered;
-use civl_sums::actions::ActionSums;
 use civl_tree::{List, Memory, Proc};
 use civl_weighing::bits::{locals_bits, params_bits};
 use civl_weighing::weight::Weight;
+use civl_weights::sums::actions::ActionSums;
 use std::alloc::Global;
 
 /// Of a procedure: the bits of a frame, and of a root the sums of each statement.

@@ -7,18 +7,18 @@ ghost use Rattle.civl_meaning.specs.Places.{start_of, spot_at};
 ghost use Rattle.civl_goals.specs.Failed.{held_before};
 ghost use Rattle.civl_goals.specs.Weights.{form_weight, form_begins, form_reaches, once, summed_at, note_before_weight};
 ghost use Rattle.civl_weighing.specs.Weighing.{Weighs};
-ghost use Rattle.civl_sums.specs.Sums.{OfAction};
+ghost use Rattle.civl_weights.specs.sums.Sums.{OfAction};
 ghost use Rattle.civl_outlined.specs.Said.{IsSaid};
 ghost use Rattle.civl_outlined.specs.Sums.{OfStatement};
 
 use crate::said::{Said, first_note, note_before};
 use crate::sizes::sizes;
-use civl_sums::actions::ActionSums;
-use civl_sums::statements::{call_weight, stmt_choices};
 use civl_tree::{Proc, Program, Stmt};
 use civl_types::view::View;
 use civl_weighing::exprs::{weight_of, weights_of};
 use civl_weighing::weight::Weight;
+use civl_weights::sums::actions::ActionSums;
+use civl_weights::sums::statements::{call_weight, stmt_choices};
 
 /// Of a statement: what its goals assume and what it is, the note before it alone, the first note of the procedure that it
 /// spawns, the notes that it leads to, how many items are held before it, and the bits of its call's choices.

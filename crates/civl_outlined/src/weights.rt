@@ -10,7 +10,7 @@ ghost use Rattle.civl_conditions.specs.Weights.{linear_globals, keep_weight};
 ghost use Rattle.civl_goals.specs.declared.goal.Goal.TheVariants as goal;
 ghost use Rattle.civl_goals.specs.Weights.{weight, first_note_weight};
 ghost use Rattle.civl_weighing.specs.Weighing.{Weighs};
-ghost use Rattle.civl_sums.specs.Sums.{OfAction};
+ghost use Rattle.civl_weights.specs.sums.Sums.{OfAction};
 ghost use Rattle.civl_outlined.specs.Said.{IsSaid, IsOf};
 ghost use Rattle.civl_outlined.specs.Sums.{instance_bits, IsKeep, OfSums, IsOfRoot, NamesRoots, IsFound, AreTogether, IsVariables, IsStatementGoal, IsOther};
 
@@ -20,11 +20,11 @@ use crate::statements::StatementSums;
 use civl_goals::Goal;
 use civl_layers::{Layered, program};
 use civl_outlines::Outline;
-use civl_sums::actions::{ActionSums, action_sums};
-use civl_sums::tables::initial_own;
 use civl_tree::{List, Memory, Program};
 use civl_weighing::bits::{all_globals, globals_at, linear_globals};
 use civl_weighing::weight::{Weight, linear};
+use civl_weights::sums::actions::{ActionSums, action_sums};
+use civl_weights::sums::tables::initial_own;
 use std::alloc::Global;
 
 /// All that the weights of goals are added up from: what the outline says, the bits of all globals and of those of the topmost

@@ -17,29 +17,29 @@ use Rattle.civl_tree.specs.rules.Exprs.{is_width, is_index}
 use Rattle.civl_tree.specs.rules.Rules.{Keeps}
 use Rattle.civl_tree.specs.rules.StoreSize.{bits_of}
 use Rattle.civl_tree.specs.rules.Typing.{typing_rules}
-use Rattle.civl_values.specs.Values.{is_sort}
-use Rattle.civl_values.proofs.Sorting.{both}
+use Rattle.civl_firing.specs.values.Values.{is_sort}
+use Rattle.civl_firing.proofs.values.Sorting.{both}
 use Rattle.civl_outlines.specs.declared.outline.Outline.{Outline}
 use Rattle.civl_meaning.specs.Layers.{topmost}
 use Rattle.civl_terms.specs.declared.node.Node.{Node}
 use Rattle.civl_terms.specs.declared.node.Node.TheVariants.{Variable as VariableNode}
 use Rattle.civl_terms.specs.Weights.{graph_weight}
-use Rattle.civl_formulas.specs.Given.{AreVariablesOf}
+use Rattle.civl_states.specs.formula_parts.Given.{AreVariablesOf}
 use Rattle.civl_conditions.specs.declared.condition.Condition.TheVariants.{Keep as KeepsPermissions}
 use Rattle.civl_conditions.specs.declared.condition.Variable.{Variable}
 use Rattle.civl_conditions.specs.Variables.{variable, of_globals, of_params, of_choices, of_locals, layer_choices, call_front}
 use Rattle.civl_conditions.specs.Weights.{summed, bits_of_variables, weight_limit}
 use Rattle.civl_states.specs.Formulas.{IsFormula}
 use Rattle.civl_states.proofs.Limits.{AreSorts, global_sorts_are, proc_param_sorts_are, proc_out_sorts_are, local_sorts_are}
-use Rattle.civl_findings.proofs.Sorted.{variables_have_sorts}
+use Rattle.civl_verdicts.proofs.findings.Sorted.{variables_have_sorts}
 use Rattle.civl_goals.specs.declared.goal.Goal.{Goal}
 use Rattle.civl_goals.specs.declared.goal.Goal.TheVariants as goal
 use Rattle.civl_goals.specs.Outlines.{exists_on_top, top_globals}
 use Rattle.civl_goals.specs.Variables.{of_names, of_frame, choices_at, of_statement, variables}
 use Rattle.civl_goals.specs.Weights.{weight}
 use Rattle.civl_goal_terms.proofs.Choosing.{form_few}
-use Rattle.civl_judging.specs.declared.formula.Made.{Made}
-use Rattle.civl_judging.specs.Made.{IsMade}
+use Rattle.civl_verdicts.specs.declared.judging.formula.Made.{Made}
+use Rattle.civl_verdicts.specs.judging.Made.{IsMade}
 use Rattle.civl_prove.specs.Proved.{goal_formula}
 
 -- an empty graph has no variables

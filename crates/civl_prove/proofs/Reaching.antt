@@ -11,8 +11,8 @@ use Rattle.civl_conditions.specs.Weights.{weight_limit}
 use Rattle.civl_goals.specs.declared.goal.Goal.{Goal}
 use Rattle.civl_goals.specs.Listed.{goals}
 use Rattle.civl_goals.specs.Weights.{weight, heavy}
-use Rattle.civl_decide.specs.Decided.{IsDecided}
-use Rattle.civl_decide.specs.declared.decision.Decision.TheVariants.{At}
+use Rattle.civl_verdicts.specs.decisions.Decided.{IsDecided}
+use Rattle.civl_verdicts.specs.declared.decisions.decision.Decision.TheVariants.{At}
 use Rattle.civl_goals.specs.GoalHolds.{GoalHolds}
 use Rattle.civl_prove.specs.Proved.{goal_formula, GoalFails, HoldUpTo, IsReached}
 

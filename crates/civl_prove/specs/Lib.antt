@@ -1,2 +1,3 @@
 pub mod Proved
 pub mod Searches
+pub mod outline_reports

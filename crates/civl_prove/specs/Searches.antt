@@ -4,7 +4,7 @@ use Rattle.civl_tree.specs.declared.program.Program.{Program}
 use Rattle.civl_outlines.specs.declared.outline.Outline.{Outline}
 use Rattle.civl_portfolio.specs.Prover.{Meanings}
 use Rattle.civl_goals.specs.declared.goal.Goal.{Goal}
-use Rattle.civl_decide.specs.Decided.{WereAsked}
+use Rattle.civl_verdicts.specs.decisions.Decided.{WereAsked}
 use Rattle.civl_outlined.specs.declared.answer.OutlineFault.{OutlineFault}
 use Rattle.civl_outlined.specs.declared.answer.OutlineFault.TheVariants.{Note, Roots, Heavy, Memory}
 use Rattle.civl_prove.specs.declared.proved.Proved.{Proved}

@@ -3,6 +3,7 @@
 #![tactic(auto)]
 
 mod making;
+pub mod outline_reports;
 mod proved;
 mod proving;
 

@@ -6,15 +6,15 @@ ghost use Rattle.civl_tree.specs.rules.Rules.{Keeps};
 ghost use Rattle.civl_yields.specs.YieldRules.{yield_rules};
 ghost use Rattle.civl_goals.specs.Listed.{goals};
 ghost use Rattle.civl_goals.specs.Rules.{unfit};
-ghost use Rattle.civl_judging.specs.Made.{IsMade};
+ghost use Rattle.civl_verdicts.specs.judging.Made.{IsMade};
 ghost use Rattle.civl_prove.specs.Proved.{goal_formula};
 
 use civl_goal_terms::{goal_sorts, goal_violation};
 use civl_goals::Goal;
-use civl_judging::{Made, Memory};
 use civl_layers::{Layered, program};
 use civl_outlines::Outline;
 use civl_terms::Terms;
+use civl_verdicts::judging::{Made, Memory};
 use std::alloc::Global;
 
 /// The term of the formula that values violate a goal of the list, in a graph of its own.

@@ -8,21 +8,21 @@ ghost use Rattle.civl_conditions.specs.Weights.{weight_limit};
 ghost use Rattle.civl_goals.specs.Listed.{goals};
 ghost use Rattle.civl_goals.specs.Rules.{unfit};
 ghost use Rattle.civl_goals.specs.Weights.{weight, heavy};
-ghost use Rattle.civl_decide.specs.Decided.{IsDecided, WasAsked};
+ghost use Rattle.civl_verdicts.specs.decisions.Decided.{IsDecided, WasAsked};
 ghost use Rattle.civl_outlined.specs.Outlined.{Fits, IsFault};
 ghost use Rattle.civl_prove.specs.Proved.{goal_formula, Proves};
 ghost use Rattle.civl_prove.specs.Searches.{Searched, UnaskedWhereRefused};
 
 use crate::making::make;
 use crate::proved::Proved;
-use civl_decide::{Decision, decide};
 use civl_goals::Goal;
-use civl_judging::{Made, Memory};
 use civl_layers::Layered;
 use civl_outlined::{OutlineFault, outlined};
 use civl_outlines::Outline;
 use civl_portfolio::Prover;
 use civl_tree::List;
+use civl_verdicts::decisions::{Decision, decide};
+use civl_verdicts::judging::{Made, Memory};
 use std::alloc::Global;
 
 /// Decides whether some values violate a goal.

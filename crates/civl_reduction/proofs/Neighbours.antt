@@ -6,7 +6,7 @@ use Rattle.civl_meaning.specs.declared.config.Move.{Move}
 use Rattle.civl_meaning.specs.declared.config.Plain.{Plain}
 use Rattle.civl_meaning.specs.declared.config.Config.{Config}
 use Rattle.civl_meaning.specs.Run.{RunsTo}
-use Rattle.civl_exchanges.specs.Exchange.{Exchanged}
+use Rattle.civl_reduction.specs.exchanges.Exchange.{Exchanged}
 use Rattle.civl_reduction.specs.declared.swapped.Swapped.TheVariants.{Same, Fails, Differs}
 use Rattle.civl_reduction.specs.Swap.{exchanged_at, one_more}
 use Rattle.civl_reduction.specs.Never.{ExchangedNeverDiffer, MoversNeverDiffer}
@@ -14,7 +14,7 @@ use Rattle.std.proofs.lemmas.List.Elements.{All-append}
 use Rattle.civl_meaning.specs.Failing.{IsMove}
 use Rattle.civl_meaning.specs.Layers.{program_at}
 use Rattle.civl_meaning.specs.Step.{start}
-use Rattle.civl_mover_laws.proofs.Exchanging.{neighbours_exchange}
+use Rattle.civl_reduction.proofs.mover_laws.Exchanging.{neighbours_exchange}
 
 set_there : {A : Type 0} (xs : List A) (a b : A) (rest : List A) (n : ℕ) → n ≡ length xs → slice_set (xs ++ a ∷ rest) n b ≡ xs ++ b ∷ rest
 set_there [] a b rest zero e = refl

@@ -3,3 +3,14 @@ pub mod Front
 pub mod Fronted
 pub mod Never
 pub mod Swap
+pub mod interleavings
+pub mod gathering
+pub mod exchanges
+pub mod permissions
+pub mod mover_laws
+pub mod checked
+pub mod open_blocks
+pub mod blocks
+pub mod staged
+pub mod gathered
+pub mod simulation

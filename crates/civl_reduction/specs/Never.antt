@@ -12,9 +12,9 @@ use Rattle.civl_meaning.specs.Run.{RunsTo}
 use Rattle.civl_meaning.specs.Failing.{IsMove}
 use Rattle.civl_meaning.specs.Layers.{program_at}
 use Rattle.civl_conditions.specs.Steps.{is_right, is_left}
-use Rattle.civl_exchanges.specs.Doing.{doing}
-use Rattle.civl_exchanges.specs.Exchange.{Exchanged}
-use Rattle.civl_mover_laws.specs.Neighbours.{MovesAs, IsSound}
+use Rattle.civl_reduction.specs.exchanges.Doing.{doing}
+use Rattle.civl_reduction.specs.exchanges.Exchange.{Exchanged}
+use Rattle.civl_reduction.specs.mover_laws.Neighbours.{MovesAs, IsSound}
 use Rattle.civl_reduction.specs.declared.swapped.Swapped.{Swapped}
 use Rattle.civl_reduction.specs.declared.swapped.Swapped.TheVariants.{Same, Fails, Differs}
 use Rattle.civl_reduction.specs.Swap.{IsSwapped}

@@ -14,10 +14,10 @@ use Rattle.civl_firing.specs.Fired.{fires, guard_holds, store_after, outs_after}
 use Rattle.civl_meaning.specs.Change.{outs_in}
 use Rattle.civl_layers.specs.declared.cut.Cut.{Cut}
 use Rattle.civl_layers.specs.Cuts.{proc_cuts}
-use Rattle.civl_footprints.specs.Agreement.{exists_at}
-use Rattle.civl_paths.specs.NoteValues.{note_values, steady_note_values}
-use Rattle.civl_paths.specs.Paths.{Progress}
-use Rattle.civl_paths.specs.Ends.{ends_block, is_rank_loop}
+use Rattle.civl_conditions.specs.footprints.Agreement.{exists_at}
+use Rattle.civl_conditions.specs.paths.NoteValues.{note_values, steady_note_values}
+use Rattle.civl_conditions.specs.paths.Paths.{Progress}
+use Rattle.civl_conditions.specs.paths.Ends.{ends_block, is_rank_loop}
 use Rattle.civl_conditions.specs.declared.condition.Part.TheVariants.{Invariant, Perform}
 use Rattle.civl_conditions.specs.Values.{Begun, same_values, same_stores}
 use Rattle.civl_conditions.specs.Movers.{on_some}

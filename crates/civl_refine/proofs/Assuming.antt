@@ -6,8 +6,8 @@ use Rattle.std.proofs.lemmas.List.{drop_more, drop_all, length-map, length-appen
 use Rattle.civl_tree.specs.declared.program.Proc.{Proc}
 use Rattle.civl_tree.specs.rules.Uses.{param_sorts}
 use Rattle.civl_meaning.specs.Config.{frame_sorts}
-use Rattle.civl_formulas.specs.Lists.{AreSaid}
-use Rattle.civl_formulas.proofs.Saying.{sort_stays}
+use Rattle.civl_states.specs.formula_parts.Lists.{AreSaid}
+use Rattle.civl_states.proofs.formula_parts.Saying.{sort_stays}
 use Rattle.civl_tree.specs.declared.expr.Expr.{Expr}
 use Rattle.civl_tree.specs.declared.program.Invariant.{Invariant}
 use Rattle.civl_tree.specs.declared.program.Program.{Program}
@@ -22,8 +22,8 @@ use Rattle.civl_tree.specs.declared.expr.Sort.{Sort}
 use Rattle.civl_tree.specs.declared.expr.Sort.TheVariants.{Word}
 use Rattle.civl_tree.specs.declared.expr.Two.TheVariants.{Implies}
 use Rattle.civl_tree.specs.rules.Sorts.{two_sort}
-use Rattle.civl_values.specs.Operators.{nothing, two_value}
-use Rattle.civl_values.specs.Weights.{bits_in, two_weight}
+use Rattle.civl_firing.specs.values.Operators.{nothing, two_value}
+use Rattle.civl_firing.specs.values.Weights.{bits_in, two_weight}
 use Rattle.civl_meaning.specs.Permissions.{permissions_of_word}
 use Rattle.civl_terms.specs.declared.node.Node.{Node}
 use Rattle.civl_terms.specs.Graphs.{value_at, sort_at}
@@ -31,22 +31,22 @@ use Rattle.civl_terms.specs.Building.{Grows, Built}
 use Rattle.civl_actions.specs.Scopes.{AreOf}
 use Rattle.civl_actions.specs.Actions.{values_at}
 use Rattle.civl_conditions.specs.Permissions.{of_held}
-use Rattle.civl_formulas.specs.Said.{Env, IsTest}
+use Rattle.civl_states.specs.formula_parts.Said.{Env, IsTest}
 use Rattle.std.specs.Prelude.{IfSome, IsSome}
 use Rattle.std.proofs.lemmas.Bool.{false≢true}
 use Rattle.civl_layers.specs.declared.cut.CutKind.{CutKind}
 use Rattle.civl_layers.specs.declared.cut.CutKind.TheVariants as kind
-use Rattle.civl_paths.specs.Ends.{is_entry}
+use Rattle.civl_conditions.specs.paths.Ends.{is_entry}
 use Rattle.std.specs.Option.{option_map_or}
 use Rattle.civl_tree.specs.declared.expr.Sort.TheVariants.{Bool as Truth}
 use Rattle.civl_tree.specs.declared.action.Action.{Action}
-use Rattle.civl_values.specs.ActionWeights.{gate_weight}
+use Rattle.civl_firing.specs.values.ActionWeights.{gate_weight}
 use Rattle.civl_firing.specs.Fired.{gate_holds}
 use Rattle.civl_layers.specs.declared.cut.Cut.{Cut}
 use Rattle.civl_conditions.specs.Values.{Begun}
 use Rattle.civl_conditions.specs.Assumed.{refined_action, refined_gate, inputs_of, said_at, layer_invariant}
-use Rattle.civl_formulas.proofs.Saying.{test_stays}
-use Rattle.civl_formulas.proofs.Listing.{sorts_stay, said_stay}
+use Rattle.civl_states.proofs.formula_parts.Saying.{test_stays}
+use Rattle.civl_states.proofs.formula_parts.Listing.{sorts_stay, said_stay}
 use Rattle.civl_states.specs.declared.beginning.Beginning.{Beginning}
 use Rattle.civl_states.specs.declared.notes.View.{View}
 use Rattle.civl_states.specs.Stores.{AreStore, AreGlobals}

@@ -8,7 +8,7 @@ use Rattle.civl_tree.specs.declared.program.Program.{Program}
 use Rattle.civl_layers.specs.declared.cut.Cut.{Cut}
 use Rattle.civl_layers.specs.declared.cut.CutKind.{CutKind}
 use Rattle.civl_layers.specs.declared.cut.CutKind.TheVariants.{Entry, Yield, YieldLoop, RankLoop}
-use Rattle.civl_paths.specs.Ends.{is_entry, is_rank_loop}
+use Rattle.civl_conditions.specs.paths.Ends.{is_entry, is_rank_loop}
 use Rattle.civl_conditions.specs.Values.{begun, flag_at, layout}
 use Rattle.civl_refine.specs.Assuming.{BeginsAt}
 

@@ -9,8 +9,8 @@ use Rattle.civl_tree.specs.declared.program.Proc.{Proc}
 use Rattle.civl_tree.specs.declared.program.Program.{Program}
 use Rattle.civl_tree.proofs.Pairs.{contains_cons, contains_nil}
 use Rattle.civl_layers.specs.declared.cut.Cut.{Cut}
-use Rattle.civl_paths.specs.Paths.{Outcome, progress_of, has_failed}
-use Rattle.civl_paths.specs.Ends.{arrived}
+use Rattle.civl_conditions.specs.paths.Paths.{Outcome, progress_of, has_failed}
+use Rattle.civl_conditions.specs.paths.Ends.{arrived}
 use Rattle.civl_conditions.specs.declared.condition.Part.{Part}
 use Rattle.civl_conditions.specs.declared.condition.Part.TheVariants.{Gate, Invariant, Once, Stutter, Perform, Rank}
 use Rattle.civl_conditions.specs.Values.{Begun}
@@ -18,7 +18,7 @@ use Rattle.civl_conditions.specs.Movers.{on_some}
 use Rattle.civl_conditions.specs.Parts.{at_end, part_fails}
 use Rattle.civl_terms.specs.declared.node.Node.{Node}
 use Rattle.civl_terms.specs.Building.{Grows}
-use Rattle.civl_formulas.specs.Said.{Env}
+use Rattle.civl_states.specs.formula_parts.Said.{Env}
 use Rattle.civl_body.specs.declared.way.Way.{Way}
 use Rattle.civl_body.specs.Walks.{IsWay, CanTake}
 use Rattle.civl_refine.specs.declared.start.Start.{Start}

@@ -21,7 +21,7 @@ use Rattle.civl_tree.specs.rules.Typing.{typing_rules, unknown_rule, signature_r
 use Rattle.civl_tree.specs.rules.Unknown.{refined_unknown, any_unknown}
 use Rattle.civl_tree.specs.rules.Uses.{param_sorts, with_uses}
 use Rattle.civl_tree.proofs.Kept.{proc_kept, unknown_among}
-use Rattle.civl_values.proofs.Sorting.{both, same_sort-true}
+use Rattle.civl_firing.proofs.values.Sorting.{both, same_sort-true}
 use Rattle.civl_firing.specs.Truth.{place_of}
 use Rattle.civl_firing.proofs.Finding.{found_at}
 use Rattle.civl_meaning.specs.Meaning.{refined, meaning_of_action}
@@ -32,8 +32,8 @@ use Rattle.civl_layers.specs.Cuts.{form_cut, cut_kind, cut_at, cuts_among, entry
 use Rattle.civl_layers.specs.LayerRules.{layer_rules}
 use Rattle.civl_layers.specs.Layered.{IsLayered}
 use Rattle.civl_linear.specs.Cuts.{held_of, all_held}
-use Rattle.civl_paths.specs.Choices.{action_meant}
-use Rattle.civl_paths.specs.Ends.{is_entry}
+use Rattle.civl_conditions.specs.paths.Choices.{action_meant}
+use Rattle.civl_conditions.specs.paths.Ends.{is_entry}
 use Rattle.civl_conditions.specs.Assumed.{layer_invariant, said_at, cut_invariant}
 use Rattle.civl_conditions.specs.Permissions.{held_at}
 use Rattle.civl_states.specs.Notes.{IsProcIn}

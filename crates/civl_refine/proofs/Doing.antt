@@ -11,8 +11,8 @@ use Rattle.civl_terms.specs.declared.node.Node.{Node}
 use Rattle.civl_terms.specs.Graphs.{Fits}
 use Rattle.civl_terms.specs.Building.{Grows}
 use Rattle.civl_actions.specs.Actions.{store_at, IsGuard, IsChange}
-use Rattle.civl_formulas.specs.Said.{Env, IsTest}
-use Rattle.civl_formulas.specs.Lists.{AreSaid}
+use Rattle.civl_states.specs.formula_parts.Said.{Env, IsTest}
+use Rattle.civl_states.specs.formula_parts.Lists.{AreSaid}
 use Rattle.civl_states.specs.Stores.{AreStore, choice_sorts}
 
 -- equal stores, inputs and choices

@@ -13,7 +13,7 @@ use Rattle.civl_meaning.specs.Change.{outs_in}
 use Rattle.civl_terms.specs.declared.node.Node.{Node}
 use Rattle.civl_terms.specs.Graphs.{value_at, sort_at}
 use Rattle.civl_actions.specs.Scopes.{AreOf}
-use Rattle.civl_paths.specs.NoteValues.{note_names, plain_note_values, steady_note_values, with_outs}
+use Rattle.civl_conditions.specs.paths.NoteValues.{note_names, plain_note_values, steady_note_values, with_outs}
 use Rattle.std.proofs.Common.{◌*◌}
 use Rattle.std.proofs.lemmas.Bool.{false≢true, eq-eqb}
 use Rattle.civl_bits.specs.Value.{same_value}
@@ -22,9 +22,9 @@ use Rattle.civl_tree.specs.declared.expr.Sort.TheVariants.{Bool as Truth}
 use Rattle.civl_tree.specs.declared.expr.Sort.TheVariants.{Word}
 use Rattle.civl_tree.specs.declared.expr.Two.TheVariants.{Lt}
 use Rattle.civl_tree.specs.rules.Sorts.{two_sort, truth_over, word_sort}
-use Rattle.civl_values.specs.Values.{is_true}
-use Rattle.civl_values.specs.Operators.{two_value}
-use Rattle.civl_values.specs.Weights.{bits_in, two_weight}
+use Rattle.civl_firing.specs.values.Values.{is_true}
+use Rattle.civl_firing.specs.values.Operators.{two_value}
+use Rattle.civl_firing.specs.values.Weights.{bits_in, two_weight}
 use Rattle.civl_terms.specs.Graphs.{IsGraph}
 use Rattle.civl_terms.specs.Building.{Built}
 use Rattle.civl_terms.proofs.Soundness.{nodes_have_their_sorts}
@@ -36,22 +36,22 @@ use Rattle.civl_tree.specs.rules.Typing.{typing_rules}
 use Rattle.civl_tree.specs.rules.StoreSize.{bits_of}
 use Rattle.civl_terms.specs.Graphs.{Fits}
 use Rattle.civl_actions.specs.Actions.{values_at}
-use Rattle.civl_footprints.specs.Agreement.{exists_at}
+use Rattle.civl_conditions.specs.footprints.Agreement.{exists_at}
 use Rattle.civl_conditions.specs.Values.{same_bool, same_values}
 use Rattle.civl_conditions.specs.Variables.{of_globals}
 use Rattle.civl_conditions.specs.Weights.{outs_bits, globals_bits, bits_of_variables}
-use Rattle.civl_formulas.specs.Said.{Env, IsTest, IsSaid}
-use Rattle.civl_formulas.specs.Given.{bits_of_sorts}
+use Rattle.civl_states.specs.formula_parts.Said.{Env, IsTest, IsSaid}
+use Rattle.civl_states.specs.formula_parts.Given.{bits_of_sorts}
 use Rattle.civl_states.specs.declared.stores.Existing.TheVariants.{Layer}
 use Rattle.civl_states.specs.Same.{layer_sorts, same_weight}
 use Rattle.civl_states.proofs.Limits.{AreSorts}
 use Rattle.civl_states.proofs.Weighing.{bits_some}
 use Rattle.civl_states.proofs.Variables.{long_bits, existing_are}
-use Rattle.civl_formulas.specs.Lists.{AreSaid}
+use Rattle.civl_states.specs.formula_parts.Lists.{AreSaid}
 use Rattle.civl_terms.specs.Building.{Grows}
-use Rattle.civl_paths.specs.Paths.{Progress}
-use Rattle.civl_formulas.proofs.Saying.{sort_stays, test_stays}
-use Rattle.civl_formulas.proofs.Listing.{sorts_stay, said_stay}
+use Rattle.civl_conditions.specs.paths.Paths.{Progress}
+use Rattle.civl_states.proofs.formula_parts.Saying.{sort_stays, test_stays}
+use Rattle.civl_states.proofs.formula_parts.Listing.{sorts_stay, said_stay}
 use Rattle.civl_body.specs.declared.way.Way.{Way}
 use Rattle.civl_body.specs.Walks.{CanEnd}
 use Rattle.civl_refine.specs.Judging.{IsAt}

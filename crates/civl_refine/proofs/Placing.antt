@@ -4,7 +4,7 @@ use Rattle.std.specs.Prelude.{map, filter, not, IsTrue, slice_get}
 use Rattle.std.proofs.Common.{◌≡◌, ◌∙◌, ℕ, ◌-◌, ◌≤◌, Bool, true, false, List, [], ◌∷◌, ◌++◌, length, refl, sym, ap, subst, arith, Option, Some, None}
 use Rattle.std.proofs.lemmas.List.{length-map, length-append}
 use Rattle.std.proofs.lemmas.List.Elements.{All-nil, All-cons}
-use Rattle.civl_values.specs.Values.{is_sort}
+use Rattle.civl_firing.specs.values.Values.{is_sort}
 use Rattle.civl_tree.specs.declared.expr.Sort.{Sort}
 use Rattle.civl_tree.specs.declared.expr.Sort.TheVariants.{Bool as Truth}
 use Rattle.civl_tree.specs.declared.name.Name.{Name}
@@ -24,13 +24,13 @@ use Rattle.civl_firing.proofs.Finding.{found_at}
 use Rattle.civl_meaning.specs.Layers.{program_at}
 use Rattle.civl_meaning.specs.Meaning.{Meaning, proc_number, meaning_of_action, refined, meaning_by, meaning_else}
 use Rattle.civl_layers.specs.declared.cut.Cut.{Cut}
-use Rattle.civl_paths.specs.Ends.{is_entry, is_rank_loop}
-use Rattle.civl_paths.specs.Seen.{exists_near}
-use Rattle.civl_paths.specs.Flows.{flow_from}
+use Rattle.civl_conditions.specs.paths.Ends.{is_entry, is_rank_loop}
+use Rattle.civl_conditions.specs.paths.Seen.{exists_near}
+use Rattle.civl_conditions.specs.paths.Flows.{flow_from}
 use Rattle.civl_conditions.specs.Variables.{choices_of, layer_choices, passed_choices, path_variables}
 use Rattle.civl_conditions.specs.Values.{count_of, where_so, choices_count, layout}
 use Rattle.civl_conditions.specs.Weights.{bits_of_variables}
-use Rattle.civl_formulas.specs.Given.{bits_of_sorts}
+use Rattle.civl_states.specs.formula_parts.Given.{bits_of_sorts}
 use Rattle.civl_states.specs.declared.stores.Existing.TheVariants.{Near}
 use Rattle.civl_states.specs.Existing.{existing_sorts}
 use Rattle.civl_states.specs.Laying.{sorts_where, inner_sorts, call_sorts}

@@ -4,7 +4,7 @@ use Rattle.std.specs.List.{list_all}
 use Rattle.std.proofs.Common.{◌≡◌, ◌∙◌, ℕ, ◌+◌, ◌≤◌, ◌<◌, Bool, true, false, ◌&&◌, List, ◌∷◌, length, refl, sym, ap}
 use Rattle.std.proofs.lemmas.List.{drop_more, drop_all}
 use Rattle.civl_bits.specs.declared.value.Value.{Value}
-use Rattle.civl_values.specs.Values.{is_true}
+use Rattle.civl_firing.specs.values.Values.{is_true}
 use Rattle.civl_tree.specs.declared.expr.Sort.TheVariants.{Bool as Truth}
 use Rattle.civl_tree.specs.declared.program.Proc.{Proc}
 use Rattle.civl_tree.specs.declared.program.Program.{Program}
@@ -17,11 +17,11 @@ use Rattle.civl_terms.proofs.Soundness.{nodes_have_their_sorts}
 use Rattle.civl_actions.specs.Actions.{values_at, store_at}
 use Rattle.civl_actions.proofs.Building.{truth_value}
 use Rattle.civl_actions.proofs.Staying.{sorted_within}
-use Rattle.civl_paths.specs.Paths.{Progress, Outcome, progress_of}
+use Rattle.civl_conditions.specs.paths.Paths.{Progress, Outcome, progress_of}
 use Rattle.civl_conditions.specs.Weights.{summed}
-use Rattle.civl_formulas.specs.Said.{Env}
-use Rattle.civl_formulas.proofs.Saying.{sort_stays, test_stays}
-use Rattle.civl_formulas.proofs.Listing.{sorts_stay, values_stay}
+use Rattle.civl_states.specs.formula_parts.Said.{Env}
+use Rattle.civl_states.proofs.formula_parts.Saying.{sort_stays, test_stays}
+use Rattle.civl_states.proofs.formula_parts.Listing.{sorts_stay, values_stay}
 use Rattle.civl_states.specs.Stores.{global_sorts}
 use Rattle.civl_body.specs.declared.way.Way.{Way}
 use Rattle.civl_body.specs.Walks.{IsWay, ends_at, CanTake}

@@ -23,7 +23,7 @@ use Rattle.civl_tree.specs.rules.Index.{any_index}
 use Rattle.civl_tree.specs.rules.Rules.{Keeps}
 use Rattle.civl_tree.specs.rules.Typing.{typing_rules, width_rule, sort_rule, index_rule}
 use Rattle.civl_tree.proofs.Kept.{invariant_kept, statement_kept, width_among, sort_among, index_among}
-use Rattle.civl_values.proofs.Sorting.{same_sort-true}
+use Rattle.civl_firing.proofs.values.Sorting.{same_sort-true}
 use Rattle.civl_layers.specs.declared.cut.Cut.{Cut}
 use Rattle.civl_layers.specs.declared.cut.CutKind.{CutKind}
 use Rattle.civl_layers.specs.declared.cut.CutKind.TheVariants as kind

@@ -12,8 +12,8 @@ use Rattle.civl_tree.specs.declared.program.Program.{Program}
 use Rattle.civl_layers.specs.declared.cut.Cut.{Cut}
 use Rattle.civl_layers.specs.Cuts.{proc_cuts}
 use Rattle.civl_meaning.specs.Layers.{program_at}
-use Rattle.civl_paths.specs.Ends.{ends_from}
-use Rattle.civl_sweeps.proofs.Arriving.{paths_arrive_at_ends}
+use Rattle.civl_conditions.specs.paths.Ends.{ends_from}
+use Rattle.civl_moves.proofs.sweeps.Arriving.{paths_arrive_at_ends}
 use Rattle.civl_terms.specs.declared.node.Node.{Node}
 use Rattle.civl_conditions.specs.declared.condition.Part.{Part}
 use Rattle.civl_conditions.specs.declared.condition.Condition.TheVariants.{Path}

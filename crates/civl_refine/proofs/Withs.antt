@@ -18,11 +18,11 @@ use Rattle.civl_tree.specs.rules.Arity.{refines_arity, with_arity}
 use Rattle.civl_tree.specs.rules.Rules.{Keeps}
 use Rattle.civl_tree.specs.rules.Typing.{typing_rules, width_rule, sort_rule, index_rule, arity_rule}
 use Rattle.civl_tree.proofs.Kept.{proc_kept, width_among, sort_among, index_among, arity_among}
-use Rattle.civl_values.proofs.Sorting.{same_sort-true}
+use Rattle.civl_firing.proofs.values.Sorting.{same_sort-true}
 use Rattle.civl_firing.specs.declared.scope.Scope.{Scope}
 use Rattle.civl_firing.specs.Eval.{value_of, values_of}
 use Rattle.civl_meaning.specs.Meaning.{refined, meaning_of_action}
-use Rattle.civl_paths.specs.Choices.{action_meant}
+use Rattle.civl_conditions.specs.paths.Choices.{action_meant}
 use Rattle.civl_terms.specs.declared.node.Node.{Node}
 use Rattle.civl_terms.specs.Graphs.{sort_at}
 use Rattle.civl_terms.specs.Building.{Grows}
@@ -30,9 +30,9 @@ use Rattle.civl_terms.proofs.Growing.{lengthened}
 use Rattle.civl_actions.specs.Scopes.{AreOf, IsTyped}
 use Rattle.civl_conditions.specs.Assumed.{refined_action, with_of}
 use Rattle.civl_conditions.specs.Weights.{weights_of}
-use Rattle.civl_formulas.specs.Said.{Env, IsSaid}
-use Rattle.civl_formulas.specs.Lists.{AreSaid}
-use Rattle.civl_formulas.proofs.Listing.{said_more}
+use Rattle.civl_states.specs.formula_parts.Said.{Env, IsSaid}
+use Rattle.civl_states.specs.formula_parts.Lists.{AreSaid}
+use Rattle.civl_states.proofs.formula_parts.Listing.{said_more}
 use Rattle.civl_states.specs.Stores.{choice_sorts}
 use Rattle.civl_states.specs.Notes.{IsProcIn}
 use Rattle.civl_refine.proofs.Typing.{sound_at, sound_typed}

@@ -9,7 +9,7 @@ use Rattle.civl_tree.specs.rules.Uses.{param_sorts}
 use Rattle.civl_firing.specs.declared.store.Store.{Store}
 use Rattle.civl_meaning.specs.Config.{frame_sorts}
 use Rattle.civl_layers.specs.declared.cut.CutKind.{CutKind}
-use Rattle.civl_paths.specs.Ends.{is_entry, is_rank_loop}
+use Rattle.civl_conditions.specs.paths.Ends.{is_entry, is_rank_loop}
 use Rattle.civl_conditions.specs.Values.{Begun}
 use Rattle.civl_conditions.specs.Permissions.{held_at}
 use Rattle.civl_conditions.specs.Invariants.{holds_of_globals}

@@ -3,9 +3,9 @@ use Rattle.std.specs.Prelude.{ℕ, ◌≡◌, not, List, Some}
 use Rattle.std.specs.List.{Contains}
 use Rattle.civl_tree.specs.declared.program.Proc.{Proc}
 use Rattle.civl_terms.specs.declared.node.Node.{Node}
-use Rattle.civl_paths.specs.Paths.{Outcome, progress_of, has_failed}
-use Rattle.civl_paths.specs.Ends.{arrived}
-use Rattle.civl_formulas.specs.Said.{Env, IsTest}
+use Rattle.civl_conditions.specs.paths.Paths.{Outcome, progress_of, has_failed}
+use Rattle.civl_conditions.specs.paths.Ends.{arrived}
+use Rattle.civl_states.specs.formula_parts.Said.{Env, IsTest}
 use Rattle.civl_body.specs.declared.way.Walk.{Walk}
 
 -- where the path arrives is one of these ends

@@ -1,8 +1,8 @@
 -- What a part of the condition on paths comes to at the end of a path.
 use Rattle.std.specs.Prelude.{◌≡◌, ℕ, Bool, true, false, not, ◌&&◌, ◌||◌, nat_eq, List, slice_get, Option, None, Some, ⊤}
 use Rattle.civl_bits.specs.declared.value.Value.{Value}
-use Rattle.civl_values.specs.Values.{is_true}
-use Rattle.civl_values.specs.Operators.{two_value}
+use Rattle.civl_firing.specs.values.Values.{is_true}
+use Rattle.civl_firing.specs.values.Operators.{two_value}
 use Rattle.civl_tree.specs.declared.expr.Expr.{Expr}
 use Rattle.civl_tree.specs.declared.expr.Two.TheVariants.{Lt}
 use Rattle.civl_tree.specs.declared.expr.Sort.{Sort}
@@ -22,10 +22,10 @@ use Rattle.civl_meaning.specs.Change.{outs_in}
 use Rattle.civl_terms.specs.declared.node.Node.{Node}
 use Rattle.civl_layers.specs.declared.cut.Cut.{Cut}
 use Rattle.civl_layers.specs.Cuts.{proc_cuts}
-use Rattle.civl_footprints.specs.Agreement.{exists_at}
-use Rattle.civl_paths.specs.NoteValues.{plain_note_values, steady_note_values}
-use Rattle.civl_paths.specs.Paths.{Progress, Outcome, progress_of, has_failed}
-use Rattle.civl_paths.specs.Ends.{is_exit, ends_block}
+use Rattle.civl_conditions.specs.footprints.Agreement.{exists_at}
+use Rattle.civl_conditions.specs.paths.NoteValues.{plain_note_values, steady_note_values}
+use Rattle.civl_conditions.specs.paths.Paths.{Progress, Outcome, progress_of, has_failed}
+use Rattle.civl_conditions.specs.paths.Ends.{is_exit, ends_block}
 use Rattle.civl_conditions.specs.declared.condition.Part.{Part}
 use Rattle.civl_conditions.specs.declared.condition.Part.TheVariants.{Gate, Invariant, Once, Stutter, Perform, Rank}
 use Rattle.civl_conditions.specs.Values.{Begun, same_bool, same_values, same_stores}
@@ -33,8 +33,8 @@ use Rattle.civl_conditions.specs.Movers.{on_some}
 use Rattle.civl_conditions.specs.Invariants.{holds_in}
 use Rattle.civl_conditions.specs.Assumed.{cut_invariant, cut_rank, note_holds, refined_action, with_of, inputs_of}
 use Rattle.civl_conditions.specs.Parts.{end_values}
-use Rattle.civl_formulas.specs.Said.{Env, IsTest, IsSaid}
-use Rattle.civl_formulas.specs.Lists.{AreSaid}
+use Rattle.civl_states.specs.formula_parts.Said.{Env, IsTest, IsSaid}
+use Rattle.civl_states.specs.formula_parts.Lists.{AreSaid}
 use Rattle.civl_terms.specs.Graphs.{sort_at}
 use Rattle.civl_states.specs.Stores.{AreStore}
 use Rattle.civl_states.specs.declared.beginning.Beginning.{Beginning}

@@ -4,3 +4,4 @@ pub mod Ways
 pub mod Failing
 pub mod Kinds
 pub mod Walked
+pub mod steadiness

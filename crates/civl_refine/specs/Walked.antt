@@ -4,14 +4,14 @@ use Rattle.civl_tree.specs.declared.expr.Sort.{Sort}
 use Rattle.civl_tree.specs.declared.expr.Sort.TheVariants.{Bool as Truth}
 use Rattle.civl_tree.specs.declared.program.Program.{Program}
 use Rattle.civl_layers.specs.Cuts.{proc_cuts}
-use Rattle.civl_paths.specs.Paths.{Outcome}
-use Rattle.civl_paths.specs.Ends.{ends_from}
+use Rattle.civl_conditions.specs.paths.Paths.{Outcome}
+use Rattle.civl_conditions.specs.paths.Ends.{ends_from}
 use Rattle.civl_terms.specs.declared.node.Node.{Node}
 use Rattle.civl_terms.specs.Graphs.{sort_at}
 use Rattle.civl_conditions.specs.Parts.{outcome_of}
 use Rattle.civl_conditions.specs.Values.{Begun}
 use Rattle.civl_conditions.specs.Variables.{path_variables}
-use Rattle.civl_formulas.specs.Said.{Env}
+use Rattle.civl_states.specs.formula_parts.Said.{Env}
 use Rattle.civl_states.specs.Beginnings.{AreBegun, CanBegin}
 use Rattle.civl_body.specs.Walks.{IsWay, CanTake}
 use Rattle.civl_refine.specs.declared.start.Start.{Start}

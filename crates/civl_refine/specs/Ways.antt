@@ -1,6 +1,6 @@
 -- What a part of the condition on paths comes to at the ends of all ways.
 use Rattle.std.specs.Prelude.{ℕ, Bool, not, ◌&&◌}
-use Rattle.civl_paths.specs.Paths.{Outcome, progress_of}
+use Rattle.civl_conditions.specs.paths.Paths.{Outcome, progress_of}
 use Rattle.civl_conditions.specs.declared.condition.Part.{Part}
 use Rattle.civl_conditions.specs.Values.{Begun}
 use Rattle.civl_body.specs.Walks.{ends_at}

@@ -6,7 +6,7 @@ ghost use Rattle.civl_layers.specs.Cuts.{proc_cuts};
 ghost use Rattle.civl_terms.specs.Building.{Grows};
 ghost use Rattle.civl_terms.specs.Weights.{graph_weight};
 ghost use Rattle.std.specs.Option.{option_map_or};
-ghost use Rattle.civl_paths.specs.Ends.{is_rank_loop};
+ghost use Rattle.civl_conditions.specs.paths.Ends.{is_rank_loop};
 ghost use Rattle.civl_conditions.specs.declared.condition.Part.TheVariants.{Gate, Invariant, Once, Stutter, Perform, Rank};
 ghost use Rattle.civl_conditions.specs.Assumed.{layer_rank, cut_rank};
 ghost use Rattle.civl_conditions.specs.Weights.{part_weight};

@@ -17,13 +17,13 @@ ghost use Rattle.civl_conditions.specs.Invariants.{invariants_hold, holds_in};
 ghost use Rattle.civl_conditions.specs.Steps.{step_invariants};
 ghost use Rattle.civl_conditions.specs.Assumed.{layer_invariant, cut_invariant, note_holds};
 ghost use Rattle.civl_conditions.specs.Weights.{global_weight, note_weight, weights_of, maybe_weight};
-ghost use Rattle.civl_formulas.specs.Said.{Env, IsTest};
+ghost use Rattle.civl_states.specs.formula_parts.Said.{Env, IsTest};
 ghost use Rattle.civl_states.specs.Stores.{AreGlobals, AreStore};
 ghost use Rattle.civl_states.specs.Notes.{Seen, seen_values, CanSee, AreSeen, IsProcIn};
 ghost use Rattle.civl_refine.specs.Assuming.{holds_at};
 
-use civl_formulas::both;
 use civl_layers::{Cut, CutKind};
+use civl_states::formula_parts::both;
 use civl_states::{View, global_note, note};
 use civl_terms::{Id, Memory, Terms};
 use civl_tree::{Expr, Invariant, List, Proc, Program, Stmt};

@@ -13,6 +13,7 @@ mod performing;
 mod ranks;
 mod results;
 mod start;
+pub mod steadiness;
 mod steady;
 mod violations;
 mod walking;

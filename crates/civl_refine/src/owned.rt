@@ -12,13 +12,13 @@ ghost use Rattle.civl_terms.specs.Building.{Grows};
 ghost use Rattle.civl_terms.specs.Weights.{graph_weight};
 ghost use Rattle.civl_conditions.specs.Permissions.{in_store, of_held};
 ghost use Rattle.civl_conditions.specs.Weights.{lin, linear_globals};
-ghost use Rattle.civl_formulas.specs.Said.{Env, IsTest};
-ghost use Rattle.civl_formulas.specs.Lists.{AreSaid};
-ghost use Rattle.civl_formulas.specs.Masks.{AreCarried, CanCarry};
+ghost use Rattle.civl_states.specs.formula_parts.Said.{Env, IsTest};
+ghost use Rattle.civl_states.specs.formula_parts.Lists.{AreSaid};
+ghost use Rattle.civl_states.specs.formula_parts.Masks.{AreCarried, CanCarry};
 ghost use Rattle.civl_states.specs.Items.{HasItems, items_weight};
 ghost use Rattle.civl_states.specs.Stores.{AreGlobals, AreStore};
 
-use civl_formulas::{Carried, no_items};
+use civl_states::formula_parts::{Carried, no_items};
 use civl_states::{global_items, with_words};
 use civl_terms::{Id, Memory, Terms};
 use civl_tree::{List, Program};

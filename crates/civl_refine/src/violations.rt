@@ -13,7 +13,7 @@ ghost use Rattle.civl_conditions.specs.Parts.{path_fails};
 ghost use Rattle.civl_conditions.specs.Values.{begun};
 ghost use Rattle.civl_conditions.specs.Variables.{path_variables};
 ghost use Rattle.civl_conditions.specs.Weights.{bits_of_variables, path_weight, weight};
-ghost use Rattle.civl_formulas.specs.Given.{AreVariablesOf};
+ghost use Rattle.civl_states.specs.formula_parts.Given.{AreVariablesOf};
 ghost use Rattle.civl_states.specs.Formulas.{sorts_of, IsFormula, IsViolation};
 ghost use Rattle.civl_refine.specs.Assuming.{IsStart};
 ghost use Rattle.civl_refine.specs.Kinds.{HasCut, IsOfPaths};

@@ -1,7 +1,7 @@
 // The paths from a cut, with variables at their beginning.
 ghost use Rattle.std.specs.Prelude.{◌≡◌, ◌+◌, ◌*◌, ◌≤◌, ℕ, All, IsTrue, IfOk, OnOk, Some, slice_get};
 ghost use Rattle.civl_tree.specs.rules.Rules.{Keeps};
-ghost use Rattle.civl_values.specs.Values.{is_sort};
+ghost use Rattle.civl_firing.specs.values.Values.{is_sort};
 ghost use Rattle.civl_bodies.specs.Bodies.{IsBody};
 ghost use Rattle.civl_layers.specs.Cuts.{proc_cuts};
 ghost use Rattle.civl_layers.specs.Layered.{IsLayered};
@@ -11,7 +11,7 @@ ghost use Rattle.civl_terms.specs.Weights.{graph_weight};
 ghost use Rattle.civl_conditions.specs.Values.{layout, begun};
 ghost use Rattle.civl_conditions.specs.Variables.{path_variables};
 ghost use Rattle.civl_conditions.specs.Weights.{bits_of_variables, passed_weight};
-ghost use Rattle.civl_formulas.specs.Given.{given, AreVariablesOf};
+ghost use Rattle.civl_states.specs.formula_parts.Given.{given, AreVariablesOf};
 ghost use Rattle.civl_states.specs.Groups.{StandFrom};
 ghost use Rattle.civl_refine.specs.Assuming.{IsStart};
 ghost use Rattle.civl_refine.specs.Walked.{IsWalked, CanWalk, sorts_from};

@@ -4,7 +4,7 @@ use Rattle.std.specs.Prelude.{All, ◌^◌}
 use Rattle.std.specs.List.{Contains}
 use Rattle.std.proofs.lemmas.List.Elements.{All-nil, All-cons, All-contains}
 use Rattle.civl_bits.specs.declared.value.Value.TheVariants as value
-use Rattle.civl_values.specs.Values.{HaveSorts}
+use Rattle.civl_firing.specs.values.Values.{HaveSorts}
 use Rattle.civl_tree.specs.declared.expr.Expr.{the_lemmas as of_expr}
 use Rattle.civl_tree.specs.declared.stmt.Stmt.{the_lemmas as of_stmt}
 use Rattle.civl_tree.specs.declared.expr.Sort.{Sort}
@@ -24,15 +24,15 @@ use Rattle.civl_layers.specs.LayerRules.{layer_rules}
 use Rattle.civl_layers.specs.Layered.{IsLayered}
 use Rattle.civl_linear.specs.LinearRules.{linear_rules}
 use Rattle.civl_linear.proofs.Examples as linear
-use Rattle.civl_paths.specs.Paths.{path_from}
-use Rattle.civl_paths.specs.Flows.{flow_from}
+use Rattle.civl_conditions.specs.paths.Paths.{path_from}
+use Rattle.civl_conditions.specs.paths.Flows.{flow_from}
 use Rattle.civl_yields.specs.YieldRules.{yield_rules}
 use Rattle.civl_yields.proofs.Examples as yields
 use Rattle.civl_conditions.specs.Listed.{conditions}
 use Rattle.civl_conditions.specs.Variables.{variables}
 use Rattle.civl_conditions.specs.Violated.{violated}
 use Rattle.civl_condition_laws.proofs.Going.{passes, flows}
-use Rattle.civl_checked.specs.Checked.{AllHold}
+use Rattle.civl_reduction.specs.checked.Checked.{AllHold}
 use Rattle.civl_safety.specs.examples.Held.{gated, held, GatedIsAccepted, HeldIsOutlined, GatedIsSafe}
 use Rattle.civl_safety.specs.Safe.{LowestIsSafe}
 use Rattle.civl_safety.proofs.Gated.{one_bool}

@@ -5,7 +5,7 @@ use Rattle.std.specs.List.{list_all}
 use Rattle.std.specs.Option.{option_map_or}
 use Rattle.std.proofs.lemmas.Bool.{and_parts}
 use Rattle.civl_bits.specs.declared.value.Value.{Value}
-use Rattle.civl_values.specs.Values.{is_true}
+use Rattle.civl_firing.specs.values.Values.{is_true}
 use Rattle.civl_tree.specs.declared.name.Name.{Name}
 use Rattle.civl_tree.specs.declared.expr.Expr.{Expr}
 use Rattle.civl_tree.specs.declared.program.Proc.{Proc}
@@ -19,10 +19,10 @@ use Rattle.civl_firing.specs.Scope.{present_values, global_values}
 use Rattle.civl_meaning.specs.declared.config.Activation.{Activation}
 use Rattle.civl_layers.specs.Layered.{IsLayered}
 use Rattle.civl_layers.specs.Names.{uses}
-use Rattle.civl_footprints.specs.Agreement.{AgreeBut, StoresAgree, names_other}
-use Rattle.civl_footprints.proofs.Seeing.{one_value_in}
-use Rattle.civl_footprints.proofs.Acting.{present_agree}
-use Rattle.civl_paths.specs.NoteValues.{plain_note_values}
+use Rattle.civl_conditions.specs.footprints.Agreement.{AgreeBut, StoresAgree, names_other}
+use Rattle.civl_conditions.proofs.footprints.Seeing.{one_value_in}
+use Rattle.civl_conditions.proofs.footprints.Acting.{present_agree}
+use Rattle.civl_conditions.specs.paths.NoteValues.{plain_note_values}
 use Rattle.civl_conditions.specs.Invariants.{holds_in, holds_of_globals}
 use Rattle.civl_condition_laws.proofs.Carrying.{same_and}
 use Rattle.civl_goals.specs.Outlines.{exists_on_top, invariant_holds, written_before, note_holds}

@@ -3,7 +3,7 @@ use Rattle.std.proofs.Common.{◌≡◌, ℕ, Bool, true, false, not, ◌&&◌, 
 use Rattle.std.specs.Prelude.{slice_get, nat_le}
 use Rattle.std.proofs.lemmas.Bool.{and_from, not-false, le-leb}
 use Rattle.civl_bits.specs.declared.value.Value.{Value}
-use Rattle.civl_values.specs.Values.{HaveSorts}
+use Rattle.civl_firing.specs.values.Values.{HaveSorts}
 use Rattle.civl_tree.specs.declared.name.Name.{Name}
 use Rattle.civl_tree.specs.declared.expr.Expr.{Expr}
 use Rattle.civl_tree.specs.declared.stmt.Stmt.{Stmt, out-Stmt}
@@ -29,16 +29,16 @@ use Rattle.civl_layers.specs.Names.{global_range}
 use Rattle.civl_layers.specs.LayerRules.{layer_rules, introduced_rule}
 use Rattle.civl_layers.specs.Layered.{IsLayered}
 use Rattle.civl_layers.proofs.PlainPrograms.{layered_is_plain}
-use Rattle.civl_footprints.specs.Agreement.{StoresAgree}
-use Rattle.civl_footprints.proofs.Existing.{through_in, uses_what_exists}
-use Rattle.civl_paths.specs.Seen.{ChangesAgree}
-use Rattle.civl_paths.proofs.Seeing.{MeansSeen, CallSeen, step_alike}
+use Rattle.civl_conditions.specs.footprints.Agreement.{StoresAgree}
+use Rattle.civl_conditions.proofs.footprints.Existing.{through_in, uses_what_exists}
+use Rattle.civl_conditions.specs.paths.Seen.{ChangesAgree}
+use Rattle.civl_conditions.proofs.paths.Seeing.{MeansSeen, CallSeen, step_alike}
 use Rattle.civl_conditions.specs.Permissions.{in_store}
 use Rattle.civl_condition_laws.proofs.Gathering.{Fit}
 use Rattle.civl_condition_laws.proofs.Carrying.{LinearPass, same_linear}
 use Rattle.civl_condition_laws.proofs.Meeting.{not_second}
-use Rattle.civl_permissions.proofs.Lasting.{call_exists}
-use Rattle.civl_permissions.proofs.Reaching.{meant_begins}
+use Rattle.civl_reduction.proofs.permissions.Lasting.{call_exists}
+use Rattle.civl_reduction.proofs.permissions.Reaching.{meant_begins}
 use Rattle.civl_goals.specs.Outlines.{exists_on_top, invariant_holds, note_holds}
 use Rattle.civl_goals.specs.Variables.{choices_at, of_statement}
 use Rattle.civl_goals.specs.Listed.{is_root}

@@ -4,7 +4,7 @@ use Rattle.std.specs.Prelude.{slice_get, codes}
 use Rattle.std.specs.Option.{option_map_or}
 use Rattle.std.proofs.lemmas.List.{length-append, length-map, map-append, append_assoc}
 use Rattle.civl_bits.specs.declared.value.Value.{Value}
-use Rattle.civl_values.specs.Values.{HaveSorts}
+use Rattle.civl_firing.specs.values.Values.{HaveSorts}
 use Rattle.civl_tree.specs.declared.expr.Sort.{Sort}
 use Rattle.civl_tree.specs.declared.program.Proc.{Proc}
 use Rattle.civl_tree.specs.declared.program.Program.{Program}
@@ -12,7 +12,7 @@ use Rattle.civl_tree.specs.rules.Uses.{param_sorts}
 use Rattle.civl_firing.specs.declared.store.Store.{Store}
 use Rattle.civl_firing.specs.Stores.{IsStore}
 use Rattle.civl_meaning.specs.Config.{frame_sorts}
-use Rattle.civl_footprints.specs.Agreement.{StoresAgree}
+use Rattle.civl_conditions.specs.footprints.Agreement.{StoresAgree}
 use Rattle.civl_conditions.specs.Variables.{call_front, of_params, of_locals, of_choices, of_globals}
 use Rattle.civl_conditions.specs.Values.{part, count_of}
 use Rattle.civl_condition_laws.proofs.Gathering.{Fit, have_length, fit_more, sorts_named, fit_named, kept, kept_fit, kept_length, spread_agrees, part_is}

@@ -20,8 +20,8 @@ use Rattle.civl_firing.specs.Stores.{IsStore}
 use Rattle.civl_meaning.specs.Permissions.{permissions_of_word, pairwise_disjoint, of_params}
 use Rattle.civl_layers.specs.Layered.{IsLayered}
 use Rattle.civl_linear.specs.Modes.{is_lent, is_given}
-use Rattle.civl_footprints.specs.Agreement.{no_target}
-use Rattle.civl_footprints.proofs.Keeping.{keeps_others}
+use Rattle.civl_conditions.specs.footprints.Agreement.{no_target}
+use Rattle.civl_conditions.proofs.footprints.Keeping.{keeps_others}
 use Rattle.civl_conditions.specs.declared.condition.Condition.TheVariants.{Keep}
 use Rattle.civl_conditions.specs.Steps.{begins_below}
 use Rattle.civl_conditions.specs.Values.{Invoked}
@@ -30,7 +30,7 @@ use Rattle.civl_conditions.specs.Movers.{on_some, gate_of, fires_of, loses}
 use Rattle.civl_conditions.specs.Violated.{Holds}
 use Rattle.civl_condition_laws.proofs.Carrying.{LinearPass, same_linear}
 use Rattle.civl_condition_laws.proofs.Meeting.{actions_of_states}
-use Rattle.civl_permissions.specs.Stay.{KeepsPermissions}
+use Rattle.civl_reduction.specs.permissions.Stay.{KeepsPermissions}
 use Rattle.civl_goals.specs.declared.goal.Goal.TheVariants as goal
 use Rattle.civl_goals.specs.Variables.{variables}
 use Rattle.civl_goals.specs.Listed.{moves_permissions}

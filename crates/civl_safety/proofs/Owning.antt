@@ -6,8 +6,8 @@ use Rattle.std.proofs.lemmas.Bool.{cases_lt}
 use Rattle.std.proofs.lemmas.Option.{same_Some, none-some}
 use Rattle.std.proofs.lemmas.List.{append_assoc, length-append, get_or-append-add, get_or_append_left, get_or_past}
 use Rattle.civl_bits.specs.declared.value.Value.{Value}
-use Rattle.civl_values.specs.Operators.{nothing}
-use Rattle.civl_values.specs.Values.{HaveSorts}
+use Rattle.civl_firing.specs.values.Operators.{nothing}
+use Rattle.civl_firing.specs.values.Values.{HaveSorts}
 use Rattle.civl_tree.specs.declared.name.Name.{Name}
 use Rattle.civl_tree.specs.declared.program.Proc.{Proc}
 use Rattle.civl_tree.specs.declared.program.Program.{Program}
@@ -20,12 +20,12 @@ use Rattle.civl_meaning.specs.Config.{frame_sorts}
 use Rattle.civl_linear.specs.Cuts.{held_numbers}
 use Rattle.civl_linear.specs.Held.{traced_proc}
 use Rattle.civl_conditions.specs.Permissions.{of_held, in_store}
-use Rattle.civl_permissions.specs.Owned as owned
-use Rattle.civl_permissions.specs.Owned.{of_flagged, of_locals, of_frame}
-use Rattle.civl_permissions.proofs.Counting.{carriers, carriers_joined, counts_of, disjoint_by}
-use Rattle.civl_permissions.proofs.Changing.{owns}
-use Rattle.civl_permissions.proofs.Staying.{all_own, one_own}
-use Rattle.civl_permissions.proofs.Threads.{locals_count}
+use Rattle.civl_reduction.specs.permissions.Owned as owned
+use Rattle.civl_reduction.specs.permissions.Owned.{of_flagged, of_locals, of_frame}
+use Rattle.civl_reduction.proofs.permissions.Counting.{carriers, carriers_joined, counts_of, disjoint_by}
+use Rattle.civl_reduction.proofs.permissions.Changing.{owns}
+use Rattle.civl_reduction.proofs.permissions.Staying.{all_own, one_own}
+use Rattle.civl_reduction.proofs.permissions.Threads.{locals_count}
 use Rattle.civl_goals.specs.Failed.{held_before, owned_in}
 
 -- ---- numbers and flags

@@ -1,7 +1,7 @@
 -- Where an outline fits and all its goals hold, the topmost program doesn't fail, and where all conditions hold too, the lowest doesn't.
-use Rattle.civl_permissions.proofs.Reaching.{are_writable, meant_begins}
-use Rattle.civl_checked.specs.Checked.{SpawnsAreInRoots, ActionsKeepPermissions}
-use Rattle.civl_simulation.specs.Preserved.{AcceptedProgramsPreserve}
+use Rattle.civl_reduction.proofs.permissions.Reaching.{are_writable, meant_begins}
+use Rattle.civl_reduction.specs.checked.Checked.{SpawnsAreInRoots, ActionsKeepPermissions}
+use Rattle.civl_reduction.specs.simulation.Preserved.{AcceptedProgramsPreserve}
 use Rattle.civl_safety.specs.Stands.{OutlineStays}
 use Rattle.civl_safety.specs.Safe.{TopIsSafe, LowestIsSafe}
 use Rattle.civl_safety.proofs.Keeping.{all_keep}

@@ -28,12 +28,12 @@ use Rattle.civl_meaning.proofs.Begun.{proc_is}
 use Rattle.civl_meaning.proofs.Rests.{spot_of_rest}
 use Rattle.civl_layers.specs.Layered.{IsLayered}
 use Rattle.civl_layers.proofs.PlainPrograms.{layered_is_plain}
-use Rattle.civl_paths.proofs.Belonging.{exit_is}
-use Rattle.civl_paths.proofs.Heading.{number_begins}
+use Rattle.civl_conditions.proofs.paths.Belonging.{exit_is}
+use Rattle.civl_conditions.proofs.paths.Heading.{number_begins}
 use Rattle.civl_yields.specs.Places.{form_misplaced, stmt_misplaced}
 use Rattle.civl_yields.specs.YieldRules.{commit_rule, yield_rules}
 use Rattle.civl_condition_laws.proofs.Nearby.{layer_within}
-use Rattle.civl_permissions.specs.Apart.{SpawnsStandInRoots}
+use Rattle.civl_reduction.specs.permissions.Apart.{SpawnsStandInRoots}
 use Rattle.civl_goals.specs.Listed.{is_root}
 use Rattle.civl_goals.specs.Rules.{names_layered, names_root, form_descends, descending_in, descending_thread, descending}
 use Rattle.civl_safety.proofs.Listing.{not_not, none_left, none_right, none_shown, places_none, numbers_none, statements_none, any_one}

@@ -8,7 +8,7 @@ use Rattle.std.proofs.lemmas.Option.{same_Some}
 use Rattle.std.proofs.lemmas.List.Elements.{All-nil, All-cons, All-head, All-tail, All-push, All-map}
 use Rattle.civl_bits.specs.Value.{IsValue}
 use Rattle.civl_bits.specs.declared.value.Value.{Value}
-use Rattle.civl_values.specs.Values.{HaveSorts}
+use Rattle.civl_firing.specs.values.Values.{HaveSorts}
 use Rattle.civl_tree.specs.declared.action.Action.{Action}
 use Rattle.civl_tree.specs.declared.program.Proc.{Proc}
 use Rattle.civl_tree.specs.declared.program.Program.{Program}
@@ -54,14 +54,14 @@ use Rattle.civl_condition_laws.proofs.Gathering.{fit_named}
 use Rattle.civl_condition_laws.proofs.Meeting.{not_second}
 use Rattle.civl_soundness.proofs.Fitting.{all_at}
 use Rattle.civl_soundness.proofs.Scopes.{new_locals}
-use Rattle.civl_permissions.specs.Apart.{SpawnsStandInRoots}
-use Rattle.civl_permissions.specs.Owned as owned
-use Rattle.civl_permissions.specs.Stay.{KeepsPermissions}
-use Rattle.civl_permissions.proofs.Counting.{carriers}
-use Rattle.civl_permissions.proofs.Changing.{Meant, AreWritable, owns, Kept}
-use Rattle.civl_permissions.proofs.Threads.{thread_kept}
-use Rattle.civl_permissions.proofs.Staying.{IsKept, step_kept}
-use Rattle.civl_permissions.proofs.Reaching.{start_kept}
+use Rattle.civl_reduction.specs.permissions.Apart.{SpawnsStandInRoots}
+use Rattle.civl_reduction.specs.permissions.Owned as owned
+use Rattle.civl_reduction.specs.permissions.Stay.{KeepsPermissions}
+use Rattle.civl_reduction.proofs.permissions.Counting.{carriers}
+use Rattle.civl_reduction.proofs.permissions.Changing.{Meant, AreWritable, owns, Kept}
+use Rattle.civl_reduction.proofs.permissions.Threads.{thread_kept}
+use Rattle.civl_reduction.proofs.permissions.Staying.{IsKept, step_kept}
+use Rattle.civl_reduction.proofs.permissions.Reaching.{start_kept}
 use Rattle.civl_goals.specs.declared.goal.Goal.TheVariants as goal
 use Rattle.civl_goals.specs.Outlines.{invariant_holds, note_holds}
 use Rattle.civl_goals.specs.Variables.{variables, choices_at}

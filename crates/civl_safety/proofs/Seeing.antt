@@ -21,7 +21,7 @@ use Rattle.civl_tree.specs.rules.Typing.{typing_rules, twice_rule}
 use Rattle.civl_tree.proofs.Kept.{global_kept, twice_among}
 use Rattle.civl_firing.proofs.Finding.{swapped}
 use Rattle.civl_layers.specs.Names.{uses, use_step}
-use Rattle.civl_footprints.specs.Agreement.{fails_test, names_other}
+use Rattle.civl_conditions.specs.footprints.Agreement.{fails_test, names_other}
 use Rattle.civl_soundness.proofs.Bindings.{in_either, no_global}
 use Rattle.civl_soundness.proofs.Scopes.{proc_declares}
 

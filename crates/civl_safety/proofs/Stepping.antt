@@ -6,7 +6,7 @@ use Rattle.std.specs.Option.{option_map, option_map_or}
 use Rattle.std.proofs.lemmas.Bool.{and_from, or_parts, not-false, lt-ltb}
 use Rattle.civl_bits.specs.Value.{IsValue}
 use Rattle.civl_bits.specs.declared.value.Value.{Value}
-use Rattle.civl_values.specs.Values.{HaveSorts, is_true, zero_of}
+use Rattle.civl_firing.specs.values.Values.{HaveSorts, is_true, zero_of}
 use Rattle.civl_tree.specs.declared.name.Name.{Name}
 use Rattle.civl_tree.specs.declared.expr.Expr.{Expr}
 use Rattle.civl_tree.specs.declared.action.Action.{Action}
@@ -52,9 +52,9 @@ use Rattle.civl_meaning.specs.Config.{frame_sorts}
 use Rattle.civl_meaning.proofs.Begun.{proc_is}
 use Rattle.civl_meaning.proofs.Failures.{failing_is_answered}
 use Rattle.civl_layers.specs.Layered.{IsLayered}
-use Rattle.civl_footprints.specs.Agreement.{StoresAgree}
-use Rattle.civl_paths.specs.Seen.{ChangesAgree}
-use Rattle.civl_paths.specs.NoteValues.{plain_note_values}
+use Rattle.civl_conditions.specs.footprints.Agreement.{StoresAgree}
+use Rattle.civl_conditions.specs.paths.Seen.{ChangesAgree}
+use Rattle.civl_conditions.specs.paths.NoteValues.{plain_note_values}
 use Rattle.civl_conditions.specs.Permissions.{in_store}
 use Rattle.civl_conditions.specs.Invariants.{holds_in}
 use Rattle.civl_conditions.specs.Variables.{choices_of, layer_choices}
@@ -62,7 +62,7 @@ use Rattle.civl_conditions.specs.Movers.{on_some}
 use Rattle.civl_condition_laws.proofs.Carrying.{same_linear}
 use Rattle.civl_condition_laws.proofs.Meeting.{not_second}
 use Rattle.civl_soundness.proofs.Sorted.{sort_fits, zeros_fit, none_at}
-use Rattle.civl_permissions.proofs.Reaching.{meant_begins}
+use Rattle.civl_reduction.proofs.permissions.Reaching.{meant_begins}
 use Rattle.civl_goals.specs.declared.goal.Goal.TheVariants as goal
 use Rattle.civl_goals.specs.Outlines.{exists_on_top, invariant_holds, written_before, note_holds}
 use Rattle.civl_goals.specs.Variables.{variables, choices_at}

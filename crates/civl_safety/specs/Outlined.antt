@@ -11,7 +11,7 @@ use Rattle.civl_meaning.specs.Initial.{IsInitial}
 use Rattle.civl_layers.specs.Layered.{IsLayered}
 use Rattle.civl_linear.specs.LinearRules.{linear_rules}
 use Rattle.civl_yields.specs.YieldRules.{yield_rules}
-use Rattle.civl_permissions.specs.Stay.{KeepsPermissions}
+use Rattle.civl_reduction.specs.permissions.Stay.{KeepsPermissions}
 use Rattle.civl_goals.specs.declared.goal.Goal.{Goal}
 use Rattle.civl_goals.specs.Listed.{goals}
 use Rattle.civl_goals.specs.Rules.{unfit, descending}

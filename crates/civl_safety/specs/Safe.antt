@@ -7,7 +7,7 @@ use Rattle.civl_firing.specs.declared.store.Store.{Store}
 use Rattle.civl_meaning.specs.Failing.{CanFail}
 use Rattle.civl_meaning.specs.Initial.{IsInitial}
 use Rattle.civl_meaning.specs.Layers.{lowest, topmost}
-use Rattle.civl_simulation.specs.Followed.{IsAccepted}
+use Rattle.civl_reduction.specs.simulation.Followed.{IsAccepted}
 use Rattle.civl_safety.specs.Outlined.{IsOutlined, IsProved}
 
 -- no run of the topmost program from an initial store fails

@@ -15,7 +15,7 @@ use Rattle.civl_meaning.specs.Failing.{IsMove}
 use Rattle.civl_meaning.specs.Layers.{topmost}
 use Rattle.civl_meaning.specs.Run.{RunsTo}
 use Rattle.civl_meaning.specs.Step.{start}
-use Rattle.civl_permissions.specs.Owned.{IsParted}
+use Rattle.civl_reduction.specs.permissions.Owned.{IsParted}
 use Rattle.civl_goals.specs.Outlines.{invariant_holds, note_holds}
 use Rattle.civl_safety.specs.Outlined.{IsProved}
 

@@ -2,8 +2,8 @@
 ghost use Rattle.civl_safety.specs.Stands.{OutlineStays};
 ghost use Rattle.civl_safety.specs.Safe.{TopIsSafe, LowestIsSafe};
 
-use civl_checked::laws::checked;
-use civl_simulation::laws::accepted_programs_preserve;
+use civl_reduction::checked::laws::checked;
+use civl_reduction::simulation::laws::accepted_programs_preserve;
 
 pub mod examples;
 

@@ -15,7 +15,7 @@ use Rattle.civl_tree.specs.declared.script.Entry.{Entry}
 use Rattle.civl_tree.specs.declared.script.Literal.{Literal}
 use Rattle.civl_tree.specs.declared.script.Literal.TheVariants.{Flag, Number}
 use Rattle.civl_tree.specs.declared.script.Told.{Told}
-use Rattle.civl_values.specs.Values.{is_of}
+use Rattle.civl_firing.specs.values.Values.{is_of}
 use Rattle.civl_meaning.specs.declared.config.Move.{Move}
 use Rattle.civl_script.specs.Values.{cells_of, IsValueOf, IsWordOf, IsRowOf, IsFlatOf}
 use Rattle.civl_script.specs.Schedules.{IsEntryOf, AreEntriesOf, AreValuesOf, IsMoveOf, AreMovesOf, IsWrongEntry, IsWrongMove, IsSchedule}

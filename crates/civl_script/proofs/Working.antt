@@ -11,7 +11,7 @@ use Rattle.civl_tree.specs.declared.name.Name.{Name}
 use Rattle.civl_meaning.specs.declared.config.Move.{Move}
 use Rattle.civl_tree.specs.declared.program.Global.{Global}
 use Rattle.civl_tree.specs.declared.expr.Sort.TheVariants as sort
-use Rattle.civl_values.specs.Values.{is_of}
+use Rattle.civl_firing.specs.values.Values.{is_of}
 use Rattle.civl_script.specs.Values.{cells_of, IsValueOf}
 use Rattle.civl_script.specs.Schedules.{IsEntryOf, AreEntriesOf, AreMovesOf, IsMoveOf}
 use Rattle.civl_script.specs.Examples.{name_x, one_of, row_of, WritesNone, Written, x_global, y_global, x_is, y_is, told, move_of, Said}

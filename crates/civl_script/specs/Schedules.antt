@@ -4,7 +4,7 @@ use Rattle.civl_bits.specs.declared.value.Value.{Value}
 use Rattle.civl_tree.specs.declared.program.Global.{Global}
 use Rattle.civl_tree.specs.declared.script.Entry.{Entry}
 use Rattle.civl_tree.specs.declared.script.Told.{Told}
-use Rattle.civl_values.specs.Values.{is_of}
+use Rattle.civl_firing.specs.values.Values.{is_of}
 use Rattle.civl_meaning.specs.declared.config.Move.{Move}
 use Rattle.civl_script.specs.Values.{IsValueOf}
 use Rattle.civl_script.specs.declared.schedule.Schedule.{Schedule}

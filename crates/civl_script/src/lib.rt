@@ -2,6 +2,7 @@
 #![tactic(auto)]
 
 pub mod laws;
+pub mod replays;
 mod schedule;
 mod written;
 

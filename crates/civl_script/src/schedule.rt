@@ -1,14 +1,14 @@
 // The store and the moves of a script.
 ghost use Rattle.std.specs.Prelude.{◌≡◌, ◌+◌, ◌<◌, ◌^◌, length, None, IfSome, IfOk};
 ghost use Rattle.civl_bits.specs.declared.value.Value.{Value as Of};
-ghost use Rattle.civl_values.specs.Values.{is_of};
+ghost use Rattle.civl_firing.specs.values.Values.{is_of};
 ghost use Rattle.civl_script.specs.Schedules.{IsEntryOf, IsStoreFound, AreValuesFound, AreMovesFound, IsSchedule};
 
 use crate::written::value_of;
 use civl_bits::Value;
+use civl_firing::values::is_of;
 use civl_meaning::{Move, Store};
 use civl_tree::{Entry, Global, List, Memory, Sort, Told};
-use civl_values::is_of;
 use std::alloc::Global as Alloc;
 
 /// What comes of a script for some globals: the store and the moves, or the number of what first doesn't fit.

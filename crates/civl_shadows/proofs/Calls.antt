@@ -17,9 +17,9 @@ use Rattle.civl_meaning.specs.Rest.{Rest, rest_at, head_of}
 use Rattle.civl_meaning.proofs.Rests.{spot_of_rest}
 use Rattle.civl_meaning.specs.Meaning.{Meaning, Runs, meaning_by, meaning_of, meaning_else, called, proc_number}
 use Rattle.civl_conditions.specs.Steps.{has_layer}
-use Rattle.civl_exchanges.specs.Doing.{call_doing, layer_doing, leaving, spot_doing, proc_doing}
-use Rattle.civl_blocks.specs.Blocks.{framed_in}
-use Rattle.civl_blocks.specs.Challenged.{allows, refuses, call_challenged}
+use Rattle.civl_reduction.specs.exchanges.Doing.{call_doing, layer_doing, leaving, spot_doing, proc_doing}
+use Rattle.civl_reduction.specs.blocks.Blocks.{framed_in}
+use Rattle.civl_reduction.specs.blocks.Challenged.{allows, refuses, call_challenged}
 use Rattle.civl_shadows.specs.Challenging.{head_stmt}
 use Rattle.std.proofs.lemmas.Option.{none-some, same_Some}
 

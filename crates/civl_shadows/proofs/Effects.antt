@@ -14,11 +14,11 @@ use Rattle.civl_meaning.specs.declared.config.Stepped.TheVariants.{Moved}
 use Rattle.civl_meaning.specs.Layers.{program_at}
 use Rattle.civl_meaning.specs.Rest.{Rest}
 use Rattle.civl_meaning.specs.Step.{step_of}
-use Rattle.civl_paths.specs.Paths.{Course}
-use Rattle.civl_paths.specs.Runs.{led}
-use Rattle.civl_blocks.specs.Blocks as blocks
-use Rattle.civl_blocks.specs.Cuts.{frame_at, settled}
-use Rattle.civl_blocks.specs.Shadow.{Shadow, Shadowed, merged, course_of, glided, progress_in, shadow_with, before_frame, before_step, begun_with, after_frame, after_step, shadowed_step}
+use Rattle.civl_conditions.specs.paths.Paths.{Course}
+use Rattle.civl_conditions.specs.paths.Runs.{led}
+use Rattle.civl_reduction.specs.blocks.Blocks as blocks
+use Rattle.civl_reduction.specs.blocks.Cuts.{frame_at, settled}
+use Rattle.civl_reduction.specs.blocks.Shadow.{Shadow, Shadowed, merged, course_of, glided, progress_in, shadow_with, before_frame, before_step, begun_with, after_frame, after_step, shadowed_step}
 use Rattle.civl_shadows.specs.declared.notes.Noting.{Noting}
 use Rattle.civl_shadows.specs.declared.notes.Progress as code
 use Rattle.civl_shadows.specs.declared.shadow.Shadow as kept

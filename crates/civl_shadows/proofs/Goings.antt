@@ -6,11 +6,11 @@ use Rattle.std.proofs.lemmas.List.{drop_all}
 use Rattle.civl_tree.specs.declared.stmt.Stmt.{Stmt, out-Stmt}
 use Rattle.civl_meaning.specs.Places.{Spot, is_skipped}
 use Rattle.civl_meaning.specs.Rest.{Rest, place_in, head_of}
-use Rattle.civl_paths.specs.Paths.{Progress}
-use Rattle.civl_paths.specs.Runs.{layer_led, led}
-use Rattle.civl_blocks.specs.Blocks.{layer_at_yield, at_yield}
-use Rattle.civl_blocks.specs.Cuts.{settled_layer, settled}
-use Rattle.civl_blocks.specs.Shadow.{glided_layer, glided}
+use Rattle.civl_conditions.specs.paths.Paths.{Progress}
+use Rattle.civl_conditions.specs.paths.Runs.{layer_led, led}
+use Rattle.civl_reduction.specs.blocks.Blocks.{layer_at_yield, at_yield}
+use Rattle.civl_reduction.specs.blocks.Cuts.{settled_layer, settled}
+use Rattle.civl_reduction.specs.blocks.Shadow.{glided_layer, glided}
 use Rattle.civl_shadows.specs.declared.notes.Noting.{Noting}
 use Rattle.civl_shadows.specs.declared.rests.Numbered.{Numbered}
 use Rattle.civl_shadows.specs.Notes.{noted}

@@ -4,7 +4,7 @@ use Rattle.std.proofs.lemmas.List.{drop_all}
 use Rattle.std.specs.Prelude.{nat_eq, if◌then◌else◌}
 use Rattle.civl_bits.specs.declared.value.Value.{Value}
 use Rattle.civl_tree.specs.declared.program.Global.{Global}
-use Rattle.civl_blocks.specs.Shadow.{merged_values}
+use Rattle.civl_reduction.specs.blocks.Shadow.{merged_values}
 use Rattle.civl_shadows.specs.Merging.{picked}
 use Rattle.civl_shadows.proofs.Dropping.{tail, drop_tail, drop_more}
 

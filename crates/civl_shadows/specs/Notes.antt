@@ -2,8 +2,8 @@
 use Rattle.std.specs.Prelude.{Option, None, Some}
 use Rattle.civl_tree.specs.declared.stmt.Stmt.{Stmt}
 use Rattle.civl_tree.specs.declared.stmt.Stmt.TheOpen as stmt
-use Rattle.civl_paths.specs.Paths.{Course, Progress, committed, introduced}
-use Rattle.civl_blocks.specs.Shadow.{course_of}
+use Rattle.civl_conditions.specs.paths.Paths.{Course, Progress, committed, introduced}
+use Rattle.civl_reduction.specs.blocks.Shadow.{course_of}
 use Rattle.civl_shadows.specs.declared.notes.Noting.{Noting}
 use Rattle.civl_shadows.specs.declared.notes.Progress as code
 

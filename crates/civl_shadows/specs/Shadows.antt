@@ -1,9 +1,9 @@
--- The code's shadows are those of civl_blocks.
+-- The code's shadows are those of civl_reduction::blocks.
 use Rattle.std.specs.Prelude.{ℕ, ◌≡◌, Bool, false, List, length, slice_index_or}
 use Rattle.civl_meaning.specs.declared.config.Plain.{Plain}
 use Rattle.civl_meaning.specs.Layers.{program_at}
 use Rattle.civl_layers.specs.Layered.{IsLayered}
-use Rattle.civl_blocks.specs.Shadow.{Shadow, Shadowed}
+use Rattle.civl_reduction.specs.blocks.Shadow.{Shadow, Shadowed}
 use Rattle.civl_shadows.specs.declared.shadow.Shadow as code
 use Rattle.civl_shadows.specs.declared.shadow.Shadowed as given
 

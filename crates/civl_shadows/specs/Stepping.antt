@@ -2,7 +2,7 @@
 use Rattle.std.specs.Prelude.{ℕ, ◌≡◌, Bool, true, false, Option, None, Some}
 use Rattle.civl_tree.specs.declared.program.Program.{Program}
 use Rattle.civl_firing.specs.declared.store.Store.{Store}
-use Rattle.civl_blocks.specs.Shadow.{Shadow, merged, with_done}
+use Rattle.civl_reduction.specs.blocks.Shadow.{Shadow, merged, with_done}
 use Rattle.civl_shadows.specs.declared.notes.Progress.{Progress}
 use Rattle.civl_shadows.specs.declared.shadow.Shadow as kept
 use Rattle.civl_shadows.specs.Shadows.{done_in}

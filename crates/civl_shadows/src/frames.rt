@@ -3,8 +3,8 @@ ghost use Rattle.std.specs.Prelude.{◌≡◌, slice_get, take, drop};
 ghost use Rattle.civl_meaning.specs.Change.{outs_in};
 ghost use Rattle.civl_conditions.specs.Assumed.{inputs_of};
 ghost use Rattle.civl_conditions.specs.Steps.{has_layer};
-ghost use Rattle.civl_blocks.specs.Blocks.{framed_in, frame_of_layer};
-ghost use Rattle.civl_blocks.specs.Cuts.{frame_at};
+ghost use Rattle.civl_reduction.specs.blocks.Blocks.{framed_in, frame_of_layer};
+ghost use Rattle.civl_reduction.specs.blocks.Cuts.{frame_at};
 ghost use Rattle.civl_shadows.specs.Frames.{framed_of};
 
 use civl_bits::Value;

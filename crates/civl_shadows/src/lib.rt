@@ -1,7 +1,7 @@
 //! The shadow beside a run of a layer's program.
 //!
 //! Beside a block run of the program of a layer go the values of the globals that the next layer introduces, as the intros
-//! have set them, and for each thread whether its frame of a procedure of the next layer has passed a commit; civl_blocks says
+//! have set them, and for each thread whether its frame of a procedure of the next layer has passed a commit; civl_reduction::blocks says
 //! which they are. Here they are computed: where the program starts ([`shadowed_start`]), and by each step
 //! ([`shadowed_step`]). [`is_challenged`] tells whether the gate of a refined action is false where a block begins.
 //!

@@ -1,6 +1,6 @@
 // The store with the shadow's values.
 ghost use Rattle.std.specs.Prelude.{◌≡◌, ◌+◌, ◌<◌, ◌^◌, IfOk, length, drop};
-ghost use Rattle.civl_blocks.specs.Shadow.{merged_values};
+ghost use Rattle.civl_reduction.specs.blocks.Shadow.{merged_values};
 ghost use Rattle.civl_shadows.specs.Merging.{picked};
 
 use civl_bits::Value;

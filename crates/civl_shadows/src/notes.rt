@@ -6,12 +6,12 @@ ghost use Rattle.civl_firing.specs.Eval.{value_of, values_of};
 ghost use Rattle.civl_firing.specs.Names.{names_of};
 ghost use Rattle.civl_tree.specs.rules.Names.{global_names};
 ghost use Rattle.civl_meaning.specs.Rest.{Rest};
-ghost use Rattle.civl_paths.specs.NoteValues.{plain_note_values};
-ghost use Rattle.civl_paths.specs.Paths.{committed, introduced, Progress as Given};
-ghost use Rattle.civl_paths.specs.Runs.{layer_led, led};
-ghost use Rattle.civl_blocks.specs.Blocks.{layer_at_yield, at_yield};
-ghost use Rattle.civl_blocks.specs.Cuts.{settled_layer, settled};
-ghost use Rattle.civl_blocks.specs.Shadow.{glided_layer, glided};
+ghost use Rattle.civl_conditions.specs.paths.NoteValues.{plain_note_values};
+ghost use Rattle.civl_conditions.specs.paths.Paths.{committed, introduced, Progress as Given};
+ghost use Rattle.civl_conditions.specs.paths.Runs.{layer_led, led};
+ghost use Rattle.civl_reduction.specs.blocks.Blocks.{layer_at_yield, at_yield};
+ghost use Rattle.civl_reduction.specs.blocks.Cuts.{settled_layer, settled};
+ghost use Rattle.civl_reduction.specs.blocks.Shadow.{glided_layer, glided};
 ghost use Rattle.civl_shadows.specs.Rests.{rest_of};
 ghost use Rattle.civl_shadows.specs.Notes.{noted, progress_of, layer_glides};
 

@@ -12,7 +12,7 @@ use Rattle.civl_tree.specs.rules.Names.{Signature, action_named, proc_named, act
 use Rattle.civl_tree.specs.rules.Signature.{same_mode, same_params, signature_differs, refined_differs}
 use Rattle.civl_tree.specs.rules.Sorts.{same_sort}
 use Rattle.civl_tree.specs.rules.Uses.{param_sorts}
-use Rattle.civl_values.proofs.Sorting.{both, same_sort-true}
+use Rattle.civl_firing.proofs.values.Sorting.{both, same_sort-true}
 use Rattle.civl_meaning.specs.declared.config.Plain.{Plain}
 use Rattle.civl_firing.specs.Truth.{place_of}
 use Rattle.civl_meaning.specs.Meaning.{Meaning, Does, Runs, Missing, proc_number, meaning_of_action, refined, meaning_by, meaning_of, meaning_else, called}

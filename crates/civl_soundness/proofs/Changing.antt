@@ -27,7 +27,7 @@ use Rattle.civl_tree.specs.rules.Unknown.{any_unknown, place_unknown, form_unkno
 use Rattle.civl_tree.specs.rules.Arity.{call_arity, thread_arity, form_arity, stmt_arity}
 use Rattle.civl_tree.specs.rules.Typing.{typing_rules, unknown_rule, width_rule, sort_rule, index_rule, arity_rule}
 use Rattle.civl_tree.proofs.Kept.{statement_kept, unknown_among, width_among, sort_among, index_among, arity_among}
-use Rattle.civl_values.specs.Values.{is_true, HasSort, HaveSorts}
+use Rattle.civl_firing.specs.values.Values.{is_true, HasSort, HaveSorts}
 use Rattle.civl_firing.specs.declared.store.Store.{Store}
 use Rattle.civl_meaning.specs.declared.config.Plain.{Plain}
 use Rattle.civl_meaning.specs.declared.config.Activation.{Activation}

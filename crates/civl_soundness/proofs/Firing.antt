@@ -25,7 +25,7 @@ use Rattle.civl_tree.specs.rules.Sorted.{any_missorted}
 use Rattle.civl_tree.specs.rules.Rules.{Keeps}
 use Rattle.civl_tree.specs.rules.Typing.{typing_rules, width_rule, sort_rule, index_rule}
 use Rattle.civl_tree.proofs.Kept.{action_kept, width_among, sort_among, index_among}
-use Rattle.civl_values.specs.Values.{HasSort, HaveSorts}
+use Rattle.civl_firing.specs.values.Values.{HasSort, HaveSorts}
 use Rattle.civl_firing.specs.declared.store.Store.{Store}
 use Rattle.civl_firing.specs.declared.firing.Fired.TheVariants.{GateFalse, Moved}
 use Rattle.civl_firing.specs.declared.scope.Scope.{Scope}
@@ -35,7 +35,7 @@ use Rattle.civl_firing.specs.Stores.{IsStore}
 use Rattle.civl_firing.specs.Sorts.{IsSorted}
 use Rattle.civl_firing.specs.Scope.{zeros_of_params, gate_values, guard_values}
 use Rattle.civl_firing.specs.Fired.{gate_holds, guard_holds, offers, updated, store_after, outs_after, fires, fired_by, fired}
-use Rattle.civl_values.proofs.Sorting.{same_sort-true}
+use Rattle.civl_firing.proofs.values.Sorting.{same_sort-true}
 use Rattle.civl_firing.proofs.Having.{no_sorts, more_sorts}
 use Rattle.civl_firing.proofs.Soundness.{values_have_their_sorts}
 use Rattle.civl_soundness.specs.Scope.{choice_sorts, GateIsSorted, GuardIsSorted, BodyIsSorted, OffersAreSorted, GateIsBool, GuardIsBool}

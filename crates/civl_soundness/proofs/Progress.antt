@@ -11,7 +11,7 @@ use Rattle.civl_tree.specs.declared.stmt.Stmt.{Stmt, out-Stmt}
 use Rattle.civl_tree.specs.declared.stmt.Stmt.TheOpen.{Stmt-F, Assign, Assert, If, While, YieldLoop, RankLoop, Call, Yield, Commit, Intro, Spawn}
 use Rattle.civl_tree.specs.rules.Names.{callee_signature, names_in_proc}
 use Rattle.civl_tree.specs.rules.Unknown.{place_unknown}
-use Rattle.civl_values.specs.Values.{is_true}
+use Rattle.civl_firing.specs.values.Values.{is_true}
 use Rattle.civl_firing.specs.declared.store.Store.{Store}
 use Rattle.civl_meaning.specs.declared.config.Move.{Move}
 use Rattle.civl_meaning.specs.declared.config.Plain.{Plain}

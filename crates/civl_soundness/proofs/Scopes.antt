@@ -22,7 +22,7 @@ use Rattle.civl_tree.specs.rules.Index.{sort_index, any_index}
 use Rattle.civl_tree.specs.rules.Rules.{Keeps}
 use Rattle.civl_tree.specs.rules.Typing.{typing_rules, twice_rule, width_rule, index_rule}
 use Rattle.civl_tree.proofs.Kept.{global_kept, action_kept, proc_kept, twice_among, width_among, index_among}
-use Rattle.civl_values.specs.Values.{HaveSorts}
+use Rattle.civl_firing.specs.values.Values.{HaveSorts}
 use Rattle.civl_firing.specs.declared.store.Store.{Store}
 use Rattle.civl_firing.specs.Stores.{IsStore}
 use Rattle.civl_firing.specs.Sorts.{IsSorted}

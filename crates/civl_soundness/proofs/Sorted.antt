@@ -12,8 +12,8 @@ use Rattle.civl_tree.specs.rules.Scopes.{Binding, sort_in}
 use Rattle.civl_tree.specs.rules.Width.{sort_width_fits}
 use Rattle.civl_tree.specs.rules.Index.{sort_index}
 use Rattle.civl_tree.specs.rules.Exprs.{is_width, is_index}
-use Rattle.civl_values.specs.Values.{HasSort, HaveSorts, zero_of, is_sort}
-use Rattle.civl_values.proofs.Zeros.{zeros_have_their_sorts}
+use Rattle.civl_firing.specs.values.Values.{HasSort, HaveSorts, zero_of, is_sort}
+use Rattle.civl_firing.proofs.values.Zeros.{zeros_have_their_sorts}
 use Rattle.civl_firing.specs.Truth.{place_of}
 use Rattle.civl_firing.proofs.Having.{no_sorts, more_sorts, first_sort, rest_sorts, Found, nothing_found, found_more}
 use Rattle.civl_soundness.proofs.Bindings.{names_of, sorts_of}

@@ -8,7 +8,7 @@ use Rattle.civl_firing.specs.declared.store.Store.{Store}
 use Rattle.civl_firing.specs.declared.firing.Fired.TheVariants.{Moved}
 use Rattle.civl_firing.specs.Fired.{store_after, outs_after, fired}
 use Rattle.civl_firing.specs.Stores.{IsStore}
-use Rattle.civl_values.specs.Values.{HaveSorts}
+use Rattle.civl_firing.specs.values.Values.{HaveSorts}
 use Rattle.civl_soundness.specs.Scope.{choice_sorts, Given}
 
 -- from a store with the sorts of the globals, inputs with those of its parameters and choices with theirs, an action of a

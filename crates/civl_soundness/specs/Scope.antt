@@ -11,7 +11,7 @@ use Rattle.civl_tree.specs.rules.Scopes.{body_scope, gate_scope, guard_scope}
 use Rattle.civl_tree.specs.rules.Uses.{param_sorts}
 use Rattle.civl_tree.specs.rules.Rules.{Keeps}
 use Rattle.civl_tree.specs.rules.Typing.{typing_rules}
-use Rattle.civl_values.specs.Values.{HasSort, HaveSorts}
+use Rattle.civl_firing.specs.values.Values.{HasSort, HaveSorts}
 use Rattle.civl_firing.specs.declared.store.Store.{Store}
 use Rattle.civl_firing.specs.Eval.{value_of}
 use Rattle.civl_firing.specs.Fired.{offers}

@@ -16,8 +16,8 @@ use Rattle.civl_tree.specs.Numbering.{statements_of, statement_at}
 use Rattle.civl_meaning.specs.Layers.{program_at}
 use Rattle.civl_layers.specs.declared.cut.Cut.{Cut}
 use Rattle.civl_layers.specs.Cuts.{proc_cuts}
-use Rattle.civl_paths.specs.Flows.{flow_from}
-use Rattle.civl_paths.proofs.Standing.{Stand, passed_stand}
+use Rattle.civl_conditions.specs.paths.Flows.{flow_from}
+use Rattle.civl_conditions.proofs.paths.Standing.{Stand, passed_stand}
 use Rattle.civl_meaning.proofs.Zipping.{zip_long}
 use Rattle.civl_bodies.specs.declared.body.Body.{Body}
 use Rattle.civl_bodies.specs.Bodies.{ArePassed, IsBody}
@@ -28,10 +28,10 @@ use Rattle.civl_actions.specs.Actions.{values_at}
 use Rattle.civl_conditions.specs.Variables.{layer_choices, passed_choices}
 use Rattle.civl_conditions.specs.Values.{choices_count, chosen_in, part}
 use Rattle.civl_states.specs.Beginnings.{chosen_at}
-use Rattle.civl_formulas.specs.Lists.{AreSaid}
-use Rattle.civl_formulas.specs.Given.{given, bits_of_sorts}
-use Rattle.civl_formulas.proofs.Listing.{said_after}
-use Rattle.civl_formulas.proofs.Giving.{bits-append}
+use Rattle.civl_states.specs.formula_parts.Lists.{AreSaid}
+use Rattle.civl_states.specs.formula_parts.Given.{given, bits_of_sorts}
+use Rattle.civl_states.proofs.formula_parts.Listing.{said_after}
+use Rattle.civl_states.proofs.formula_parts.Giving.{bits-append}
 use Rattle.civl_states.specs.declared.choices.Chosen.{Chosen}
 use Rattle.civl_states.specs.Groups.{StandFrom}
 use Rattle.civl_states.specs.Laying.{call_at, calls_at, call_sorts, chooses, with_some, AreChosen, ChooseMore}

@@ -7,19 +7,19 @@ use Rattle.civl_bits.specs.Value.{same_value}
 use Rattle.civl_tree.specs.declared.expr.Sort.{Sort}
 use Rattle.civl_tree.specs.declared.program.Global.{Global}
 use Rattle.civl_tree.specs.declared.program.Program.{Program}
-use Rattle.civl_values.specs.Weights.{bits_in}
+use Rattle.civl_firing.specs.values.Weights.{bits_in}
 use Rattle.civl_firing.specs.declared.store.Store.{Store}
-use Rattle.civl_footprints.specs.Agreement.{exists_at}
+use Rattle.civl_conditions.specs.footprints.Agreement.{exists_at}
 use Rattle.civl_terms.specs.declared.node.Node.{Node}
 use Rattle.civl_terms.specs.Graphs.{sort_at, value_at, Fits}
 use Rattle.civl_terms.specs.Building.{Grows}
 use Rattle.civl_actions.specs.Scopes.{AreOf}
 use Rattle.civl_actions.specs.Actions.{values_at}
 use Rattle.civl_conditions.specs.Values.{same_values, same_in, same_stores}
-use Rattle.civl_formulas.specs.Said.{Env, IsTest}
-use Rattle.civl_formulas.specs.Given.{bits_of_sorts}
-use Rattle.civl_formulas.specs.Lists.{AreAlike, bits_at}
-use Rattle.civl_formulas.proofs.Saying.{test_where}
+use Rattle.civl_states.specs.formula_parts.Said.{Env, IsTest}
+use Rattle.civl_states.specs.formula_parts.Given.{bits_of_sorts}
+use Rattle.civl_states.specs.formula_parts.Lists.{AreAlike, bits_at}
+use Rattle.civl_states.proofs.formula_parts.Saying.{test_where}
 use Rattle.civl_states.specs.Stores.{global_sorts, AreStore, AreGlobals}
 use Rattle.civl_states.specs.Items.{picked}
 use Rattle.civl_states.specs.Same.{TellsSame, layer_sorts, same_weight}

@@ -7,12 +7,12 @@ use Rattle.civl_bits.specs.declared.value.Value.{Value}
 use Rattle.civl_bits.specs.declared.value.Value.TheVariants as value
 use Rattle.civl_bits.specs.Value.{IsValue}
 use Rattle.civl_tree.specs.declared.expr.Sort.{Sort}
-use Rattle.civl_values.specs.Operators.{nothing}
-use Rattle.civl_values.specs.Values.{HasSort, HaveSorts, is_of, are_of}
+use Rattle.civl_firing.specs.values.Operators.{nothing}
+use Rattle.civl_firing.specs.values.Values.{HasSort, HaveSorts, is_of, are_of}
 use Rattle.civl_terms.specs.declared.node.Node.{Node}
 use Rattle.civl_terms.specs.Graphs.{Fits, listed}
-use Rattle.civl_formulas.specs.Said.{IsTest}
-use Rattle.civl_formulas.specs.Given.{given, AreVariablesOf}
+use Rattle.civl_states.specs.formula_parts.Said.{IsTest}
+use Rattle.civl_states.specs.formula_parts.Given.{given, AreVariablesOf}
 use Rattle.civl_states.specs.Formulas.{IsFormula}
 use Rattle.civl_states.proofs.Given.{given_listed}
 

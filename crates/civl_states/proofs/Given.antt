@@ -1,18 +1,18 @@
 -- What a list of the variables' values gives from a place on, and their sorts.
 use Rattle.std.specs.Prelude.{◌≡◌, take, drop, filter, if◌then◌else◌}
-use Rattle.civl_values.specs.Values.{zero_of}
+use Rattle.civl_firing.specs.values.Values.{zero_of}
 use Rattle.std.proofs.Common.{◌∙◌, ℕ, zero, suc, ◌+◌, ◌-◌, ◌≤◌, ◌<◌, Bool, true, false, List, [], ◌∷◌, ◌++◌, length, get_or, append_assoc, refl, sym, ap, ap₂, subst, arith}
 use Rattle.std.proofs.lemmas.List.{append-nil, take_more, take_all, get_or-drop, length-append}
 use Rattle.std.proofs.Math.Seq.{drop-append_seam, take-append_seam}
 use Rattle.civl_bits.specs.declared.value.Value.{Value}
-use Rattle.civl_values.specs.Operators.{nothing}
+use Rattle.civl_firing.specs.values.Operators.{nothing}
 use Rattle.civl_tree.specs.declared.expr.Sort.{Sort}
 use Rattle.civl_tree.specs.declared.expr.Sort.TheVariants.{Bool as Truth}
 use Rattle.civl_tree.specs.declared.program.Global.{Global}
-use Rattle.civl_formulas.specs.Said.{Env}
+use Rattle.civl_states.specs.formula_parts.Said.{Env}
 use Rattle.civl_terms.specs.declared.node.Node.{Node}
-use Rattle.civl_formulas.specs.Lists.{AreSaid}
-use Rattle.civl_formulas.specs.Given.{given, sorts_from, bits_of_sorts}
+use Rattle.civl_states.specs.formula_parts.Lists.{AreSaid}
+use Rattle.civl_states.specs.formula_parts.Given.{given, sorts_from, bits_of_sorts}
 use Rattle.civl_states.specs.Groups.{StandFrom}
 use Rattle.civl_conditions.specs.Values.{part, spread}
 

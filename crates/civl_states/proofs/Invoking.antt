@@ -7,9 +7,9 @@ use Rattle.civl_tree.specs.declared.action.Action.{Action}
 use Rattle.civl_tree.specs.declared.program.Program.{Program}
 use Rattle.civl_terms.specs.declared.node.Node.{Node}
 use Rattle.civl_terms.specs.Building.{Lengthens}
-use Rattle.civl_formulas.specs.Lists.{AreSaid}
-use Rattle.civl_formulas.specs.Given.{given, sorts_from}
-use Rattle.civl_formulas.proofs.Listing.{said_after}
+use Rattle.civl_states.specs.formula_parts.Lists.{AreSaid}
+use Rattle.civl_states.specs.formula_parts.Given.{given, sorts_from}
+use Rattle.civl_states.proofs.formula_parts.Listing.{said_after}
 use Rattle.civl_states.specs.declared.invoked.Invoked.{Invoked}
 use Rattle.civl_states.specs.Stores.{choice_sorts}
 use Rattle.civl_states.specs.Runs.{param_sorts, instance_sorts, IsReady, IsInvoked}

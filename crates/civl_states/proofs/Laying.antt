@@ -8,8 +8,8 @@ use Rattle.civl_tree.specs.declared.expr.Sort.TheVariants.{Bool as Truth}
 use Rattle.civl_tree.specs.declared.program.Global.{Global}
 use Rattle.civl_tree.specs.declared.program.Proc.{Proc}
 use Rattle.civl_tree.specs.rules.Uses.{param_sorts}
-use Rattle.civl_values.specs.Values.{is_true, zero_of, is_sort, sort_of_value}
-use Rattle.civl_values.proofs.Zeros.{zeros_have_their_sorts}
+use Rattle.civl_firing.specs.values.Values.{is_true, zero_of, is_sort, sort_of_value}
+use Rattle.civl_firing.proofs.values.Zeros.{zeros_have_their_sorts}
 use Rattle.civl_firing.specs.Scope.{zeros_of_params, zeros_of_locals}
 use Rattle.civl_meaning.specs.Config.{frame_sorts}
 use Rattle.civl_meaning.specs.Change.{outs_in}
@@ -20,9 +20,9 @@ use Rattle.civl_terms.specs.Building.{Numbers, Built, Grows}
 use Rattle.civl_terms.proofs.Soundness.{sort_is}
 use Rattle.civl_terms.proofs.Growing.{lengthened}
 use Rattle.civl_actions.proofs.Building.{truth_value}
-use Rattle.civl_formulas.specs.Said.{Env, IsTest}
-use Rattle.civl_formulas.specs.Lists.{AreSaid}
-use Rattle.civl_formulas.proofs.Listing.{said_more}
+use Rattle.civl_states.specs.formula_parts.Said.{Env, IsTest}
+use Rattle.civl_states.specs.formula_parts.Lists.{AreSaid}
+use Rattle.civl_states.proofs.formula_parts.Listing.{said_more}
 use Rattle.civl_states.specs.Groups.{StandFrom}
 use Rattle.civl_states.specs.Laying.{sorts_where, inner_sorts}
 

@@ -19,7 +19,7 @@ use Rattle.civl_tree.specs.rules.Index.{sort_index, action_index, proc_index}
 use Rattle.civl_tree.specs.rules.Rules.{Keeps}
 use Rattle.civl_tree.specs.rules.Typing.{typing_rules, count_rule, width_rule, index_rule}
 use Rattle.civl_tree.proofs.Kept.{global_kept, action_kept, proc_kept, count_among, width_among, index_among}
-use Rattle.civl_values.specs.Values.{is_sort}
+use Rattle.civl_firing.specs.values.Values.{is_sort}
 
 -- ---- lists
 

@@ -16,7 +16,7 @@ use Rattle.civl_tree.specs.rules.Typing.{typing_rules}
 use Rattle.civl_tree.specs.rules.Scopes.{Scope as Sorts, Binding, sort_in, bind_globals, bind_params, bind_proc, global_scope, note_scope}
 use Rattle.civl_tree.specs.rules.Sorts.{sort_of}
 use Rattle.civl_tree.specs.rules.Uses.{param_sorts}
-use Rattle.civl_values.specs.Values.{is_true}
+use Rattle.civl_firing.specs.values.Values.{is_true}
 use Rattle.civl_firing.specs.declared.scope.Scope.{Scope as Meant}
 use Rattle.civl_firing.specs.declared.store.Store.{Store}
 use Rattle.civl_firing.specs.Scope.{global_values}
@@ -32,9 +32,9 @@ use Rattle.civl_actions.specs.Scopes.{names_in, meant, StandsAt, ScopeFits, AreO
 use Rattle.civl_actions.proofs.Building.{truth_value}
 use Rattle.civl_actions.proofs.Scoping.{Found}
 use Rattle.civl_actions.proofs.Staying.{are_within, are_stay, values_stay}
-use Rattle.civl_paths.specs.NoteValues.{note_names, with_outs}
+use Rattle.civl_conditions.specs.paths.NoteValues.{note_names, with_outs}
 use Rattle.civl_conditions.specs.Invariants.{holds_in}
-use Rattle.civl_formulas.specs.Said.{Env, IsTest, IsSaid}
+use Rattle.civl_states.specs.formula_parts.Said.{Env, IsTest, IsSaid}
 use Rattle.civl_states.specs.declared.notes.View.{View}
 use Rattle.civl_states.specs.Stores.{AreStore, AreGlobals, global_sorts}
 use Rattle.civl_states.specs.Notes.{Seen, seen_values, CanSee, AreSeen, IsProcIn}

@@ -20,7 +20,7 @@ use Rattle.civl_tree.specs.rules.Width.{is_linear, param_width}
 use Rattle.civl_tree.specs.rules.Rules.{Keeps}
 use Rattle.civl_tree.specs.rules.Typing.{typing_rules, count_rule, width_rule}
 use Rattle.civl_tree.proofs.Kept.{header_kept, global_kept, action_kept, count_among, width_among}
-use Rattle.civl_values.proofs.Sorting.{same_sort-true}
+use Rattle.civl_firing.proofs.values.Sorting.{same_sort-true}
 use Rattle.civl_terms.specs.declared.node.Node.{Node}
 use Rattle.civl_terms.specs.Graphs.{value_at, sort_at}
 use Rattle.civl_terms.specs.Building.{Grows}
@@ -30,11 +30,11 @@ use Rattle.civl_meaning.specs.Permissions.{permissions_of_word, permissions_of_g
 use Rattle.civl_linear.specs.Modes.{is_lent}
 use Rattle.civl_conditions.specs.Permissions.{of_modes}
 use Rattle.civl_conditions.specs.Weights.{lin}
-use Rattle.civl_formulas.specs.declared.carried.Carried.{Carried}
-use Rattle.civl_formulas.specs.Said.{Env, IsSaid}
-use Rattle.civl_formulas.specs.Masks.{AreCarried, joining_weight}
-use Rattle.civl_formulas.proofs.Carrying.{itself, said_here, carried_as}
-use Rattle.civl_formulas.proofs.CarriedWeights.{carried_weight, HasMask, weight_more, carried_small}
+use Rattle.civl_states.specs.declared.formula_parts.carried.Carried.{Carried}
+use Rattle.civl_states.specs.formula_parts.Said.{Env, IsSaid}
+use Rattle.civl_states.specs.formula_parts.Masks.{AreCarried, joining_weight}
+use Rattle.civl_states.proofs.formula_parts.Carrying.{itself, said_here, carried_as}
+use Rattle.civl_states.proofs.formula_parts.CarriedWeights.{carried_weight, HasMask, weight_more, carried_small}
 use Rattle.civl_states.specs.declared.items.Which.{Which}
 use Rattle.civl_states.specs.declared.items.Which.TheVariants.{Linear, Lent}
 use Rattle.civl_states.specs.Items.{picked, is_which, of_which, HaveWidths, HasItems, items_weight}

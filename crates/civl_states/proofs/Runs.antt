@@ -12,10 +12,10 @@ use Rattle.civl_terms.specs.Graphs.{Fits}
 use Rattle.civl_terms.specs.Building.{Grows}
 use Rattle.civl_actions.specs.declared.made.Instance.{Instance}
 use Rattle.civl_actions.specs.Actions.{store_at, IsGate, IsInstance}
-use Rattle.civl_formulas.specs.Said.{Env}
-use Rattle.civl_formulas.specs.Lists.{AreSaid}
-use Rattle.civl_formulas.proofs.Saying.{test_stays}
-use Rattle.civl_formulas.proofs.Listing.{sorts_stay, said_stay}
+use Rattle.civl_states.specs.formula_parts.Said.{Env}
+use Rattle.civl_states.specs.formula_parts.Lists.{AreSaid}
+use Rattle.civl_states.proofs.formula_parts.Saying.{test_stays}
+use Rattle.civl_states.proofs.formula_parts.Listing.{sorts_stay, said_stay}
 use Rattle.civl_states.specs.declared.invoked.Invoked.{Invoked}
 use Rattle.civl_states.specs.Stores.{AreStore}
 use Rattle.civl_states.specs.Runs.{IsReady, IsInvoked, IsRun, Runs, TellsGate, HasInputs}

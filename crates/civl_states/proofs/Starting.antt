@@ -18,7 +18,7 @@ use Rattle.civl_tree.specs.declared.program.Program.{Program}
 use Rattle.civl_tree.specs.Numbering.{statement_at}
 use Rattle.civl_tree.specs.rules.Uses.{param_sorts}
 use Rattle.civl_tree.specs.rules.StoreSize.{bits_of}
-use Rattle.civl_values.specs.Values.{is_true}
+use Rattle.civl_firing.specs.values.Values.{is_true}
 use Rattle.civl_meaning.specs.Meaning.{Meaning, Does, Runs, Missing, called}
 use Rattle.civl_meaning.specs.declared.config.Plain.{Plain}
 use Rattle.civl_meaning.specs.Layers.{program_at}
@@ -26,19 +26,19 @@ use Rattle.civl_meaning.specs.Config.{frame_sorts}
 use Rattle.civl_terms.specs.declared.node.Node.{Node}
 use Rattle.civl_terms.specs.Building.{Lengthens}
 use Rattle.civl_layers.specs.declared.cut.Cut.{Cut}
-use Rattle.civl_paths.specs.Ends.{is_entry, is_rank_loop}
-use Rattle.civl_paths.specs.Seen.{exists_near}
-use Rattle.civl_paths.specs.Flows.{flow_from}
-use Rattle.civl_paths.specs.Choices.{layer_action, action_meant}
-use Rattle.civl_paths.proofs.Standing.{Stand, passed_stand}
+use Rattle.civl_conditions.specs.paths.Ends.{is_entry, is_rank_loop}
+use Rattle.civl_conditions.specs.paths.Seen.{exists_near}
+use Rattle.civl_conditions.specs.paths.Flows.{flow_from}
+use Rattle.civl_conditions.specs.paths.Choices.{layer_action, action_meant}
+use Rattle.civl_conditions.proofs.paths.Standing.{Stand, passed_stand}
 use Rattle.civl_conditions.specs.declared.condition.Variable.{Variable}
 use Rattle.civl_conditions.specs.Variables.{where_has, near_globals, of_params, of_locals, of_choices, of_globals, call_front, flag, passed_choices, of_passed, path_variables, layer_choices, choices_of}
 use Rattle.civl_conditions.specs.Values.{Layout, layout, where_so, count_of, store_of, part, flag_at, Begun, begun}
 use Rattle.civl_conditions.specs.Weights.{bits_of_variables}
-use Rattle.civl_formulas.specs.Said.{Env, IsTest}
-use Rattle.civl_formulas.specs.Lists.{AreSaid}
-use Rattle.civl_formulas.specs.Given.{given, bits_of_sorts}
-use Rattle.civl_formulas.proofs.Giving.{bits-append}
+use Rattle.civl_states.specs.formula_parts.Said.{Env, IsTest}
+use Rattle.civl_states.specs.formula_parts.Lists.{AreSaid}
+use Rattle.civl_states.specs.formula_parts.Given.{given, bits_of_sorts}
+use Rattle.civl_states.proofs.formula_parts.Giving.{bits-append}
 use Rattle.civl_states.specs.declared.beginning_places.Places.{Places}
 use Rattle.civl_states.specs.declared.stores.Existing.TheVariants.{Near}
 use Rattle.civl_states.specs.Existing.{existing_sorts}
@@ -48,9 +48,9 @@ use Rattle.civl_states.proofs.Given.{stand_front, stand_past, part_given, get_gi
 use Rattle.civl_tree.specs.rules.Rules.{Keeps}
 use Rattle.civl_tree.specs.rules.Typing.{typing_rules}
 use Rattle.civl_tree.proofs.Pairs.{contains_nil, contains_cons}
-use Rattle.civl_values.specs.Values.{is_sort}
+use Rattle.civl_firing.specs.values.Values.{is_sort}
 use Rattle.civl_actions.proofs.Staying.{sorted_within}
-use Rattle.civl_formulas.proofs.Saying.{test_as}
+use Rattle.civl_states.proofs.formula_parts.Saying.{test_as}
 use Rattle.civl_states.specs.declared.beginning.Beginning.{Beginning}
 use Rattle.civl_states.specs.Notes.{IsProcIn}
 use Rattle.civl_states.specs.Stores.{AreStore, global_sorts}

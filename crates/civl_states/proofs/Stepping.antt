@@ -16,9 +16,9 @@ use Rattle.civl_terms.specs.Graphs.{sort_at}
 use Rattle.civl_terms.specs.Building.{Grows}
 use Rattle.civl_terms.specs.Weights.{graph_weight}
 use Rattle.civl_terms.proofs.Growing.{grows_trans}
-use Rattle.civl_formulas.specs.Said.{Env, IsTest}
-use Rattle.civl_formulas.proofs.Saying.{test_as}
-use Rattle.civl_formulas.proofs.Listing.{said_stay}
+use Rattle.civl_states.specs.formula_parts.Said.{Env, IsTest}
+use Rattle.civl_states.proofs.formula_parts.Saying.{test_as}
+use Rattle.civl_states.proofs.formula_parts.Listing.{said_stay}
 use Rattle.civl_states.specs.Stores.{AreStore}
 
 -- those of the step among these

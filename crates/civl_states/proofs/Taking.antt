@@ -9,8 +9,8 @@ use Rattle.civl_tree.specs.declared.program.Program.{Program}
 use Rattle.civl_tree.specs.rules.Rules.{Keeps}
 use Rattle.civl_tree.specs.rules.Typing.{typing_rules}
 use Rattle.civl_conditions.specs.Values.{store_of, count_of, invoked, spread}
-use Rattle.civl_formulas.specs.Said.{Env}
-use Rattle.civl_formulas.specs.Given.{given}
+use Rattle.civl_states.specs.formula_parts.Said.{Env}
+use Rattle.civl_states.specs.formula_parts.Given.{given}
 use Rattle.civl_states.specs.Existing.{passes, existing_sorts}
 use Rattle.civl_states.specs.declared.stores.Existing.{Existing}
 use Rattle.civl_states.specs.Groups.{StandFrom}

@@ -17,7 +17,7 @@ use Rattle.civl_tree.specs.rules.Index.{any_index}
 use Rattle.civl_tree.specs.rules.Rules.{Keeps}
 use Rattle.civl_tree.specs.rules.Typing.{typing_rules, sort_rule, width_rule, index_rule}
 use Rattle.civl_tree.proofs.Kept.{init_kept, invariant_kept, sort_among, width_among, index_among}
-use Rattle.civl_values.proofs.Sorting.{same_sort-true}
+use Rattle.civl_firing.proofs.values.Sorting.{same_sort-true}
 use Rattle.civl_states.specs.Notes.{HasType}
 
 only_sort : (o : Option Sort) (s : Sort) → serves o (Only s) ≡ true → o ≡ Some s

@@ -11,14 +11,14 @@ use Rattle.civl_tree.specs.declared.program.Program.{Program}
 use Rattle.civl_tree.specs.rules.StoreSize.{bits_of}
 use Rattle.civl_tree.specs.rules.Rules.{Keeps}
 use Rattle.civl_tree.specs.rules.Typing.{typing_rules}
-use Rattle.civl_values.specs.Values.{is_sort}
-use Rattle.civl_footprints.specs.Agreement.{exists_at}
+use Rattle.civl_firing.specs.values.Values.{is_sort}
+use Rattle.civl_conditions.specs.footprints.Agreement.{exists_at}
 use Rattle.civl_conditions.specs.declared.condition.Variable.{Variable}
 use Rattle.civl_conditions.specs.declared.condition.Condition.TheVariants.{Start, Keep, Pair, Fire, Act}
 use Rattle.civl_conditions.specs.declared.condition.Target.{Target}
 use Rattle.civl_conditions.specs.Variables.{variables, of_globals, of_params, of_choices, of_instance, other_variables}
 use Rattle.civl_conditions.specs.Weights.{bits_of_variables}
-use Rattle.civl_formulas.specs.Given.{bits_of_sorts}
+use Rattle.civl_states.specs.formula_parts.Given.{bits_of_sorts}
 use Rattle.civl_states.specs.Stores.{choice_sorts, global_sorts}
 use Rattle.civl_states.specs.Runs.{param_sorts, instance_sorts}
 use Rattle.civl_states.specs.Existing.{passes, existing_sorts}

@@ -13,9 +13,9 @@ use Rattle.civl_tree.specs.declared.program.Program.{Program}
 use Rattle.civl_tree.specs.rules.Scopes.{Scope}
 use Rattle.civl_tree.specs.rules.Exprs.{is_index, is_width}
 use Rattle.civl_tree.specs.rules.StoreSize.{bits_of}
-use Rattle.civl_values.specs.Values.{is_sort}
-use Rattle.civl_values.specs.Weights.{weight_of, weight_step}
-use Rattle.civl_values.specs.ActionWeights.{gate_weight, guard_weight}
+use Rattle.civl_firing.specs.values.Values.{is_sort}
+use Rattle.civl_firing.specs.values.Weights.{weight_of, weight_step}
+use Rattle.civl_firing.specs.values.ActionWeights.{gate_weight, guard_weight}
 
 -- ---- expressions
 

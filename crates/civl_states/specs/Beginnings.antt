@@ -13,11 +13,11 @@ use Rattle.civl_terms.specs.declared.node.Node.{Node}
 use Rattle.civl_terms.specs.Graphs.{sort_at}
 use Rattle.civl_actions.specs.Scopes.{AreOf}
 use Rattle.civl_layers.specs.declared.cut.Cut.{Cut}
-use Rattle.civl_paths.specs.Flows.{flow_from}
-use Rattle.civl_paths.specs.Choices.{layer_action}
+use Rattle.civl_conditions.specs.paths.Flows.{flow_from}
+use Rattle.civl_conditions.specs.paths.Choices.{layer_action}
 use Rattle.civl_conditions.specs.Values.{Begun}
-use Rattle.civl_formulas.specs.Said.{Env, IsTest}
-use Rattle.civl_formulas.specs.Lists.{AreSaid}
+use Rattle.civl_states.specs.formula_parts.Said.{Env, IsTest}
+use Rattle.civl_states.specs.formula_parts.Lists.{AreSaid}
 use Rattle.civl_states.specs.declared.choices.Chosen.{Chosen}
 use Rattle.civl_states.specs.declared.beginning.Beginning.{Beginning}
 use Rattle.civl_states.specs.Stores.{AreGlobals, AreStore, choice_sorts}

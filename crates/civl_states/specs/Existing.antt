@@ -3,8 +3,8 @@ use Rattle.std.specs.Prelude.{Bool, true, List, map, filter}
 use Rattle.civl_tree.specs.declared.expr.Sort.{Sort}
 use Rattle.civl_tree.specs.declared.program.Global.{Global}
 use Rattle.civl_tree.specs.declared.program.Program.{Program}
-use Rattle.civl_footprints.specs.Agreement.{exists_at}
-use Rattle.civl_paths.specs.Seen.{exists_near}
+use Rattle.civl_conditions.specs.footprints.Agreement.{exists_at}
+use Rattle.civl_conditions.specs.paths.Seen.{exists_near}
 use Rattle.civl_states.specs.declared.stores.Existing.{Existing}
 use Rattle.civl_states.specs.declared.stores.Existing.TheVariants.{Layer, Near, All}
 

@@ -5,13 +5,13 @@ use Rattle.civl_bits.specs.declared.value.Value.TheVariants as value
 use Rattle.civl_tree.specs.declared.expr.Sort.{Sort}
 use Rattle.civl_tree.specs.declared.expr.Sort.TheVariants.{Bool as Truth}
 use Rattle.civl_tree.specs.declared.program.Program.{Program}
-use Rattle.civl_values.specs.Values.{HaveSorts}
+use Rattle.civl_firing.specs.values.Values.{HaveSorts}
 use Rattle.civl_terms.specs.declared.node.Node.{Node}
 use Rattle.civl_terms.specs.Graphs.{value_at, sort_at, listed}
 use Rattle.civl_conditions.specs.declared.condition.Condition.{Condition}
 use Rattle.civl_conditions.specs.Variables.{variables}
 use Rattle.civl_conditions.specs.Violated.{violated}
-use Rattle.civl_formulas.specs.Given.{AreVariablesOf}
+use Rattle.civl_states.specs.formula_parts.Given.{AreVariablesOf}
 
 -- a bool over variables of these sorts alone, which is this one at all their values
 pub record IsFormula (ns : List Node) (id : ℕ) (sorts : List Sort) (truth : List Value → Bool) : Type 0 where

@@ -9,3 +9,4 @@ pub mod Beginnings
 pub mod Laying
 pub mod Formulas
 pub mod Sorted
+pub mod formula_parts

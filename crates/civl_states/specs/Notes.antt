@@ -18,9 +18,9 @@ use Rattle.civl_meaning.specs.Config.{frame_sorts}
 use Rattle.civl_terms.specs.declared.node.Node.{Node}
 use Rattle.civl_terms.specs.Graphs.{sort_at}
 use Rattle.civl_actions.specs.Scopes.{AreOf, IsTyped}
-use Rattle.civl_paths.specs.NoteValues.{note_values}
-use Rattle.civl_formulas.specs.Said.{Env, IsTest, IsSaid}
-use Rattle.civl_formulas.specs.Lists.{AreSaid}
+use Rattle.civl_conditions.specs.paths.NoteValues.{note_values}
+use Rattle.civl_states.specs.formula_parts.Said.{Env, IsTest, IsSaid}
+use Rattle.civl_states.specs.formula_parts.Lists.{AreSaid}
 use Rattle.civl_conditions.specs.Invariants.{holds_in}
 use Rattle.civl_states.specs.Stores.{AreGlobals, AreStore}
 use Rattle.civl_states.specs.declared.notes.View.{View}

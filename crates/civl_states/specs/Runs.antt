@@ -9,8 +9,8 @@ use Rattle.civl_firing.specs.Fired.{gate_holds, guard_holds, store_after, outs_a
 use Rattle.civl_terms.specs.declared.node.Node.{Node}
 use Rattle.civl_actions.specs.declared.made.Instance.{Instance}
 use Rattle.civl_actions.specs.Scopes.{AreOf}
-use Rattle.civl_formulas.specs.Said.{Env, IsTest}
-use Rattle.civl_formulas.specs.Lists.{AreSaid}
+use Rattle.civl_states.specs.formula_parts.Said.{Env, IsTest}
+use Rattle.civl_states.specs.formula_parts.Lists.{AreSaid}
 use Rattle.civl_states.specs.declared.invoked.Invoked.{Invoked}
 use Rattle.civl_states.specs.Stores.{AreStore, choice_sorts}
 

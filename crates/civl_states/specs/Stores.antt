@@ -6,8 +6,8 @@ use Rattle.civl_tree.specs.declared.program.Program.{Program}
 use Rattle.civl_firing.specs.declared.store.Store.{Store}
 use Rattle.civl_terms.specs.declared.node.Node.{Node}
 use Rattle.civl_actions.specs.Scopes.{AreOf}
-use Rattle.civl_formulas.specs.Said.{Env}
-use Rattle.civl_formulas.specs.Lists.{AreSaid}
+use Rattle.civl_states.specs.formula_parts.Said.{Env}
+use Rattle.civl_states.specs.formula_parts.Lists.{AreSaid}
 
 abbrev pub global_sorts : Program → List Sort
 global_sorts program = map (λ g. g.sort) program.globals

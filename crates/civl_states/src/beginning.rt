@@ -2,7 +2,7 @@
 ghost use Rattle.std.specs.Prelude.{◌≡◌, ◌+◌, ◌≤◌, ◌<◌, ◌^◌, ℕ, length, map, slice_get, All, IsTrue, IfOk, OnOk, Some};
 ghost use Rattle.civl_tree.specs.rules.Rules.{Keeps};
 ghost use Rattle.civl_tree.specs.rules.Typing.{typing_rules};
-ghost use Rattle.civl_values.specs.Values.{is_sort};
+ghost use Rattle.civl_firing.specs.values.Values.{is_sort};
 ghost use Rattle.civl_layers.specs.Cuts.{proc_cuts};
 ghost use Rattle.civl_bodies.specs.Bodies.{IsBody};
 ghost use Rattle.civl_terms.specs.Building.{Lengthens};
@@ -10,7 +10,7 @@ ghost use Rattle.civl_terms.specs.Weights.{graph_weight};
 ghost use Rattle.civl_conditions.specs.Values.{layout, begun};
 ghost use Rattle.civl_conditions.specs.Variables.{path_variables};
 ghost use Rattle.civl_conditions.specs.Weights.{bits_of_variables};
-ghost use Rattle.civl_formulas.specs.Given.{given, AreVariablesOf};
+ghost use Rattle.civl_states.specs.formula_parts.Given.{given, AreVariablesOf};
 ghost use Rattle.civl_states.specs.Groups.{StandFrom};
 ghost use Rattle.civl_states.specs.Notes.{IsProcIn};
 ghost use Rattle.civl_states.specs.Beginnings.{AreBegun, CanBegin};

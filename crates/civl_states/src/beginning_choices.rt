@@ -3,13 +3,13 @@ ghost use Rattle.std.specs.Prelude.{◌≡◌, ◌+◌, ◌≤◌, ◌<◌, ◌^
 ghost use Rattle.std.specs.Option.{option_map_or};
 ghost use Rattle.civl_tree.specs.declared.stmt.Stmt.{out-Stmt};
 ghost use Rattle.civl_tree.specs.declared.program.Proc.{Proc};
-ghost use Rattle.civl_values.specs.Values.{is_sort};
+ghost use Rattle.civl_firing.specs.values.Values.{is_sort};
 ghost use Rattle.civl_meaning.specs.Meaning.{called};
 ghost use Rattle.civl_meaning.specs.Layers.{program_at};
 ghost use Rattle.civl_terms.specs.Building.{Lengthens};
 ghost use Rattle.civl_terms.specs.Weights.{graph_weight};
 ghost use Rattle.civl_conditions.specs.Variables.{choices_of, layer_choices, passed_choices};
-ghost use Rattle.civl_formulas.specs.Given.{bits_of_sorts, AreVariablesOf};
+ghost use Rattle.civl_states.specs.formula_parts.Given.{bits_of_sorts, AreVariablesOf};
 ghost use Rattle.civl_layers.specs.declared.cut.Cut.{Cut};
 ghost use Rattle.civl_layers.specs.Cuts.{proc_cuts};
 ghost use Rattle.civl_bodies.specs.Bodies.{ArePassed, IsBody};
@@ -17,9 +17,9 @@ ghost use Rattle.civl_states.specs.Groups.{StandFrom};
 ghost use Rattle.civl_states.specs.Laying.{calls_at, call_sorts, with_some, AreChosen, ChooseMore};
 
 use crate::choices::{Choices, Chosen};
+use crate::formula_parts::variables;
 use civl_bodies::{Body, passed_at};
 use civl_conditions::action_called;
-use civl_formulas::variables;
 use civl_layers::Cut;
 use civl_terms::{Memory, Terms};
 use civl_tree::{Choice, Name, Proc, Program, Sort, Stmt};

@@ -5,16 +5,16 @@ ghost use Rattle.civl_tree.specs.declared.expr.Sort.TheVariants.{Bool as Truth};
 ghost use Rattle.civl_tree.specs.rules.Rules.{Keeps};
 ghost use Rattle.civl_tree.specs.rules.Typing.{typing_rules};
 ghost use Rattle.civl_tree.specs.rules.Uses.{param_sorts};
-ghost use Rattle.civl_values.specs.Values.{is_sort, is_true, zero_of};
+ghost use Rattle.civl_firing.specs.values.Values.{is_sort, is_true, zero_of};
 ghost use Rattle.civl_meaning.specs.Config.{frame_sorts};
 ghost use Rattle.civl_meaning.specs.Change.{outs_in};
 ghost use Rattle.civl_terms.specs.Graphs.{sort_at};
 ghost use Rattle.civl_terms.specs.Building.{Grows, Lengthens};
 ghost use Rattle.civl_terms.specs.Weights.{graph_weight};
-ghost use Rattle.civl_paths.specs.Ends.{is_entry, is_rank_loop};
-ghost use Rattle.civl_formulas.specs.Said.{Env, IsTest};
-ghost use Rattle.civl_formulas.specs.Lists.{AreSaid};
-ghost use Rattle.civl_formulas.specs.Given.{given, bits_of_sorts, AreVariablesOf};
+ghost use Rattle.civl_conditions.specs.paths.Ends.{is_entry, is_rank_loop};
+ghost use Rattle.civl_states.specs.formula_parts.Said.{Env, IsTest};
+ghost use Rattle.civl_states.specs.formula_parts.Lists.{AreSaid};
+ghost use Rattle.civl_states.specs.formula_parts.Given.{given, bits_of_sorts, AreVariablesOf};
 ghost use Rattle.civl_states.specs.Stores.{AreStore};
 ghost use Rattle.civl_states.specs.declared.stores.Existing.TheVariants.{Near};
 ghost use Rattle.civl_states.specs.Existing.{existing_sorts};
@@ -23,13 +23,13 @@ ghost use Rattle.civl_states.specs.Notes.{IsProcIn};
 ghost use Rattle.civl_states.specs.Laying.{sorts_where, inner_sorts, near_store, inner_values, begun_locals, begun_outs, begun_done, begun_old_done, frame_bits, FrameBegins};
 
 use crate::beginning_places::{Places, is_entry, is_rank_loop};
+use crate::formula_parts::variables;
 use crate::stores::{Existing, store};
 use civl_bits::Value as Constant;
-use civl_formulas::variables;
+use civl_firing::values::zero;
 use civl_layers::CutKind;
 use civl_terms::{Id, Memory, Terms};
 use civl_tree::{List as Ids, Proc, Program, Sort};
-use civl_values::zero;
 use std::alloc::Global as Alloc;
 
 // ---- stores

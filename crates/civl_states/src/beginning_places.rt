@@ -1,8 +1,8 @@
 // At which numbers the variables of a path's beginning stand.
 ghost use Rattle.std.specs.Prelude.{◌≡◌, ◌≤◌, ◌+◌, length};
 ghost use Rattle.civl_conditions.specs.Values.{layout, where_so, count_of};
-ghost use Rattle.civl_paths.specs.Seen.{exists_near};
-ghost use Rattle.civl_paths.specs.Ends.{is_entry, is_rank_loop};
+ghost use Rattle.civl_conditions.specs.paths.Seen.{exists_near};
+ghost use Rattle.civl_conditions.specs.paths.Ends.{is_entry, is_rank_loop};
 ghost use Rattle.civl_states.specs.Laying.{AreLaid};
 
 use crate::stores::{Existing, existing_count};

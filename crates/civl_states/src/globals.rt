@@ -4,12 +4,12 @@ ghost use Rattle.civl_tree.specs.declared.expr.Sort.TheVariants.{Bool as Truth};
 ghost use Rattle.civl_terms.specs.Graphs.{sort_at};
 ghost use Rattle.civl_terms.specs.Building.{Grows};
 ghost use Rattle.civl_terms.specs.Weights.{graph_weight};
-ghost use Rattle.civl_footprints.specs.Agreement.{exists_at};
+ghost use Rattle.civl_conditions.specs.footprints.Agreement.{exists_at};
 ghost use Rattle.civl_states.specs.Stores.{AreGlobals};
 ghost use Rattle.civl_states.specs.Items.{picked};
 ghost use Rattle.civl_states.specs.Same.{TellsSame, layer_sorts, same_weight};
 
-use civl_formulas::all_same;
+use crate::formula_parts::all_same;
 use civl_terms::{Id, Memory, Terms};
 use civl_tree::{Global, List, Program};
 use std::alloc::Global as Alloc;

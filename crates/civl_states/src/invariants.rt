@@ -11,13 +11,13 @@ ghost use Rattle.civl_terms.specs.Weights.{graph_weight};
 ghost use Rattle.civl_conditions.specs.Steps.{step_invariants};
 ghost use Rattle.civl_conditions.specs.Invariants.{holds_of_globals, invariants_hold};
 ghost use Rattle.civl_conditions.specs.Weights.{weights_of, global_weight};
-ghost use Rattle.civl_formulas.specs.Said.{Env, IsTest};
+ghost use Rattle.civl_states.specs.formula_parts.Said.{Env, IsTest};
 ghost use Rattle.civl_states.specs.Stores.{AreGlobals, AreStore};
 ghost use Rattle.civl_states.specs.Notes.{HasType};
 
+use crate::formula_parts::both;
 use crate::notes::global_note;
 use civl_bits::Value;
-use civl_formulas::both;
 use civl_terms::{Id, Memory, Terms};
 use civl_tree::{Expr, Program};
 

@@ -3,14 +3,14 @@ ghost use Rattle.std.specs.Prelude.{◌≡◌, ◌+◌, ◌≤◌, ◌<◌, ◌^
 ghost use Rattle.civl_tree.specs.declared.action.Action.{Action};
 ghost use Rattle.civl_tree.specs.rules.Rules.{Keeps};
 ghost use Rattle.civl_tree.specs.rules.Typing.{typing_rules};
-ghost use Rattle.civl_values.specs.Values.{is_sort};
+ghost use Rattle.civl_firing.specs.values.Values.{is_sort};
 ghost use Rattle.civl_terms.specs.Building.{Lengthens};
 ghost use Rattle.civl_terms.specs.Weights.{graph_weight};
-ghost use Rattle.civl_formulas.specs.Given.{given, bits_of_sorts, AreVariablesOf};
+ghost use Rattle.civl_states.specs.formula_parts.Given.{given, bits_of_sorts, AreVariablesOf};
 ghost use Rattle.civl_states.specs.Runs.{IsReady, IsInvoked, instance_sorts};
 ghost use Rattle.civl_states.specs.Groups.{StandFrom};
 
-use civl_formulas::variables;
+use crate::formula_parts::variables;
 use civl_terms::{Id, Memory, Terms};
 use civl_tree::{List, Program, Sort};
 use std::alloc::Global as Alloc;

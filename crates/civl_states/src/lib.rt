@@ -7,6 +7,7 @@ mod beginning_choices;
 mod beginning_frames;
 mod beginning_places;
 mod choices;
+pub mod formula_parts;
 mod globals;
 mod invariants;
 mod invoked;

@@ -10,7 +10,7 @@ ghost use Rattle.civl_terms.specs.Building.{Grows};
 ghost use Rattle.civl_terms.specs.Weights.{graph_weight};
 ghost use Rattle.civl_actions.specs.Scopes.{AreOf, IsTyped};
 ghost use Rattle.civl_firing.specs.Names.{names_of};
-ghost use Rattle.civl_paths.specs.NoteValues.{note_names};
+ghost use Rattle.civl_conditions.specs.paths.NoteValues.{note_names};
 ghost use Rattle.civl_conditions.specs.Weights.{global_weight, note_weight};
 ghost use Rattle.civl_states.specs.Stores.{AreGlobals};
 ghost use Rattle.civl_states.specs.Notes.{CanSee, IsNote, IsGlobalNote, IsProcIn};

@@ -4,7 +4,7 @@ ghost use Rattle.civl_tree.specs.Numbering.{statements_of};
 ghost use Rattle.civl_bodies.specs.Bodies.{ArePassed};
 ghost use Rattle.civl_tree.specs.declared.expr.Sort.TheVariants.{Bool as Truth};
 ghost use Rattle.civl_tree.specs.rules.Uses.{param_sorts};
-ghost use Rattle.civl_paths.specs.Ends.{is_entry, is_rank_loop};
+ghost use Rattle.civl_conditions.specs.paths.Ends.{is_entry, is_rank_loop};
 ghost use Rattle.civl_conditions.specs.Variables.{passed_choices};
 ghost use Rattle.civl_states.specs.declared.stores.Existing.TheVariants.{Near};
 ghost use Rattle.civl_states.specs.Existing.{existing_sorts};

@@ -4,7 +4,7 @@ ghost use Rattle.civl_tree.specs.declared.expr.Sort.TheVariants.{Bool as Truth};
 ghost use Rattle.civl_tree.specs.declared.action.Action.{Action};
 ghost use Rattle.civl_tree.specs.rules.Rules.{Keeps};
 ghost use Rattle.civl_tree.specs.rules.Typing.{typing_rules};
-ghost use Rattle.civl_values.specs.ActionWeights.{gate_weight, action_weight};
+ghost use Rattle.civl_firing.specs.values.ActionWeights.{gate_weight, action_weight};
 ghost use Rattle.civl_terms.specs.Graphs.{sort_at};
 ghost use Rattle.civl_terms.specs.Building.{Grows};
 ghost use Rattle.civl_terms.specs.Weights.{graph_weight};

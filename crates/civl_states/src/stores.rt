@@ -2,23 +2,23 @@
 ghost use Rattle.std.specs.Prelude.{◌≡◌, ◌+◌, ◌≤◌, ◌<◌, ◌^◌, All, IsTrue, IfOk, OnOk, filter, length, map};
 ghost use Rattle.civl_tree.specs.rules.Rules.{Keeps};
 ghost use Rattle.civl_tree.specs.rules.Typing.{typing_rules};
-ghost use Rattle.civl_values.specs.Values.{is_sort};
-ghost use Rattle.civl_footprints.specs.Agreement.{exists_at};
+ghost use Rattle.civl_firing.specs.values.Values.{is_sort};
+ghost use Rattle.civl_conditions.specs.footprints.Agreement.{exists_at};
 ghost use Rattle.civl_terms.specs.Building.{Grows, Lengthens};
 ghost use Rattle.civl_terms.specs.Weights.{graph_weight};
 ghost use Rattle.civl_actions.specs.Scopes.{AreOf};
 ghost use Rattle.civl_actions.specs.Actions.{values_at};
 ghost use Rattle.civl_conditions.specs.Values.{count_of, store_of, spread};
-ghost use Rattle.civl_formulas.specs.Lists.{AreSaid};
-ghost use Rattle.civl_formulas.specs.Given.{given, bits_of_sorts, AreVariablesOf};
+ghost use Rattle.civl_states.specs.formula_parts.Lists.{AreSaid};
+ghost use Rattle.civl_states.specs.formula_parts.Given.{given, bits_of_sorts, AreVariablesOf};
 ghost use Rattle.civl_states.specs.Stores.{AreStore, AreGlobals};
 ghost use Rattle.civl_states.specs.Existing.{passes, existing_sorts};
 ghost use Rattle.civl_states.specs.Groups.{StandFrom};
 
-use civl_formulas::variables;
+use crate::formula_parts::variables;
+use civl_firing::values::zero;
 use civl_terms::{Id, Memory, Terms};
 use civl_tree::{Global, List, Program, Sort};
-use civl_values::zero;
 use std::alloc::Global as Alloc;
 
 /// The globals that a condition has variables for: those of a layer, those of the two layers of a step, or all.

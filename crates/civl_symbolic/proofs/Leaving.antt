@@ -14,7 +14,7 @@ use Rattle.civl_bits.specs.declared.value.Value.TheVariants as value
 use Rattle.civl_tree.specs.declared.expr.Sort.{Sort}
 use Rattle.civl_tree.specs.declared.expr.Sort.TheVariants as sort
 use Rattle.civl_tree.specs.rules.Exprs.{is_width}
-use Rattle.civl_values.specs.Values.{is_sort, sort_of_value, HasSort}
+use Rattle.civl_firing.specs.values.Values.{is_sort, sort_of_value, HasSort}
 use Rattle.civl_cnf.specs.Literal.{Literal, truth_of}
 use Rattle.civl_cnf.specs.ClauseSet.{IsBelow}
 use Rattle.civl_cnf.specs.Gates.{bit}

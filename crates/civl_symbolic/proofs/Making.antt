@@ -9,7 +9,7 @@ use Rattle.civl_bits.specs.declared.value.Value.TheVariants as value
 use Rattle.civl_tree.specs.declared.expr.Sort.{Sort}
 use Rattle.civl_tree.specs.declared.expr.Sort.TheVariants as sort
 use Rattle.civl_tree.specs.rules.Sorts.{word_sort, words_sort, truth_over, common_sort}
-use Rattle.civl_values.specs.Operators.{nothing, on_words, test_words}
+use Rattle.civl_firing.specs.values.Operators.{nothing, on_words, test_words}
 use Rattle.civl_tree.specs.rules.Exprs.{is_width}
 use Rattle.civl_cnf.specs.Literal.{Literal, truth_of, opposite}
 use Rattle.civl_cnf.specs.ClauseSet.{ClauseSet, IsBelow}

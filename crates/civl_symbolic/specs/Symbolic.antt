@@ -6,7 +6,7 @@ use Rattle.civl_bits.specs.declared.value.Value.TheVariants as value
 use Rattle.civl_tree.specs.declared.expr.Sort.{Sort}
 use Rattle.civl_tree.specs.declared.expr.Sort.TheVariants as sort
 use Rattle.civl_tree.specs.rules.StoreSize.{bits_of}
-use Rattle.civl_values.specs.Values.{is_sort, sort_of_value, HasSort}
+use Rattle.civl_firing.specs.values.Values.{is_sort, sort_of_value, HasSort}
 use Rattle.civl_cnf.specs.Literal.{Literal, truth_of}
 use Rattle.civl_cnf.specs.ClauseSet.{ClauseSet, IsBelow, Satisfies}
 use Rattle.civl_cnf.specs.Gates.{Extends, bit}

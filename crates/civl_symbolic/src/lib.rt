@@ -1,6 +1,6 @@
 //! The circuits of the language's operators: literals for the value of an operation, from literals for the values of its operands.
 //!
-//! A symbolic value ([`Symbolic`]) has a value under each assignment of a clause set's variables. Each operation answers the symbolic value of the operator (civl_values) at its operands, over a clause set that each assignment of the old variables extends to in exactly one way. It takes at most two variables for each unit of the operator's weight.
+//! A symbolic value ([`Symbolic`]) has a value under each assignment of a clause set's variables. Each operation answers the symbolic value of the operator (civl_firing::values) at its operands, over a clause set that each assignment of the old variables extends to in exactly one way. It takes at most two variables for each unit of the operator's weight.
 #![tactic(auto)]
 
 pub mod laws;

@@ -13,6 +13,8 @@ mod comparing;
 #[cfg(test)]
 mod kinds;
 #[cfg(test)]
+mod models;
+#[cfg(test)]
 mod notes;
 #[cfg(test)]
 mod owned;

@@ -9,10 +9,10 @@ use crate::stores::{Span, invariants_hold, joined, same_in, store};
 use crate::walking::{End, Ending, path};
 use civl_bits::Value;
 use civl_conditions::Part;
+use civl_firing::values::zero;
 use civl_firing::{Fired, Store};
 use civl_layers::CutKind;
 use civl_tree::{Action, Global, Proc};
-use civl_values::zero;
 use std::alloc::Global as Alloc;
 use std::test::Fail;
 

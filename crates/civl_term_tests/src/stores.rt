@@ -6,8 +6,8 @@ use civl_bits::Value;
 use civl_firing::Store;
 use civl_firing::expressions::{holds, values};
 use civl_firing::setting::at_start;
+use civl_firing::values::zero;
 use civl_tree::{Expr, Global, List, Program, Thread};
-use civl_values::zero;
 use std::alloc::Global as Alloc;
 use std::test::Fail;
 

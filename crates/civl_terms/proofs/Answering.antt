@@ -5,11 +5,11 @@ use Rattle.std.proofs.lemmas.Bool.{eqb-true, false≢true}
 use Rattle.std.proofs.lemmas.Option.{slice_get-get_or}
 use Rattle.civl_bits.specs.declared.value.Value.{Value}
 use Rattle.civl_tree.specs.declared.expr.Sort.{Sort}
-use Rattle.civl_values.specs.Operators.{nothing}
-use Rattle.civl_values.specs.Values.{HasSort, sort_of_value}
-use Rattle.civl_folding.specs.declared.folded.Folded.{Folded}
-use Rattle.civl_folding.specs.declared.folded.Folded.TheVariants as folded
-use Rattle.civl_folding.specs.Folding.{IsFolded, IsKnown, AreSame}
+use Rattle.civl_firing.specs.values.Operators.{nothing}
+use Rattle.civl_firing.specs.values.Values.{HasSort, sort_of_value}
+use Rattle.civl_terms.specs.declared.foldings.folded.Folded.{Folded}
+use Rattle.civl_terms.specs.declared.foldings.folded.Folded.TheVariants as folded
+use Rattle.civl_terms.specs.foldings.Folding.{IsFolded, IsKnown, AreSame}
 use Rattle.civl_terms.specs.declared.node.Node.{Node}
 use Rattle.civl_terms.specs.declared.node.Node.TheVariants.{Constant}
 use Rattle.civl_terms.specs.Graphs.{PartsBelow, node_value, values, value_at, node_sort, sorts, sort_at, IsGraph, Fits}

@@ -5,8 +5,8 @@ use Rattle.std.proofs.lemmas.Option.{get_or_from_slice_get, slice_get_within}
 use Rattle.civl_bits.specs.declared.value.Value.{Value}
 use Rattle.civl_tree.specs.declared.expr.Sort.{Sort}
 use Rattle.civl_tree.specs.rules.Sorts.{one_sort, two_sort, pick_sort, get_sort, set_sort, fill_sort, slice_sort, widen_sort, join_sort}
-use Rattle.civl_values.specs.Operators.{nothing, one_value, two_value, pick_value, get_value, set_value, fill_value, slice_value, widen_value, join_value}
-use Rattle.civl_values.specs.Weights.{bits_in, one_weight, two_weight, set_weight}
+use Rattle.civl_firing.specs.values.Operators.{nothing, one_value, two_value, pick_value, get_value, set_value, fill_value, slice_value, widen_value, join_value}
+use Rattle.civl_firing.specs.values.Weights.{bits_in, one_weight, two_weight, set_weight}
 use Rattle.civl_terms.specs.declared.node.Node.{Node}
 use Rattle.civl_terms.specs.declared.node.Node.TheVariants.{Constant, Variable, One as Once, Two as Twice, Pick, Get, Set, Fill, Slice, Widen, Join}
 use Rattle.civl_terms.specs.Graphs.{PartsBelow, along, node_value, values, value_in, value_at, node_sort, sorts, sort_in, sort_at}

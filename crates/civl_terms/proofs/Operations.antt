@@ -8,12 +8,12 @@ use Rattle.civl_tree.specs.declared.expr.One.{One}
 use Rattle.civl_tree.specs.declared.expr.Two.{Two}
 use Rattle.civl_tree.specs.rules.Sorts.{one_sort, two_sort, pick_sort, get_sort, set_sort, fill_sort, slice_sort, widen_sort, join_sort}
 use Rattle.civl_tree.specs.rules.Exprs.{is_index}
-use Rattle.civl_values.specs.Values.{HasSort}
-use Rattle.civl_values.specs.Operators.{two_value}
-use Rattle.civl_folding.specs.Folding.{folded_two, IsFolded}
-use Rattle.civl_folding.proofs.Keeping.{twos_keep_values}
-use Rattle.civl_folding.proofs.Choices.{picks_keep_values}
-use Rattle.civl_folding.proofs.Rows.{ones_keep_values, gets_keep_values, sets_keep_values, others_keep_values}
+use Rattle.civl_firing.specs.values.Values.{HasSort}
+use Rattle.civl_firing.specs.values.Operators.{two_value}
+use Rattle.civl_terms.specs.foldings.Folding.{folded_two, IsFolded}
+use Rattle.civl_terms.proofs.foldings.Keeping.{twos_keep_values}
+use Rattle.civl_terms.proofs.foldings.Choices.{picks_keep_values}
+use Rattle.civl_terms.proofs.foldings.Rows.{ones_keep_values, gets_keep_values, sets_keep_values, others_keep_values}
 use Rattle.civl_terms.specs.declared.node.Node.{Node}
 use Rattle.civl_terms.specs.declared.node.Node.TheVariants.{One as Once, Two as Twice, Pick, Get, Set, Fill, Slice, Widen, Join}
 use Rattle.civl_terms.specs.Graphs.{PartsBelow, node_value, values, value_at, node_sort, sorts, sort_at, InLimits, IsGraph, Fits}

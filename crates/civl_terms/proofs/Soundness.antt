@@ -11,11 +11,11 @@ use Rattle.civl_bits.specs.declared.value.Value.{Value}
 use Rattle.civl_bits.specs.declared.value.Value.TheVariants as value
 use Rattle.civl_tree.specs.declared.expr.Sort.{Sort}
 use Rattle.civl_tree.specs.declared.expr.Sort.TheVariants as sort
-use Rattle.civl_values.specs.Operators.{nothing}
+use Rattle.civl_firing.specs.values.Operators.{nothing}
 use Rattle.civl_tree.specs.rules.Exprs.{is_width}
-use Rattle.civl_values.specs.Values.{HasSort, is_sort, zero_of, sort_of_value}
-use Rattle.civl_values.proofs.Zeros.{zeros_have_their_sorts}
-use Rattle.civl_values.proofs.Sorting.{both, Given, word_of, row_of, one_fits, two_fits, pick_fits, get_fits, set_fits, fill_fits, slice_has_sort, widen_has_sort, join_has_sort}
+use Rattle.civl_firing.specs.values.Values.{HasSort, is_sort, zero_of, sort_of_value}
+use Rattle.civl_firing.proofs.values.Zeros.{zeros_have_their_sorts}
+use Rattle.civl_firing.proofs.values.Sorting.{both, Given, word_of, row_of, one_fits, two_fits, pick_fits, get_fits, set_fits, fill_fits, slice_has_sort, widen_has_sort, join_has_sort}
 use Rattle.civl_terms.specs.declared.node.Node.{Node}
 use Rattle.civl_terms.specs.declared.node.Node.TheVariants.{Constant, Variable, One as Once, Two as Twice, Pick, Get, Set, Fill, Slice, Widen, Join}
 use Rattle.civl_terms.specs.Graphs.{PartsBelow, node_value, values, value_in, value_at, node_sort, sorts, sort_in, sort_at, InLimits, IsFree, IsGraph, Fits, NodesHaveTheirSorts}

@@ -3,7 +3,7 @@ use Rattle.std.proofs.Common.{◌≡◌, ℕ, true, refl, ap₂}
 use Rattle.civl_bits.specs.declared.value.Value.{Value}
 use Rattle.civl_bits.specs.declared.value.Value.TheVariants as value
 use Rattle.civl_tree.specs.declared.expr.Two.TheVariants.{Add, Mul, Lt}
-use Rattle.civl_values.specs.Operators.{two_value}
+use Rattle.civl_firing.specs.values.Operators.{two_value}
 use Rattle.civl_terms.specs.Graphs.{values, value_at, sorts}
 use Rattle.civl_terms.specs.Weights.{graph_weight, term_weight}
 use Rattle.civl_terms.specs.Example.{example}

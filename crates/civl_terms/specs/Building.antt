@@ -4,9 +4,9 @@ use Rattle.civl_bits.specs.declared.value.Value.{Value}
 use Rattle.civl_tree.specs.declared.expr.Sort.{Sort}
 use Rattle.civl_tree.specs.declared.expr.One.{One}
 use Rattle.civl_tree.specs.declared.expr.Two.{Two}
-use Rattle.civl_folding.specs.declared.folded.Folded.{Folded}
-use Rattle.civl_folding.specs.declared.folded.Folded.TheVariants as folded
-use Rattle.civl_folding.specs.Folding.{folded_one, folded_two, folded_pick, folded_get, folded_set, folded_fill, folded_slice, folded_widen, folded_join}
+use Rattle.civl_terms.specs.declared.foldings.folded.Folded.{Folded}
+use Rattle.civl_terms.specs.declared.foldings.folded.Folded.TheVariants as folded
+use Rattle.civl_terms.specs.foldings.Folding.{folded_one, folded_two, folded_pick, folded_get, folded_set, folded_fill, folded_slice, folded_widen, folded_join}
 use Rattle.civl_terms.specs.declared.node.Node.{Node}
 use Rattle.civl_terms.specs.declared.node.Node.TheVariants.{Constant, Variable}
 use Rattle.civl_terms.specs.Graphs.{value_at, sort_at, Fits}

@@ -2,3 +2,4 @@ pub mod Graphs
 pub mod Weights
 pub mod Building
 pub mod Example
+pub mod foldings

@@ -4,7 +4,7 @@ ghost use Rattle.civl_terms.specs.Graphs.{node_value, value_in, listed};
 
 use crate::node::Node;
 use civl_bits::Value;
-use civl_values::{fill, get, join, nothing, one, pick, set, slice, two, widen};
+use civl_firing::values::{fill, get, join, nothing, one, pick, set, slice, two, widen};
 
 /// The value at a place, if there is one.
 pub(crate) fn value_in(values: &[Value], at: usize) -> Value

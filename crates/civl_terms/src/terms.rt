@@ -3,21 +3,21 @@ ghost use Rattle.std.specs.Prelude.{◌≡◌, ◌<◌, [], ◌∷◌, ◌++◌,
 ghost use Rattle.civl_tree.specs.rules.Exprs.{is_index};
 ghost use Rattle.civl_tree.specs.rules.Sorts.{one_sort, two_sort, pick_sort, get_sort, set_sort, fill_sort, slice_sort, widen_sort, join_sort};
 ghost use Rattle.civl_tree.specs.rules.StoreSize.{bits_of};
-ghost use Rattle.civl_values.specs.Operators.{one_value, two_value, pick_value, get_value, set_value, fill_value, slice_value, widen_value, join_value};
-ghost use Rattle.civl_values.specs.Values.{sort_of_value, is_sort};
-ghost use Rattle.civl_values.specs.Weights.{bits_in, one_weight, two_weight, pick_weight, get_weight, set_weight, move_weight};
+ghost use Rattle.civl_firing.specs.values.Operators.{one_value, two_value, pick_value, get_value, set_value, fill_value, slice_value, widen_value, join_value};
+ghost use Rattle.civl_firing.specs.values.Values.{sort_of_value, is_sort};
+ghost use Rattle.civl_firing.specs.values.Weights.{bits_in, one_weight, two_weight, pick_weight, get_weight, set_weight, move_weight};
 ghost use Rattle.civl_terms.specs.Graphs.{PartsBelow, node_sort, sorts, sort_at, value_at, InLimits, VariablesFit, IsFree, IsGraph, IsDistinct, listed};
 ghost use Rattle.civl_terms.specs.Building.{Lengthens, Grows, Numbers, Answers, Built, constant_at, one_in, two_in, pick_in, get_in, set_in, fill_in, slice_in, widen_in, join_in};
 ghost use Rattle.civl_terms.specs.declared.node.Node.TheVariants as node;
 
 use crate::evaluate::{node_value, value_in};
+use crate::foldings::Folded;
 use crate::memory::Memory;
 use crate::node::{Id, Node};
 use crate::sorting::{of_fill, of_get, of_join, of_one, of_slice, of_two, of_widen};
 use civl_bits::Value;
-use civl_folding::Folded;
+use civl_firing::values::sort_of;
 use civl_tree::{List, One, Sort, Two};
-use civl_values::sort_of;
 use indexmap::IndexSet;
 use std::alloc::Global;
 use std::marker::Model;
@@ -202,7 +202,7 @@ impl Terms {
         ensures grows { Grows self.old self.new }
         ensures err { OnErr result (self.new ≡ self.old) }
     {
-        let folded = civl_folding::one(op, self.constant_at(a));
+        let folded = crate::foldings::one(op, self.constant_at(a));
         let sort = of_one(op, self.sort(a));
         let id = self.answer(folded, Node::One(op, a), sort, (a, a, a))?;
         Ok(id)
@@ -224,7 +224,7 @@ impl Terms {
         ensures grows { Grows self.old self.new }
         ensures err { OnErr result (self.new ≡ self.old) }
     {
-        let folded = civl_folding::two(
+        let folded = crate::foldings::two(
             op,
             self.sort(a),
             self.constant_at(a),
@@ -253,7 +253,7 @@ impl Terms {
         ensures grows { Grows self.old self.new }
         ensures err { OnErr result (self.new ≡ self.old) }
     {
-        let folded = civl_folding::pick(
+        let folded = crate::foldings::pick(
             self.constant_at(c),
             self.constant_at(a),
             self.constant_at(b),
@@ -282,7 +282,7 @@ impl Terms {
         ensures grows { Grows self.old self.new }
         ensures err { OnErr result (self.new ≡ self.old) }
     {
-        let folded = civl_folding::get(self.constant_at(row), self.constant_at(at));
+        let folded = crate::foldings::get(self.constant_at(row), self.constant_at(at));
         let sort = of_get(self.sort(row), self.sort(at));
         let id = self.answer(folded, Node::Get(row, at), sort, (row, at, at))?;
         Ok(id)
@@ -305,7 +305,7 @@ impl Terms {
         ensures grows { Grows self.old self.new }
         ensures err { OnErr result (self.new ≡ self.old) }
     {
-        let folded = civl_folding::set(
+        let folded = crate::foldings::set(
             self.constant_at(row),
             self.constant_at(at),
             self.constant_at(cell),
@@ -332,7 +332,7 @@ impl Terms {
         ensures grows { Grows self.old self.new }
         ensures err { OnErr result (self.new ≡ self.old) }
     {
-        let folded = civl_folding::fill(index, self.constant_at(cell));
+        let folded = crate::foldings::fill(index, self.constant_at(cell));
         let sort = of_fill(index, self.sort(cell));
         let id = self.answer(folded, Node::Fill(index, cell), sort, (cell, cell, cell))?;
         Ok(id)
@@ -353,7 +353,7 @@ impl Terms {
         ensures grows { Grows self.old self.new }
         ensures err { OnErr result (self.new ≡ self.old) }
     {
-        let folded = civl_folding::slice(self.constant_at(a), high, low);
+        let folded = crate::foldings::slice(self.constant_at(a), high, low);
         let sort = of_slice(self.sort(a), high, low);
         let id = self.answer(folded, Node::Slice(a, high, low), sort, (a, a, a))?;
         Ok(id)
@@ -374,7 +374,7 @@ impl Terms {
         ensures grows { Grows self.old self.new }
         ensures err { OnErr result (self.new ≡ self.old) }
     {
-        let folded = civl_folding::widen(self.constant_at(a), width);
+        let folded = crate::foldings::widen(self.constant_at(a), width);
         let sort = of_widen(self.sort(a), width);
         let id = self.answer(folded, Node::Widen(a, width), sort, (a, a, a))?;
         Ok(id)
@@ -396,7 +396,7 @@ impl Terms {
         ensures grows { Grows self.old self.new }
         ensures err { OnErr result (self.new ≡ self.old) }
     {
-        let folded = civl_folding::join(self.constant_at(a), self.constant_at(b));
+        let folded = crate::foldings::join(self.constant_at(a), self.constant_at(b));
         let sort = of_join(self.sort(a), self.sort(b));
         let id = self.answer(folded, Node::Join(a, b), sort, (a, b, b))?;
         Ok(id)

@@ -8,7 +8,7 @@ use Rattle.civl_tree.specs.rules.Rules.{Rule, refusals_of, refusals_by, refusal_
 use Rattle.civl_tree.specs.rules.Typing.{twice_rule, unknown_rule, count_rule, width_rule, sort_rule, index_rule, arity_rule, store_size_rule, typing_rules}
 use Rattle.civl_tree.specs.rules.Broken.{IsRefusal}
 use Rattle.civl_tree.proofs.First.{first_is_answer, typing_in_order}
-use Rattle.civl_walks.proofs.Walking.{or_first, first_append}
+use Rattle.civl_names.proofs.walks.Walking.{or_first, first_append}
 
 abbrev name_rules : List Rule
 name_rules = twice_rule ∷ unknown_rule ∷ []

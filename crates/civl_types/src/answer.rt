@@ -9,12 +9,12 @@ ghost use Rattle.civl_types.specs.Checked.{IsCause, IsFirstCause};
 use crate::rule::TypingRule;
 use crate::typed::Typed;
 use civl_names::first_misnamed;
+use civl_names::walks::first_broken;
 use civl_tree::{Memory, Program, Refusal, Refused};
-use civl_walks::first_broken;
 use std::alloc::Global;
 
 /// The refusal of the first of the rules E12 to E24 that is broken.
-#[tactic(auto, using(civl_walks::proofs::Placing::of_rules))]
+#[tactic(auto, using(civl_names::proofs::walks::Placing::of_rules))]
 fn first_of_rules(program: &Program) -> Option<Refusal>
     requires { IsNumbered program.now }
     ensures { result ≡ refusal_by (count_rule ∷ width_rule ∷ sort_rule ∷ index_rule ∷ arity_rule ∷ store_size_rule ∷ []) program.now }

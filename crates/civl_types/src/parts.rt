@@ -16,8 +16,8 @@ use crate::uses::{
     action_uses_break, init_uses_break, invariant_uses_break, stmt_uses_break, thread_uses_break,
     with_uses_break,
 };
+use civl_names::walks::{Decides, Test, first_in_body};
 use civl_tree::{Action, Global, Invariant, Proc, Program, Stmt, Thread};
-use civl_walks::{Decides, Test, first_in_body};
 
 /// What a rule asks of a statement of a procedure.
 #[derive(Clone, Copy)]

@@ -1,3 +1,10 @@
 pub mod Formulas
 pub mod Verdicts
 pub mod Surveys
+pub mod models
+pub mod decisions
+pub mod findings
+pub mod judging
+pub mod judgements
+pub mod reports
+pub mod verdict_reports

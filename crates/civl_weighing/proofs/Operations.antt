@@ -12,7 +12,7 @@ use Rattle.civl_tree.specs.declared.expr.Expr.TheVariants as form
 use Rattle.civl_tree.specs.declared.expr.Sort.{Sort}
 use Rattle.civl_tree.specs.declared.expr.Sort.TheVariants.{Bool as Truth}
 use Rattle.civl_tree.specs.rules.Sorts.{sort_step, sort_of}
-use Rattle.civl_values.specs.Weights.{weight_step, weight_of}
+use Rattle.civl_firing.specs.values.Weights.{weight_step, weight_of}
 use Rattle.civl_weighing.proofs.Capping.{weighs_same}
 use Rattle.civl_weighing.specs.declared.exprs.Weighed.{Weighed}
 use Rattle.civl_weighing.specs.declared.weight.Weight.{Weight}

@@ -6,7 +6,7 @@ use Rattle.civl_tree.specs.declared.expr.One.{One}
 use Rattle.civl_tree.specs.declared.expr.Two.{Two}
 use Rattle.civl_tree.specs.rules.Scopes.{Scope}
 use Rattle.civl_tree.specs.rules.Sorts.{sort_of}
-use Rattle.civl_values.specs.Weights.{weight_of}
+use Rattle.civl_firing.specs.values.Weights.{weight_of}
 use Rattle.civl_weighing.specs.declared.weight.Weight.{Weight}
 use Rattle.civl_weighing.specs.declared.exprs.Weighed.{Weighed}
 use Rattle.civl_weighing.specs.Weighing.{Weighs}

@@ -3,8 +3,8 @@ ghost use Rattle.std.specs.Prelude.{◌≡◌, [], filter, length, if◌then◌e
 ghost use Rattle.civl_tree.specs.rules.StoreSize.{bits_of};
 ghost use Rattle.civl_tree.specs.rules.Width.{is_linear};
 ghost use Rattle.civl_linear.specs.Modes.{is_lent, is_given};
-ghost use Rattle.civl_footprints.specs.Agreement.{exists_at};
-ghost use Rattle.civl_paths.specs.Seen.{exists_near};
+ghost use Rattle.civl_conditions.specs.footprints.Agreement.{exists_at};
+ghost use Rattle.civl_conditions.specs.paths.Seen.{exists_near};
 ghost use Rattle.civl_conditions.specs.Variables.{of_globals};
 ghost use Rattle.civl_conditions.specs.Weights.{bits_of_variables, outs_bits, linear_globals, linear_inputs};
 ghost use Rattle.civl_weighing.specs.Weighing.{Weighs};

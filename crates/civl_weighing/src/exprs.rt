@@ -2,10 +2,10 @@
 ghost use Rattle.std.specs.Prelude.{◌≡◌};
 ghost use Rattle.civl_tree.specs.declared.expr.Expr.TheVariants as expr;
 ghost use Rattle.civl_tree.specs.rules.StoreSize.{bits_of};
-ghost use Rattle.civl_values.specs.Weights.{bits_in, one_weight, two_weight, set_weight};
+ghost use Rattle.civl_firing.specs.values.Weights.{bits_in, one_weight, two_weight, set_weight};
 ghost use Rattle.civl_types.specs.Views.{scope_of};
 ghost use Rattle.civl_conditions.specs.Weights.{weights_of};
-ghost use Rattle.civl_values.specs.Weights.{weight_of};
+ghost use Rattle.civl_firing.specs.values.Weights.{weight_of};
 ghost use Rattle.civl_weighing.specs.Weighing.{Weighs};
 ghost use Rattle.civl_weighing.specs.Weighed.{IsOwn, IsWeighed, OneWeighed, TwoWeighed, PickWeighed, GetWeighed, SetWeighed, FillWeighed, SliceWeighed, WidenWeighed, JoinWeighed};
 

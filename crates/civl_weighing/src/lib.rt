@@ -1,5 +1,5 @@
 //! Weights as far as the limit tells them apart, and the weights of expressions, of the bits of variables and of lists. It serves
-//! civl_weights alone, by civl_sums.
+//! civl_weights alone, by civl_weights::sums.
 #![tactic(auto)]
 
 pub mod bits;

@@ -16,15 +16,15 @@ use Rattle.civl_conditions.specs.Steps.{of_action, of_cut}
 use Rattle.civl_conditions.specs.Variables.{variables, path_variables, other_variables}
 use Rattle.civl_conditions.specs.Weights.{bits_of_variables, weight, path_weight, block_weight}
 use Rattle.civl_weighing.specs.declared.weight.Weight.{Weight}
-use Rattle.civl_sums.specs.declared.actions.ActionSums.{ActionSums}
-use Rattle.civl_sums.specs.declared.cuts.CutSums.{CutSums}
-use Rattle.civl_sums.specs.declared.tables.ProcSums.{ProcSums}
+use Rattle.civl_weights.specs.declared.sums.actions.ActionSums.{ActionSums}
+use Rattle.civl_weights.specs.declared.sums.cuts.CutSums.{CutSums}
+use Rattle.civl_weights.specs.declared.sums.tables.ProcSums.{ProcSums}
 use Rattle.civl_weighing.specs.Weighing.{Weighs}
-use Rattle.civl_sums.specs.Sums.{OfAction, OfCut, OfCuts}
-use Rattle.civl_sums.specs.Tables.{OfProc}
+use Rattle.civl_weights.specs.sums.Sums.{OfAction, OfCut, OfCuts}
+use Rattle.civl_weights.specs.sums.Tables.{OfProc}
 use Rattle.civl_weights.specs.Kinds.{OfCutAt, OfCutIn, OfCutFound}
 use Rattle.civl_weighing.proofs.Capping.{weighs_same}
-use Rattle.civl_sums.proofs.Acting.{zip_found, zip_none}
+use Rattle.civl_weights.proofs.sums.Acting.{zip_found, zip_none}
 
 -- ---- actions
 

@@ -13,7 +13,7 @@ use Rattle.civl_conditions.specs.Variables.{of_globals, of_params, of_choices, o
 use Rattle.civl_conditions.specs.Weights.{bits_of_variables, outs_bits, globals_bits, global_weight, initial_own, own_weight, weight}
 use Rattle.civl_weights.specs.Kinds.{instance_bits}
 use Rattle.civl_weighing.proofs.Summing.{bits_append}
-use Rattle.civl_sums.proofs.Groups.{params_bits_are, choices_bits_are, two_groups}
+use Rattle.civl_weights.proofs.sums.Groups.{params_bits_are, choices_bits_are, two_groups}
 
 pub instance_are : (front : List ℕ) (a : Action) → bits_of_variables (of_instance front a) ≡ instance_bits a
 instance_are front a = bits_append (of_params front a.params) (of_choices front a.choices) ∙ ap (λ (n : ℕ). n + bits_of_variables (of_choices front a.choices)) (params_bits_are front a.params) ∙ ap (λ (n : ℕ). outs_bits a.params + n) (choices_bits_are front a.choices)

@@ -5,8 +5,8 @@ use Rattle.civl_conditions.specs.declared.condition.Condition.{Condition}
 use Rattle.civl_conditions.specs.Weights.{weight_limit, initial_weight}
 use Rattle.civl_weights.specs.declared.answer.TooMuch.{TooMuch}
 use Rattle.civl_weights.specs.declared.answer.TooMuch.TheVariants.{Weight, Memory}
-use Rattle.civl_sums.specs.declared.tables.Tables.{Tables}
-use Rattle.civl_sums.specs.Tables.{OfProgram}
+use Rattle.civl_weights.specs.declared.sums.tables.Tables.{Tables}
+use Rattle.civl_weights.specs.sums.Tables.{OfProgram}
 
 -- the answer is this formula, which is the first that weighs too much, or memory is wanting
 abbrev pub IsHeavy : Option (Option Condition) → TooMuch → Type 0

@@ -3,7 +3,7 @@ use Rattle.std.specs.Prelude.{ℕ, ◌+◌, ◌*◌, ◌++◌, Option, None, Som
 use Rattle.civl_tree.specs.declared.action.Action.{Action}
 use Rattle.civl_tree.specs.declared.program.Proc.{Proc}
 use Rattle.civl_tree.specs.declared.program.Program.{Program}
-use Rattle.civl_values.specs.ActionWeights.{action_weight}
+use Rattle.civl_firing.specs.values.ActionWeights.{action_weight}
 use Rattle.civl_layers.specs.declared.cut.Cut.{Cut}
 use Rattle.civl_layers.specs.Cuts.{proc_cuts}
 use Rattle.civl_conditions.specs.declared.condition.Condition.{Condition}
@@ -14,13 +14,13 @@ use Rattle.civl_conditions.specs.Steps.{of_action, step_invariants}
 use Rattle.civl_conditions.specs.Variables.{path_variables, other_variables}
 use Rattle.civl_conditions.specs.Weights.{bits_of_variables, outs_bits, keep_weight, pair_weight, path_weight, block_weight, global_weight, weights_of, target_weight, target_items, lin, linear_globals, linear_inputs}
 use Rattle.civl_weighing.specs.declared.weight.Weight.{Weight}
-use Rattle.civl_sums.specs.declared.actions.ActionSums.{ActionSums}
-use Rattle.civl_sums.specs.declared.cuts.CutSums.{CutSums}
-use Rattle.civl_sums.specs.declared.targets.TargetSums.{TargetSums}
+use Rattle.civl_weights.specs.declared.sums.actions.ActionSums.{ActionSums}
+use Rattle.civl_weights.specs.declared.sums.cuts.CutSums.{CutSums}
+use Rattle.civl_weights.specs.declared.sums.targets.TargetSums.{TargetSums}
 use Rattle.civl_weighing.specs.Weighing.{Weighs}
 use Rattle.civl_weighing.specs.Bits.{choices_bits}
-use Rattle.civl_sums.specs.Sums.{OfAction, OfCut, parts_weight}
-use Rattle.civl_sums.specs.Tables.{OfTarget}
+use Rattle.civl_weights.specs.sums.Sums.{OfAction, OfCut, parts_weight}
+use Rattle.civl_weights.specs.sums.Tables.{OfTarget}
 
 abbrev pub step_of : Condition → ℕ
 step_of (Start step i) = step

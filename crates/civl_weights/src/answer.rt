@@ -5,13 +5,13 @@ ghost use Rattle.civl_linear.specs.Cuts.{all_held};
 ghost use Rattle.civl_conditions.specs.Listed.{conditions};
 ghost use Rattle.civl_conditions.specs.Weights.{weight_limit, weight, heavy};
 ghost use Rattle.civl_weights.specs.Heavy.{IsHeavy, IsInitialHeavy};
-ghost use Rattle.civl_sums.specs.Tables.{OfProgram};
+ghost use Rattle.civl_weights.specs.sums.Tables.{OfProgram};
 
 use crate::kinds::{step_of, weigh};
+use crate::sums::steps::{first_sums, sums_at};
+use crate::sums::tables::{Tables, work_out};
 use civl_conditions::{Condition, listed};
 use civl_layers::{Held, Layered};
-use civl_sums::steps::{first_sums, sums_at};
-use civl_sums::tables::{Tables, work_out};
 use civl_tree::{List, Memory};
 use std::alloc::Global;
 

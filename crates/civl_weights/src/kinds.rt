@@ -1,22 +1,22 @@
 // The weight of each condition.
 ghost use Rattle.std.specs.Prelude.{◌≡◌, ◌+◌, IfOk};
 ghost use Rattle.std.specs.List.{AllZip};
-ghost use Rattle.civl_values.specs.ActionWeights.{gate_weight, guard_weight, offers_weight};
+ghost use Rattle.civl_firing.specs.values.ActionWeights.{gate_weight, guard_weight, offers_weight};
 ghost use Rattle.civl_conditions.specs.declared.condition.Condition.TheVariants.{Start, Keep, Pair, Fire, Path, Block, Act};
 ghost use Rattle.civl_conditions.specs.Steps.{of_action};
 ghost use Rattle.civl_conditions.specs.Weights.{weight, outs_bits, keep_weight, pair_weight, linear_globals, target_items};
 ghost use Rattle.civl_weighing.specs.Weighing.{Weighs};
-ghost use Rattle.civl_sums.specs.Sums.{OfAction, OfStep};
-ghost use Rattle.civl_sums.specs.Tables.{OfProgram, OfTarget};
+ghost use Rattle.civl_weights.specs.sums.Sums.{OfAction, OfStep};
+ghost use Rattle.civl_weights.specs.sums.Tables.{OfProgram, OfTarget};
 ghost use Rattle.civl_weights.specs.Kinds.{instance_bits, OfCutFound, IsKeep, IsPair, IsAct, IsActAt, IsPart, IsPath, IsBlock, step_of};
 
+use crate::sums::actions::ActionSums;
+use crate::sums::cuts::CutSums;
+use crate::sums::steps::StepSums;
+use crate::sums::tables::{Tables, cuts_at};
+use crate::sums::targets::{TargetSums, target_sums, together};
 use civl_conditions::{Condition, Part, Target};
 use civl_layers::{Layered, program};
-use civl_sums::actions::ActionSums;
-use civl_sums::cuts::CutSums;
-use civl_sums::steps::StepSums;
-use civl_sums::tables::{Tables, cuts_at};
-use civl_sums::targets::{TargetSums, target_sums, together};
 use civl_tree::{Memory, Program};
 use civl_weighing::lists::weight_at;
 use civl_weighing::weight::{Weight, linear};

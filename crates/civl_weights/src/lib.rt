@@ -3,5 +3,6 @@
 
 mod answer;
 mod kinds;
+pub mod sums;
 
 pub use answer::{TooMuch, conditions};

@@ -11,9 +11,9 @@ use Rattle.civl_tree.specs.rules.Rules.{Rule, each_place, proc_places, refusal_a
 use Rattle.civl_tree.specs.rules.Broken.{AreInOrder, IsRefusal}
 use Rattle.civl_tree.proofs.Ordered.{where_in_order}
 use Rattle.civl_tree.proofs.First.{in_order, no_statements, first_is_answer}
-use Rattle.civl_walks.proofs.Finding.{with_in_order}
-use Rattle.civl_walks.proofs.Walking.{or_first}
-use Rattle.civl_walks.proofs.Placing.{AsksProcs, told_of_procs, or_nothing, rule_first}
+use Rattle.civl_names.proofs.walks.Finding.{with_in_order}
+use Rattle.civl_names.proofs.walks.Walking.{or_first}
+use Rattle.civl_names.proofs.walks.Placing.{AsksProcs, told_of_procs, or_nothing, rule_first}
 use Rattle.civl_yields.specs.Phases.{phases_before}
 use Rattle.civl_yields.specs.Places.{stmt_late, stmt_nested, insides_all, stmt_misplaced, stmt_stray}
 use Rattle.civl_yields.specs.YieldRules.{late_under, phase_rule, rank_loop_rule, commit_rule, done_rule, yield_rules}

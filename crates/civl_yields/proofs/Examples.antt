@@ -5,7 +5,7 @@ use Rattle.civl_tree.specs.declared.stmt.Stmt.TheOpen.{Stmt-F, If, While, YieldL
 use Rattle.civl_tree.specs.declared.stmt.Stmt.TheFolds.{fold-roll-Stmt}
 use Rattle.civl_tree.specs.declared.program.Program.{Program}
 use Rattle.civl_tree.proofs.Layers.{layers}
-use Rattle.civl_walks.proofs.Finding.{computing}
+use Rattle.civl_names.proofs.walks.Finding.{computing}
 use Rattle.civl_yields.specs.Movers.{called_action}
 use Rattle.civl_yields.specs.Phases.{Passed, passed, passed_all, pass_step, pass_one, pass_if, pass_loop, called_phase}
 use Rattle.std.specs.Prelude.{◌||◌}

@@ -6,3 +6,4 @@ pub mod Lengths
 pub mod Marks
 pub mod examples
 pub mod Heads
+pub mod verify

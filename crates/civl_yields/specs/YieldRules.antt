@@ -7,7 +7,7 @@ use Rattle.civl_tree.specs.declared.stmt.Stmt.{Stmt}
 use Rattle.civl_tree.specs.Numbering.{statements_of}
 use Rattle.civl_tree.specs.rules.Codes.{E50, E51, E52, E53}
 use Rattle.civl_tree.specs.rules.Rules.{Rule, asks_nothing, statements_where}
-use Rattle.civl_walks.specs.Walks.{numbers_with}
+use Rattle.civl_names.specs.walks.Walks.{numbers_with}
 use Rattle.civl_yields.specs.Phases.{phases_before}
 use Rattle.civl_yields.specs.Places.{stmt_late, stmt_nested, insides_all, stmt_misplaced, stray, no_leave, action_stray, refines_stray, stmt_stray, any_stray}
 

@@ -11,8 +11,8 @@ use crate::finders::{LateCalls, MisplacedStatements, NestedLoops};
 use crate::items::StrayWords;
 use crate::listing::{Phases, phases_in};
 use civl_layers::{Layered, program};
+use civl_names::walks::{first_broken, first_in_procs};
 use civl_tree::{Memory, Program, Refusal, Refused};
-use civl_walks::{first_broken, first_in_procs};
 use std::alloc::Global;
 
 /// The refusal of the first of the rules that is broken.

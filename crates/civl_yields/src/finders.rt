@@ -6,8 +6,8 @@ ghost use Rattle.civl_yields.specs.YieldRules.{phase_rule, rank_loop_rule, commi
 use crate::inside::insides_of;
 use crate::marking::phases_before;
 use crate::rules::{Late, Misplaced, Nested};
+use civl_names::walks::{Finder, first_in_body, first_with, statements};
 use civl_tree::{Memory, Proc, Program};
-use civl_walks::{Finder, first_in_body, first_with, statements};
 use std::alloc::Global;
 
 /// Calls that come too late (E50).
@@ -82,7 +82,7 @@ impl Finder for MisplacedStatements {
         52
     }
 
-    #[tactic(auto, using(civl_walks::proofs::Placing::body_counts))]
+    #[tactic(auto, using(civl_names::proofs::walks::Placing::body_counts))]
     fn find(
         &self,
         _alloc: Global,

@@ -5,8 +5,8 @@ ghost use Rattle.civl_yields.specs.YieldRules.{done_rule};
 use crate::finders::is_layered;
 use crate::rules::Stray;
 use crate::strays::{action_stray, any_stray, plainly_stray, refines_stray};
+use civl_names::walks::{Decides, first_in_body};
 use civl_tree::{Action, Global, Invariant, Proc, Program, Thread};
-use civl_walks::{Decides, first_in_body};
 
 /// Stray `done` and `old` (E53).
 #[derive(Clone, Copy)]

@@ -13,6 +13,7 @@ mod movers;
 mod phase;
 mod rules;
 mod strays;
+pub mod verify;
 
 pub use answer::{phases, refusal};
 pub use listing::{Phases, phases_in};

@@ -5,8 +5,8 @@ ghost use Rattle.civl_yields.specs.Phases.{before_calls, phases_of};
 
 use crate::marking::phases_before;
 use crate::rules::is_call;
+use civl_names::walks::statements;
 use civl_tree::{List, Memory, Proc, Program, Stmt};
-use civl_walks::statements;
 use std::alloc::Global;
 
 /// Of these phases, each before one of these statements, those before a call.

@@ -8,8 +8,8 @@ ghost use Rattle.civl_yields.specs.Places.{stmt_late, stmt_nested, form_misplace
 use crate::called::called_action;
 use crate::movers::may_follow;
 use crate::strays::stmt_stray;
+use civl_names::walks::{NoteTest, Test};
 use civl_tree::{Name, Program, Stmt};
-use civl_walks::{NoteTest, Test};
 
 /// A call of a right or atomic action where the phase may be left (E50).
 #[derive(Clone, Copy)]

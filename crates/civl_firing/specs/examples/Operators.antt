@@ -3,7 +3,7 @@ use Rattle.std.specs.Prelude.{true, false, [], ◌∷◌, codes}
 use Rattle.civl_tree.specs.declared.expr.Expr as expr
 use Rattle.civl_tree.specs.declared.expr.One.TheVariants.{Not, Flip, Minus}
 use Rattle.civl_tree.specs.declared.expr.Two.TheVariants.{Add, Sub, Mul, BitAnd, BitOr, BitXor, Shl, Shr, Lt, Le, Eq, Ne, And, Or, Implies, Udiv, Urem, Slt, Sle, Sar}
-use Rattle.civl_values.specs.Operators.{nothing}
+use Rattle.civl_firing.specs.values.Operators.{nothing}
 use Rattle.civl_firing.specs.examples.Written.{word, bool, array, name, lit, nowhere, Evaluates}
 
 -- sums, differences, products and negatives are modulo 2 ^ width

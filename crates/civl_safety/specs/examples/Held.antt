@@ -8,7 +8,7 @@ use Rattle.civl_firing.specs.declared.store.Store.{Store}
 use Rattle.civl_meaning.specs.Failing.{CanFail}
 use Rattle.civl_meaning.specs.Initial.{IsInitial}
 use Rattle.civl_meaning.specs.Layers.{lowest}
-use Rattle.civl_simulation.specs.Followed.{IsAccepted}
+use Rattle.civl_reduction.specs.simulation.Followed.{IsAccepted}
 use Rattle.civl_outlines.specs.declared.outline.Outline.{Outline}
 use Rattle.civl_goals.specs.examples.Flag.{sets, outline_of}
 use Rattle.civl_safety.specs.Outlined.{IsOutlined}

@@ -4,7 +4,7 @@ use Rattle.std.specs.Prelude.{map, take}
 use Rattle.civl_tree.specs.declared.action.Choice.{Choice}
 use Rattle.civl_tree.specs.rules.Names.{global_names, targets_of}
 use Rattle.civl_tree.specs.rules.Scopes.{guard_scope}
-use Rattle.civl_values.specs.ActionWeights.{update_weights}
+use Rattle.civl_firing.specs.values.ActionWeights.{update_weights}
 use Rattle.civl_actions.specs.Scopes.{AreOf}
 use Rattle.civl_actions.specs.Actions.{LeavesOthers}
 use Rattle.civl_actions.specs.Steps.{AreUpdated}

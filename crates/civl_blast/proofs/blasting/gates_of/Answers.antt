@@ -4,7 +4,7 @@ use Rattle.std.proofs.lemmas.List.{get_or_default}
 use Rattle.civl_circuits.specs.Circuits.{blank}
 use Rattle.civl_symbolic.specs.declared.symbolic.Symbolic.{Symbolic}
 use Rattle.civl_symbolic.specs.declared.symbolic.Symbolic.TheVariants as symbolic
-use Rattle.civl_reach.specs.Marks.{marked}
+use Rattle.civl_blast.specs.reach.Marks.{marked}
 use Rattle.civl_blast.specs.Steps.{symbol_in, input_bits, output_of, IsCircuit}
 use Rattle.civl_blast.proofs.Weighing.{inputs_few, inputs_next}
 use Rattle.civl_blast.proofs.Laying.{takes_plain}

@@ -1,5 +1,5 @@
 use Rattle.std.proofs.Common.{◌+◌, ap, arith}
-use Rattle.civl_reach.specs.Marks.{marked}
+use Rattle.civl_blast.specs.reach.Marks.{marked}
 use Rattle.civl_blast.specs.Steps.{input_bits}
 use Rattle.civl_blast.proofs.Weighing.{inputs_next, inputs_few}
 use Rattle.civl_blast.proofs.Laying.{takes_plain}

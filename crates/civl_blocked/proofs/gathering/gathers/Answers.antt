@@ -1,6 +1,6 @@
 use Rattle.std.proofs.Common.{sym, subst}
-use Rattle.civl_interleavings.specs.Runs.{RunsTo, Opens}
-use Rattle.civl_gathering.specs.Gathered.{own, others}
+use Rattle.civl_reduction.specs.interleavings.Runs.{RunsTo, Opens}
+use Rattle.civl_reduction.specs.gathering.Gathered.{own, others}
 use Rattle.civl_blocked.specs.Segments.{over, mover}
 use Rattle.civl_blocked.proofs.Walks.{is_not}
 use Rattle.civl_blocked.proofs.Fronts.{not_last, not_rest, whole}

@@ -1,7 +1,7 @@
 use Rattle.std.proofs.Common.{take, drop}
 use Rattle.civl_meaning.specs.declared.config.Config.{Config}
-use Rattle.civl_interleavings.specs.Runs.{RunsTo}
-use Rattle.civl_gathering.specs.Gathered.{others}
+use Rattle.civl_reduction.specs.interleavings.Runs.{RunsTo}
+use Rattle.civl_reduction.specs.gathering.Gathered.{others}
 use Rattle.civl_blocked.specs.Segments.{over, mover}
 use Rattle.civl_blocked.proofs.gathering.runs_others.Given as goal
 

@@ -1,5 +1,5 @@
 use Rattle.std.proofs.Common.{◌<◌, ◌≡◌, ◌∙◌, ◌∷◌, [], ◌++◌, take, true, length, arith, sym, ap, subst, append_assoc}
-use Rattle.civl_gathering.specs.Gathered.{own}
+use Rattle.civl_reduction.specs.gathering.Gathered.{own}
 use Rattle.civl_blocked.specs.Segments.{over, mover}
 use Rattle.civl_blocked.proofs.Strides.{same_end}
 use Rattle.civl_blocked.proofs.Picking.{skips_made, skips_left, goes_made, goes_left, goes_at, own_done_on, own_done_stays}

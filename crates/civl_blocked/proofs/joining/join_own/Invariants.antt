@@ -1,7 +1,7 @@
 use Rattle.std.proofs.Common.{◌≡◌, ◌++◌, drop, take}
 use Rattle.civl_meaning.specs.declared.config.Config.{Config}
-use Rattle.civl_interleavings.specs.Runs.{Opens}
-use Rattle.civl_gathering.specs.Gathered.{own}
+use Rattle.civl_reduction.specs.interleavings.Runs.{Opens}
+use Rattle.civl_reduction.specs.gathering.Gathered.{own}
 use Rattle.civl_blocked.specs.Segments.{over, mover}
 use Rattle.civl_blocked.specs.Turning.{IsBeside}
 use Rattle.civl_blocked.proofs.joining.join_own.Given as goal

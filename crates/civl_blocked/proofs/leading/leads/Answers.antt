@@ -1,5 +1,5 @@
 use Rattle.std.proofs.Common.{None, subst}
-use Rattle.civl_interleavings.specs.Runs.{RunsTo, BlocksTo}
+use Rattle.civl_reduction.specs.interleavings.Runs.{RunsTo, BlocksTo}
 use Rattle.civl_blocked.specs.Segments.{over}
 use Rattle.civl_blocked.proofs.leading.leads.Goals as goal
 

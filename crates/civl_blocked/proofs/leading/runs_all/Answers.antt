@@ -1,5 +1,5 @@
 use Rattle.std.proofs.Common.{◌<◌, length, take, arith, sym, subst}
-use Rattle.civl_interleavings.specs.Runs.{RunsTo}
+use Rattle.civl_reduction.specs.interleavings.Runs.{RunsTo}
 use Rattle.civl_blocked.specs.Segments.{over}
 use Rattle.civl_blocked.proofs.Picking.{take_is}
 use Rattle.civl_blocked.proofs.Strides.{run_more}

@@ -1,5 +1,5 @@
 use Rattle.std.proofs.Common.{take}
-use Rattle.civl_interleavings.specs.Runs.{RunsTo}
+use Rattle.civl_reduction.specs.interleavings.Runs.{RunsTo}
 use Rattle.civl_blocked.specs.Segments.{over}
 use Rattle.civl_blocked.proofs.leading.runs_all.Given as goal
 

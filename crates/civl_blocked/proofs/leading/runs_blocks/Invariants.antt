@@ -1,5 +1,5 @@
 use Rattle.std.proofs.Common.{take, None}
-use Rattle.civl_interleavings.specs.Runs.{BlocksTo}
+use Rattle.civl_reduction.specs.interleavings.Runs.{BlocksTo}
 use Rattle.civl_blocked.specs.Segments.{over}
 use Rattle.civl_blocked.proofs.leading.runs_blocks.Given as goal
 

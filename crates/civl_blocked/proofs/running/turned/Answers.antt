@@ -1,5 +1,5 @@
 use Rattle.std.proofs.Common.{◌∙◌, sym}
-use Rattle.civl_blocks.specs.Shadow.{shadowed_start}
+use Rattle.civl_reduction.specs.blocks.Shadow.{shadowed_start}
 use Rattle.civl_blocked.proofs.Starts.{started_with, challenged_at_once}
 use Rattle.civl_blocked.proofs.running.turned.Goals as goal
 

@@ -3,9 +3,9 @@ use Rattle.std.specs.Prelude.{All}
 use Rattle.std.proofs.lemmas.List.Elements.{All-nil, All-cons}
 use Rattle.civl_meaning.specs.declared.config.Move.{Move}
 use Rattle.civl_meaning.specs.Failing.{IsMove}
-use Rattle.civl_interleavings.specs.Runs.{Opens}
-use Rattle.civl_gathering.specs.Gathered.{FailsBehind}
-use Rattle.civl_gathering.proofs.Gathering.{all_join}
+use Rattle.civl_reduction.specs.interleavings.Runs.{Opens}
+use Rattle.civl_reduction.specs.gathering.Gathered.{FailsBehind}
+use Rattle.civl_reduction.proofs.gathering.Gathering.{all_join}
 use Rattle.civl_blocked.specs.Segments.{over}
 use Rattle.civl_blocked.specs.Shortened.{IsFront}
 use Rattle.civl_blocked.proofs.Strides.{open_more}

@@ -1,7 +1,7 @@
 use Rattle.std.proofs.Common.{◌≤◌, drop, length, All}
-use Rattle.civl_interleavings.specs.Runs.{Opens}
+use Rattle.civl_reduction.specs.interleavings.Runs.{Opens}
 use Rattle.civl_meaning.specs.Failing.{IsMove}
-use Rattle.civl_gathering.specs.Gathered.{own, FailsAlong, FailsBehind}
+use Rattle.civl_reduction.specs.gathering.Gathered.{own, FailsAlong, FailsBehind}
 use Rattle.civl_blocked.specs.Segments.{over, mover}
 use Rattle.civl_blocked.proofs.shortening.failing_front.Given as goal
 

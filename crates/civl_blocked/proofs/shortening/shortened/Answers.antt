@@ -1,6 +1,6 @@
 use Rattle.std.proofs.Common.{◌<◌, ◌≡◌, ◌∙◌, ◌∷◌, [], ◌++◌, ◌+◌, true, take, drop, length, arith, sym, ap, subst}
 use Rattle.civl_meaning.specs.declared.config.Move.{Move}
-use Rattle.civl_gathering.specs.Gathered.{AllPass, FailsSooner}
+use Rattle.civl_reduction.specs.gathering.Gathered.{AllPass, FailsSooner}
 use Rattle.civl_blocked.specs.Segments.{over, IsShortened}
 use Rattle.civl_blocked.proofs.Strides.{same_end, pass_more}
 use Rattle.civl_blocked.proofs.Picking.{if_some, take_is}

@@ -1,5 +1,5 @@
 use Rattle.std.proofs.Common.{◌≡◌, take, drop}
-use Rattle.civl_gathering.specs.Gathered.{AllPass, FailsSooner}
+use Rattle.civl_reduction.specs.gathering.Gathered.{AllPass, FailsSooner}
 use Rattle.civl_blocked.specs.Segments.{over}
 use Rattle.civl_blocked.proofs.shortening.shortened.Given as goal
 

@@ -5,10 +5,10 @@ use Rattle.std.proofs.lemmas.List.Elements.{All-nil}
 use Rattle.civl_meaning.specs.declared.config.Move.{Move}
 use Rattle.civl_meaning.specs.declared.config.Config.{Config}
 use Rattle.civl_meaning.specs.Failing.{IsMove}
-use Rattle.civl_interleavings.specs.Runs.{RunsTo, Staged}
-use Rattle.civl_interleavings.proofs.Staging.{staged_runs}
-use Rattle.civl_gathering.specs.Gathered.{others, IsGathered, FailsSooner}
-use Rattle.civl_gathering.proofs.Gathering.{all_join}
+use Rattle.civl_reduction.specs.interleavings.Runs.{RunsTo, Staged}
+use Rattle.civl_reduction.proofs.interleavings.Staging.{staged_runs}
+use Rattle.civl_reduction.specs.gathering.Gathered.{others, IsGathered, FailsSooner}
+use Rattle.civl_reduction.proofs.gathering.Gathering.{all_join}
 use Rattle.civl_blocked.specs.Segments.{over, mover, program_of, FailsTo}
 use Rattle.civl_blocked.specs.Completed.{IsCompleted}
 use Rattle.civl_blocked.proofs.Strides.{runs_join}

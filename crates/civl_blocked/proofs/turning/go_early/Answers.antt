@@ -3,8 +3,8 @@ use Rattle.std.specs.Prelude.{All}
 use Rattle.std.proofs.lemmas.Option.{none-some}
 use Rattle.std.proofs.lemmas.List.Elements.{All-head, All-tail}
 use Rattle.civl_meaning.specs.Failing.{IsMove}
-use Rattle.civl_interleavings.specs.Runs.{Staged}
-use Rattle.civl_interleavings.proofs.Staging.{staged_runs}
+use Rattle.civl_reduction.specs.interleavings.Runs.{Staged}
+use Rattle.civl_reduction.proofs.interleavings.Staging.{staged_runs}
 use Rattle.civl_blocked.specs.Segments.{over, place_on, program_of}
 use Rattle.civl_blocked.specs.Turning.{ended, left_of}
 use Rattle.civl_blocked.specs.Walked.{IsToTurn}

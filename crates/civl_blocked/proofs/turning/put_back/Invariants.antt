@@ -1,5 +1,5 @@
 use Rattle.std.proofs.Common.{◌≡◌, ◌++◌, drop}
-use Rattle.civl_gathering.specs.Gathered.{others}
+use Rattle.civl_reduction.specs.gathering.Gathered.{others}
 use Rattle.civl_blocked.specs.Segments.{mover}
 use Rattle.civl_blocked.proofs.turning.put_back.Given as goal
 

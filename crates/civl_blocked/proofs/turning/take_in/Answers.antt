@@ -1,5 +1,5 @@
 use Rattle.std.proofs.Common.{◌∙◌, sym, inl, inr}
-use Rattle.civl_blocks.specs.Shadow.{shadowed}
+use Rattle.civl_reduction.specs.blocks.Shadow.{shadowed}
 use Rattle.civl_blocked.specs.Segments.{program_of}
 use Rattle.civl_blocked.proofs.Joinings.{last_runs, taken, same_place, between_late, late_goes, late_bounded, between_goes, between_bounded, between_done}
 use Rattle.civl_blocked.proofs.Walks.{untrue}

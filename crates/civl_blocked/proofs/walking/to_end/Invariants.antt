@@ -1,5 +1,5 @@
 use Rattle.std.proofs.Common.{◌≡◌, ◌++◌, length}
-use Rattle.civl_gathering.specs.Gathered.{AllPass}
+use Rattle.civl_reduction.specs.gathering.Gathered.{AllPass}
 use Rattle.civl_blocked.specs.Segments.{over, FailsTo}
 use Rattle.civl_blocked.proofs.walking.to_end.Given as goal
 

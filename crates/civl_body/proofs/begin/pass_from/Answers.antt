@@ -2,11 +2,11 @@ use Rattle.std.proofs.Common.{◌≡◌, ◌∙◌, ◌++◌, ◌+◌, ◌*◌, 
 use Rattle.civl_tree.specs.declared.stmt.Stmt.{Stmt}
 use Rattle.civl_tree.specs.Numbering.{numbered}
 use Rattle.civl_meaning.specs.Rest.{Rest, rest_at}
-use Rattle.civl_paths.specs.Flows.{Flow, flow_all, flow_rest}
+use Rattle.civl_conditions.specs.paths.Flows.{Flow, flow_all, flow_rest}
 use Rattle.civl_terms.specs.Weights.{graph_weight}
 use Rattle.civl_body.specs.Weights.{passed_weights, spent}
 use Rattle.civl_body.proofs.Weighing.{spent_weighs}
-use Rattle.civl_sweeps.specs.Sweeps.{sweep_all, sweep_rest}
+use Rattle.civl_moves.specs.sweeps.Sweeps.{sweep_all, sweep_rest}
 use Rattle.civl_body.specs.declared.rests.Numbered.{Numbered}
 use Rattle.civl_body.specs.Rests.{rest_of}
 use Rattle.civl_body.specs.Passing.{ReadyRest, ReadyHead, Passes}

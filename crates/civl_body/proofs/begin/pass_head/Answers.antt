@@ -1,8 +1,8 @@
 use Rattle.std.specs.Prelude.{take, drop}
 use Rattle.std.proofs.Common.{◌≡◌, ◌∙◌, ◌-◌, ◌+◌, ◌*◌, ◌≤◌, length, ap, sym, subst, arith}
 use Rattle.civl_meaning.specs.Rest.{Rest}
-use Rattle.civl_paths.specs.Flows.{flow_rest}
-use Rattle.civl_sweeps.specs.Sweeps.{sweep_rest}
+use Rattle.civl_conditions.specs.paths.Flows.{flow_rest}
+use Rattle.civl_moves.specs.sweeps.Sweeps.{sweep_rest}
 use Rattle.civl_body.specs.Rests.{rest_of}
 use Rattle.civl_body.specs.Passing.{ReadyHead, ReadyLoop, Passes, by_loop, loop_passed}
 use Rattle.civl_body.proofs.Heads.{items_are, loop_small, plain_passes, round, loop_ready, loop_passes}

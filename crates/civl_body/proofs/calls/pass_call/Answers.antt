@@ -2,7 +2,7 @@ use Rattle.std.specs.Option.{option_map_or}
 use Rattle.std.proofs.Common.{◌∙◌, List, ℕ, Option, ap, sym, subst, arith}
 use Rattle.civl_tree.specs.declared.action.Action.{Action}
 use Rattle.civl_tree.specs.rules.Names.{names_in_proc}
-use Rattle.civl_values.specs.ActionWeights.{action_weight}
+use Rattle.civl_firing.specs.values.ActionWeights.{action_weight}
 use Rattle.civl_conditions.specs.Weights.{body_weight, weights_of}
 use Rattle.civl_moves.specs.declared.sweep.Sweep.{Sweep}
 use Rattle.std.specs.Prelude.{All, map}
@@ -13,7 +13,7 @@ use Rattle.civl_terms.proofs.Growing.{grows_trans}
 use Rattle.civl_actions.specs.Actions.{LeavesOthers, values_at}
 use Rattle.civl_actions.specs.Scopes.{AreOf, IsTyped}
 use Rattle.civl_actions.proofs.Staying.{are_stay}
-use Rattle.civl_sweeps.specs.Sweeps.{with_action}
+use Rattle.civl_moves.specs.sweeps.Sweeps.{with_action}
 use Rattle.civl_moves.specs.Calls.{ResultsSuit}
 use Rattle.civl_moves.specs.States.{Moves, body_of}
 use Rattle.civl_moves.proofs.Calling.{if_each, of_some}

@@ -2,10 +2,10 @@ use Rattle.std.proofs.Common.{◌∙◌, ◌+◌, ◌*◌, ◌<◌, ℕ, sym, ap
 use Rattle.civl_tree.specs.Numbering.{size_of, sizes_of}
 use Rattle.std.specs.Prelude.{◌^◌}
 use Rattle.civl_meaning.specs.Layers.{program_at}
-use Rattle.civl_paths.specs.Choices.{layer_action}
+use Rattle.civl_conditions.specs.paths.Choices.{layer_action}
 use Rattle.civl_body.specs.Passing.{Under}
 use Rattle.civl_terms.proofs.Growing.{grows_trans, grows_same}
-use Rattle.civl_paths.proofs.Walked.{sizes_behind}
+use Rattle.civl_conditions.proofs.paths.Walked.{sizes_behind}
 use Rattle.civl_body.proofs.Typed.{assign_suits, assert_suits, if_suits, intro_suits}
 use Rattle.civl_body.proofs.Forms.{is_assign, is_assert, is_if, is_while, is_yield_loop, is_rank_loop, is_call, is_yield, is_commit, is_intro, is_spawn, if_size, call_passed, item_size}
 use Rattle.civl_body.proofs.Passing.{passed_by, goes_on, under_begins, under_first, under_step, under_ends}
@@ -14,11 +14,11 @@ use Rattle.civl_body.proofs.Joining.{first_ready, second_ready, can4, can_end, c
 use Rattle.std.specs.Option.{option_map_or}
 use Rattle.civl_tree.specs.Numbering.{numbered}
 use Rattle.civl_meaning.specs.Meaning.{called}
-use Rattle.civl_values.specs.ActionWeights.{action_weight}
+use Rattle.civl_firing.specs.values.ActionWeights.{action_weight}
 use Rattle.civl_terms.specs.Weights.{graph_weight}
 use Rattle.civl_actions.proofs.Listing.{item_at}
-use Rattle.civl_paths.specs.Flows.{flow_all}
-use Rattle.civl_paths.specs.Choices.{action_meant}
+use Rattle.civl_conditions.specs.paths.Flows.{flow_all}
+use Rattle.civl_conditions.specs.paths.Choices.{action_meant}
 use Rattle.civl_conditions.specs.Weights.{body_weight, note_weight, weights_of}
 use Rattle.civl_moves.specs.declared.sweep.Sweep.{Sweep}
 use Rattle.civl_moves.specs.Branches.{differing}

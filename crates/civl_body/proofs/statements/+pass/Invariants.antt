@@ -3,7 +3,7 @@ use Rattle.civl_tree.specs.Numbering.{numbered, statements_of}
 use Rattle.civl_tree.specs.rules.Rules.{Keeps}
 use Rattle.civl_linear.specs.LinearRules.{linear_rules}
 use Rattle.civl_terms.specs.Weights.{graph_weight}
-use Rattle.civl_paths.specs.Flows.{flow_all}
+use Rattle.civl_conditions.specs.paths.Flows.{flow_all}
 use Rattle.civl_body.specs.Weights.{Leaves, passed_weights, spent, written}
 use Rattle.civl_tree.specs.Numbering.{size_of, sizes_of}
 use Rattle.civl_body.specs.Passing.{Under}

@@ -2,7 +2,7 @@ use Rattle.std.specs.Prelude.{◌+◌, ◌≤◌, drop}
 use Rattle.civl_tree.specs.rules.Rules.{Keeps}
 use Rattle.civl_linear.specs.LinearRules.{linear_rules}
 use Rattle.civl_terms.specs.Weights.{graph_weight}
-use Rattle.civl_paths.specs.Flows.{flow_all}
+use Rattle.civl_conditions.specs.paths.Flows.{flow_all}
 use Rattle.civl_body.specs.Weights.{passed_weights, spent}
 use Rattle.civl_body.specs.Passing.{UnderRest}
 use Rattle.civl_body.specs.Rests.{rest_of}

@@ -12,7 +12,7 @@ use Rattle.civl_body.proofs.Few.{few_cuts}
 use Rattle.civl_body.proofs.Drawn.{ends_are, ways_can, is_walk}
 use Rattle.civl_body.proofs.Sweeping.{begins_ready, ends_can, stops_are, onward_is, drawn}
 use Rattle.civl_terms.specs.Weights.{graph_weight}
-use Rattle.civl_paths.specs.Flows.{flow_from}
+use Rattle.civl_conditions.specs.paths.Flows.{flow_from}
 use Rattle.civl_body.specs.Weights.{passed_weights}
 use Rattle.civl_body.proofs.ways.walk.Goals as goal
 

@@ -1,5 +1,5 @@
 use Rattle.std.proofs.Common.{refl}
-use Rattle.civl_decide.proofs.Rounds.{asked_more, asked_then}
+use Rattle.civl_verdicts.proofs.decisions.Rounds.{asked_more, asked_then}
 use Rattle.civl_certify.proofs.Placed.{light_by}
 use Rattle.civl_certify.proofs.certifying.answer.Goals as goal
 

@@ -1,5 +1,5 @@
 use Rattle.civl_verdicts.specs.Formulas.{violation_formula}
-use Rattle.civl_judging.proofs.Making.{made_term, few_of_violation}
+use Rattle.civl_verdicts.proofs.judging.Making.{made_term, few_of_violation}
 use Rattle.civl_certify.proofs.certifying.decide_alone.Goals as goal
 
 pub decide-requires-clause-few : goal.decide-requires-clause-few

@@ -1,5 +1,5 @@
 use Rattle.civl_verdicts.specs.Formulas.{initial_formula}
-use Rattle.civl_judging.proofs.Making.{made_term, few_of_initial}
+use Rattle.civl_verdicts.proofs.judging.Making.{made_term, few_of_initial}
 use Rattle.civl_certify.proofs.certifying.decide_initial.Goals as goal
 
 pub decide-requires-clause-few : goal.decide-requires-clause-few

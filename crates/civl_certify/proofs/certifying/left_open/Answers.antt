@@ -1,7 +1,7 @@
 use Rattle.std.proofs.Common.{refl, subst}
 use Rattle.civl_verdicts.specs.Formulas.{violation_formula}
-use Rattle.civl_decide.specs.Decided.{IsDecided}
-use Rattle.civl_judging.proofs.Verdicts.{violates}
+use Rattle.civl_verdicts.specs.decisions.Decided.{IsDecided}
+use Rattle.civl_verdicts.proofs.judging.Verdicts.{violates}
 use Rattle.civl_certify.proofs.certifying.left_open.Goals as goal
 
 pub returns-in-At : goal.returns-in-At

@@ -6,8 +6,8 @@ use Rattle.civl_cnf.specs.ClauseSet.{assignment}
 use Rattle.civl_terms.proofs.Weighing.{terms_weigh_less}
 use Rattle.civl_actions.proofs.Staying.{sorted_within}
 use Rattle.civl_blast.specs.declared.blasted.Place.{Place}
-use Rattle.civl_models.specs.Reading.{IsCellPlace, AreRead}
-use Rattle.civl_decide.proofs.Concluding.{cell_places, true_where_read, decided_at}
+use Rattle.civl_verdicts.specs.models.Reading.{IsCellPlace, AreRead}
+use Rattle.civl_verdicts.proofs.decisions.Concluding.{cell_places, true_where_read, decided_at}
 use Rattle.civl_certify.proofs.Evidence.{evidence_refuted, evidence_spent}
 use Rattle.civl_certify.proofs.examining.examine.Goals as goal
 

@@ -3,7 +3,7 @@ use Rattle.civl_tree.specs.declared.program.Program.{Program}
 use Rattle.civl_tree.specs.rules.Rules.{Keeps}
 use Rattle.civl_linear.specs.LinearRules.{linear_rules}
 use Rattle.civl_yields.specs.YieldRules.{yield_rules}
-use Rattle.civl_verify.proofs.Admitting.{keeps_first}
+use Rattle.civl_yields.proofs.verify.Admitting.{keeps_first}
 use Rattle.civl_frontend.proofs.Telling.{of_one}
 use Rattle.civl_command.specs.Outcome.{Asked, Asks, telling}
 use Rattle.civl_command.proofs.Deciding.{asked_of}

@@ -1,8 +1,8 @@
 use Rattle.std.proofs.Common.{[], append-nil, arith}
 use Rattle.std.proofs.lemmas.Grind.{common_steps}
 use Rattle.civl_tree.specs.declared.program.Global.{Global}
-use Rattle.civl_reports.specs.Values.{value_line}
-use Rattle.civl_reports.proofs.Beside.{beside-drop, beside-past}
+use Rattle.civl_verdicts.specs.reports.Values.{value_line}
+use Rattle.civl_verdicts.proofs.reports.Beside.{beside-drop, beside-past}
 use Rattle.civl_command.proofs.report.put_store.Goals as goal
 
 pub loop-at-preserved : goal.loop-at-preserved

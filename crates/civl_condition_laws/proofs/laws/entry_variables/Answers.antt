@@ -1,7 +1,7 @@
 use Rattle.std.specs.Fmt.{digits}
 use Rattle.civl_tree.specs.declared.stmt.Stmt.{the_lemmas as of_stmt}
 use Rattle.civl_layers.specs.Cuts.{cuts_among}
-use Rattle.civl_paths.specs.Flows.{flow_from}
+use Rattle.civl_conditions.specs.paths.Flows.{flow_from}
 use Rattle.civl_conditions.specs.Variables.{variables}
 use Rattle.civl_condition_laws.proofs.Going.{flows, froms}
 use Rattle.civl_condition_laws.proofs.Forms.{inners, rests}

@@ -3,7 +3,7 @@ use Rattle.civl_tree.specs.declared.expr.Expr.{the_lemmas as of_expr}
 use Rattle.civl_tree.specs.declared.stmt.Stmt.{the_lemmas as of_stmt}
 use Rattle.civl_layers.specs.Cuts.{cuts_among, entry_cut}
 use Rattle.civl_firing.specs.Fired.{gate_holds, fires, fired}
-use Rattle.civl_paths.specs.Paths.{path_from}
+use Rattle.civl_conditions.specs.paths.Paths.{path_from}
 use Rattle.civl_conditions.specs.declared.condition.Target.TheVariants.{Invariant}
 use Rattle.civl_condition_laws.specs.examples.Spinlock.{forgets, forgetful}
 use Rattle.civl_condition_laws.proofs.Going.{passes}

@@ -2,8 +2,8 @@ use Rattle.civl_tree.specs.declared.expr.Expr.{the_lemmas as of_expr}
 use Rattle.civl_tree.proofs.Layers.{layers}
 use Rattle.civl_layers.specs.Cuts.{cuts_among}
 use Rattle.civl_firing.specs.Fired.{gate_holds, fires, fired}
-use Rattle.civl_paths.specs.Paths.{path_from}
-use Rattle.civl_paths.specs.Flows.{flow_from}
+use Rattle.civl_conditions.specs.paths.Paths.{path_from}
+use Rattle.civl_conditions.specs.paths.Flows.{flow_from}
 use Rattle.civl_condition_laws.proofs.Going.{passes, flows}
 use Rattle.civl_conditions.specs.Violated.{violated}
 use Rattle.civl_condition_laws.proofs.laws.once_fails.Goals as goal

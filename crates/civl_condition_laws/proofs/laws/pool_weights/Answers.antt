@@ -1,7 +1,7 @@
 use Rattle.civl_tree.specs.declared.expr.Expr.{the_lemmas as of_expr}
 use Rattle.civl_tree.specs.declared.stmt.Stmt.{the_lemmas as of_stmt}
 use Rattle.civl_layers.specs.Cuts.{cuts_among}
-use Rattle.civl_paths.specs.Flows.{flow_from}
+use Rattle.civl_conditions.specs.paths.Flows.{flow_from}
 use Rattle.civl_conditions.specs.Listed.{conditions}
 use Rattle.civl_conditions.specs.Variables.{variables}
 use Rattle.civl_conditions.specs.Weights.{weight, initial_weight}

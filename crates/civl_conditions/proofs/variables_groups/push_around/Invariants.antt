@@ -1,6 +1,6 @@
 use Rattle.std.proofs.Common.{◌≡◌, ◌++◌, drop}
 use Rattle.std.specs.Prelude.{filter}
-use Rattle.civl_paths.specs.Seen.{exists_near}
+use Rattle.civl_conditions.specs.paths.Seen.{exists_near}
 use Rattle.civl_conditions.specs.Variables.{of_globals}
 use Rattle.civl_conditions.proofs.variables_groups.push_around.Given as goal
 

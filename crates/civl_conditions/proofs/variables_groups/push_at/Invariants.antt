@@ -1,6 +1,6 @@
 use Rattle.std.proofs.Common.{◌≡◌, ◌++◌, [], drop}
 use Rattle.std.specs.Prelude.{filter}
-use Rattle.civl_footprints.specs.Agreement.{exists_at}
+use Rattle.civl_conditions.specs.footprints.Agreement.{exists_at}
 use Rattle.civl_conditions.specs.Variables.{of_globals}
 use Rattle.civl_conditions.proofs.variables_groups.push_at.Given as goal
 

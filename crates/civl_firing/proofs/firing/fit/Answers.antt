@@ -1,7 +1,7 @@
 use Rattle.std.proofs.Common.{◌≡◌, ◌∙◌, List, [], drop, map, sym, ap, arith}
 use Rattle.std.proofs.lemmas.List.{drop_all}
 use Rattle.civl_tree.specs.declared.action.Choice.{Choice}
-use Rattle.civl_values.specs.Values.{are_of}
+use Rattle.civl_firing.specs.values.Values.{are_of}
 use Rattle.civl_firing.proofs.Fitting.{fits_past}
 use Rattle.civl_firing.proofs.firing.fit.Goals as goal
 

@@ -1,5 +1,5 @@
 use Rattle.std.proofs.Common.{◌≡◌, ◌≤◌, drop, length, map}
-use Rattle.civl_values.specs.Values.{are_of}
+use Rattle.civl_firing.specs.values.Values.{are_of}
 use Rattle.civl_firing.proofs.firing.fit.Given as goal
 
 abbrev pub invariant-loop-choice : goal.invariant-loop-choice

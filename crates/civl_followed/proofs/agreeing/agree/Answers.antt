@@ -1,5 +1,5 @@
 use Rattle.std.proofs.Common.{arith}
-use Rattle.civl_footprints.specs.Agreement.{exists_at}
+use Rattle.civl_conditions.specs.footprints.Agreement.{exists_at}
 use Rattle.civl_followed.proofs.Same.{agree_lengths}
 use Rattle.civl_followed.proofs.agreeing.agree.Goals as goal
 

@@ -1,5 +1,5 @@
 use Rattle.std.proofs.Common.{drop}
-use Rattle.civl_footprints.specs.Agreement.{AgreeOn, exists_at}
+use Rattle.civl_conditions.specs.footprints.Agreement.{AgreeOn, exists_at}
 use Rattle.civl_followed.proofs.agreeing.agree.Given as goal
 
 abbrev pub invariant-loop-at : goal.invariant-loop-at

@@ -2,9 +2,9 @@ use Rattle.std.proofs.Common.{◌∙◌, ◌+◌, drop, Contains, sym, ap, subst
 use Rattle.std.specs.Prelude.{Bool, Option, Some, None, if◌then◌else◌}
 use Rattle.std.proofs.lemmas.Option.{none-some, same_Some}
 use Rattle.civl_firing.specs.declared.store.Store.{Store}
-use Rattle.civl_paths.specs.Paths.{Progress}
-use Rattle.civl_simulation.specs.Refined.{with_values}
-use Rattle.civl_staged.specs.Stops.{StopsAt}
+use Rattle.civl_conditions.specs.paths.Paths.{Progress}
+use Rattle.civl_reduction.specs.simulation.Refined.{with_values}
+use Rattle.civl_reduction.specs.staged.Stops.{StopsAt}
 use Rattle.civl_shadows.specs.Notes.{noted, progress_of}
 use Rattle.civl_shadows.specs.Rests.{rest_of}
 use Rattle.civl_followed.proofs.Codes.{splits_at}

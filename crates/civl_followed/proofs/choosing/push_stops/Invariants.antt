@@ -1,7 +1,7 @@
 use Rattle.std.proofs.Common.{drop, Contains, ◌⊎◌}
 use Rattle.civl_firing.specs.declared.store.Store.{Store}
-use Rattle.civl_simulation.specs.Refined.{with_values}
-use Rattle.civl_staged.specs.Stops.{StopsAt}
+use Rattle.civl_reduction.specs.simulation.Refined.{with_values}
+use Rattle.civl_reduction.specs.staged.Stops.{StopsAt}
 use Rattle.civl_shadows.specs.Notes.{noted, progress_of}
 use Rattle.civl_shadows.specs.Rests.{rest_of}
 use Rattle.civl_followed.proofs.choosing.push_stops.Given as goal

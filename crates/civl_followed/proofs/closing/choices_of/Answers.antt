@@ -4,7 +4,7 @@ use Rattle.civl_bits.specs.declared.value.Value.{Value}
 use Rattle.civl_tree.specs.declared.program.Global.{Global}
 use Rattle.civl_tree.specs.declared.program.Proc.{Proc}
 use Rattle.civl_firing.specs.declared.store.Store.{Store}
-use Rattle.civl_blocks.specs.Shadow.{merged_values, merged}
+use Rattle.civl_reduction.specs.blocks.Shadow.{merged_values, merged}
 use Rattle.civl_followed.proofs.Codes.{chosen_so}
 use Rattle.civl_followed.proofs.closing.choices_of.Goals as goal
 

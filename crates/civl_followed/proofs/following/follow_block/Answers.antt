@@ -1,7 +1,7 @@
 use Rattle.std.proofs.Common.{◌∙◌, ◌+◌, List, drop, sym, ap, subst, arith, inr}
 use Rattle.civl_meaning.specs.declared.config.Move.{Move}
 use Rattle.civl_meaning.specs.declared.config.Running.{Running}
-use Rattle.civl_blocks.specs.Cuts.{frame_at}
+use Rattle.civl_reduction.specs.blocks.Cuts.{frame_at}
 use Rattle.civl_followed.specs.Frames.{IsKept}
 use Rattle.civl_followed.proofs.Rounds.{ready_so, none_waits, shows_so}
 use Rattle.civl_followed.proofs.Stepping.{goes_on}

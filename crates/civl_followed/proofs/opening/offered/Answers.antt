@@ -1,6 +1,6 @@
 use Rattle.std.proofs.Common.{◌≡◌, ◌∙◌, List, Option, drop, sym, ap, subst}
 use Rattle.civl_meaning.specs.Rest.{rest_at}
-use Rattle.civl_blocks.specs.Cuts.{settled}
+use Rattle.civl_reduction.specs.blocks.Cuts.{settled}
 use Rattle.civl_shadows.specs.declared.frames.Framed.{Framed}
 use Rattle.civl_shadows.specs.declared.rests.Numbered.{Numbered}
 use Rattle.civl_shadows.specs.Frames.{framed_of}

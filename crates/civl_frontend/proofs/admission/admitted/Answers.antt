@@ -4,7 +4,7 @@ use Rattle.civl_tree.specs.rules.Rules.{refusal_by, Keeps}
 use Rattle.civl_types.specs.Checked.{IsCause}
 use Rattle.civl_layers.specs.LayerRules.{layer_rules}
 use Rattle.civl_layers.specs.Layered.{IsAt}
-use Rattle.civl_verify.specs.Admitted.{admission_rules}
+use Rattle.civl_yields.specs.verify.Admitted.{admission_rules}
 use Rattle.civl_frontend.proofs.Lawful.{lawful, by_types, by_layers, by_admission}
 use Rattle.civl_frontend.proofs.admission.admitted.Goals as goal
 

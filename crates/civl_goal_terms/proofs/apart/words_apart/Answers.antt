@@ -6,10 +6,10 @@ use Rattle.civl_terms.proofs.Growing.{grows_trans}
 use Rattle.civl_meaning.specs.Permissions.{pairwise_disjoint, permissions_of_word}
 use Rattle.civl_conditions.specs.Permissions.{in_store}
 use Rattle.civl_conditions.specs.Weights.{linear_globals}
-use Rattle.civl_formulas.proofs.Saying.{test_where}
-use Rattle.civl_formulas.proofs.Listing.{sorts_stay, said_stay}
+use Rattle.civl_states.proofs.formula_parts.Saying.{test_where}
+use Rattle.civl_states.proofs.formula_parts.Listing.{sorts_stay, said_stay}
 use Rattle.civl_states.proofs.Picking.{none_counted, first_counted, first_weighs, items_small, permissions_some, permissions_few}
-use Rattle.civl_interfere.proofs.Beside.{words_stay, words_same}
+use Rattle.civl_movers.proofs.interfere.Beside.{words_stay, words_same}
 use Rattle.civl_goal_terms.proofs.apart.words_apart.Goals as goal
 
 pub global_items-requires-clause-globals : goal.global_items-requires-clause-globals

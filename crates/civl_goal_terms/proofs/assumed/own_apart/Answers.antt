@@ -6,7 +6,7 @@ use Rattle.civl_meaning.specs.Permissions.{pairwise_disjoint, permissions_of_wor
 use Rattle.civl_meaning.specs.Config.{frame_sorts}
 use Rattle.civl_actions.specs.Actions.{values_at}
 use Rattle.civl_conditions.specs.Permissions.{in_store}
-use Rattle.civl_formulas.proofs.Saying.{test_where}
+use Rattle.civl_states.proofs.formula_parts.Saying.{test_where}
 use Rattle.civl_goal_terms.proofs.Parting.{held_said}
 use Rattle.civl_goal_terms.proofs.Assuming.{are_words, words_within, words_sorted, words_pushed}
 use Rattle.civl_goal_terms.proofs.assumed.own_apart.Goals as goal

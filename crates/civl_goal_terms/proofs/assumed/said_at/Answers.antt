@@ -1,8 +1,8 @@
 use Rattle.std.proofs.Common.{arith}
 use Rattle.civl_tree.specs.declared.expr.Sort.TheVariants.{Bool as Truth}
 use Rattle.civl_terms.proofs.Growing.{grows_trans}
-use Rattle.civl_formulas.proofs.Saying.{sort_stays, test_stays}
-use Rattle.civl_formulas.proofs.Listing.{sorts_stay, said_stay}
+use Rattle.civl_states.proofs.formula_parts.Saying.{sort_stays, test_stays}
+use Rattle.civl_states.proofs.formula_parts.Listing.{sorts_stay, said_stay}
 use Rattle.civl_goals.specs.Outlines.{invariant_holds, note_holds}
 use Rattle.civl_goal_terms.specs.Settings.{frame_at}
 use Rattle.civl_goal_terms.proofs.assumed.said_at.Goals as goal

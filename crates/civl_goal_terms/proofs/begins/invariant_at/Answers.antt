@@ -3,8 +3,8 @@ use Rattle.civl_tree.specs.declared.expr.Sort.TheVariants.{Bool as Truth}
 use Rattle.civl_tree.specs.rules.Scopes.{global_scope}
 use Rattle.civl_terms.proofs.Growing.{grows_trans}
 use Rattle.civl_conditions.specs.Invariants.{is_initial}
-use Rattle.civl_formulas.proofs.Saying.{sort_stays, test_stays}
-use Rattle.civl_formulas.proofs.Listing.{sorts_stay, said_stay}
+use Rattle.civl_states.proofs.formula_parts.Saying.{sort_stays, test_stays}
+use Rattle.civl_states.proofs.formula_parts.Listing.{sorts_stay, said_stay}
 use Rattle.civl_states.proofs.Weighing.{weighs_some}
 use Rattle.civl_goals.specs.Outlines.{invariant_holds}
 use Rattle.civl_goal_terms.proofs.begins.invariant_at.Goals as goal

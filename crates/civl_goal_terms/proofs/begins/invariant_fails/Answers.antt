@@ -4,13 +4,13 @@ use Rattle.civl_tree.specs.declared.expr.Sort.{Sort}
 use Rattle.civl_firing.specs.declared.store.Store.{Store}
 use Rattle.civl_terms.proofs.Growing.{lengthens_trans, lengthened}
 use Rattle.civl_conditions.specs.Invariants.{is_initial}
-use Rattle.civl_formulas.specs.Given.{given, bits_of_sorts, AreVariablesOf}
-use Rattle.civl_formulas.proofs.Giving.{variables_kept}
-use Rattle.civl_formulas.proofs.Saying.{test_as}
+use Rattle.civl_states.specs.formula_parts.Given.{given, bits_of_sorts, AreVariablesOf}
+use Rattle.civl_states.proofs.formula_parts.Giving.{variables_kept}
+use Rattle.civl_states.proofs.formula_parts.Saying.{test_as}
 use Rattle.civl_states.specs.Stores.{global_sorts}
 use Rattle.civl_states.proofs.Limits.{AreSorts, global_sorts_are}
 use Rattle.civl_states.proofs.Formulas.{formula_of}
-use Rattle.civl_interfere.proofs.Starting.{all_sorts, all_stand, sorts_few, all_store}
+use Rattle.civl_movers.proofs.interfere.Starting.{all_sorts, all_stand, sorts_few, all_store}
 use Rattle.civl_goals.specs.declared.goal.Goal.TheVariants as named
 use Rattle.civl_goals.specs.Outlines.{invariant_holds}
 use Rattle.civl_goals.specs.Failed.{failed}

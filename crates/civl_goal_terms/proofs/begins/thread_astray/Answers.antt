@@ -8,11 +8,11 @@ use Rattle.civl_firing.specs.Scope.{global_values}
 use Rattle.civl_terms.proofs.Growing.{grows_trans}
 use Rattle.civl_actions.specs.Scopes.{IsTyped, AreOf}
 use Rattle.civl_conditions.specs.Weights.{weights_of, global_weight}
-use Rattle.civl_formulas.specs.Lists.{AreSaid}
-use Rattle.civl_formulas.proofs.Listing.{sorts_stay, said_stay}
+use Rattle.civl_states.specs.formula_parts.Lists.{AreSaid}
+use Rattle.civl_states.proofs.formula_parts.Listing.{sorts_stay, said_stay}
 use Rattle.civl_states.specs.Stores.{AreGlobals, AreStore}
-use Rattle.civl_interfere.specs.Arguments.{arg_sorts}
-use Rattle.civl_interfere.proofs.Arguing.{callable}
+use Rattle.civl_movers.specs.interfere.Arguments.{arg_sorts}
+use Rattle.civl_movers.proofs.interfere.Arguing.{callable}
 use Rattle.civl_goal_terms.specs.Frames.{named_sorts}
 use Rattle.civl_goal_terms.proofs.Beginning.{args_named}
 use Rattle.civl_goal_terms.proofs.begins.thread_astray.Goals as goal

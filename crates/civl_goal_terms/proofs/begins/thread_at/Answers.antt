@@ -6,9 +6,9 @@ use Rattle.civl_tree.specs.rules.Scopes.{global_scope}
 use Rattle.civl_meaning.specs.Meaning.{proc_number}
 use Rattle.civl_terms.proofs.Growing.{grows_trans}
 use Rattle.civl_conditions.specs.Invariants.{is_initial}
-use Rattle.civl_formulas.specs.Said.{IsTest}
-use Rattle.civl_formulas.proofs.Saying.{sort_stays, test_stays}
-use Rattle.civl_formulas.proofs.Listing.{sorts_stay, said_stay}
+use Rattle.civl_states.specs.formula_parts.Said.{IsTest}
+use Rattle.civl_states.proofs.formula_parts.Saying.{sort_stays, test_stays}
+use Rattle.civl_states.proofs.formula_parts.Listing.{sorts_stay, said_stay}
 use Rattle.civl_states.proofs.Picking.{same_some}
 use Rattle.civl_states.proofs.Weighing.{weighs_some}
 use Rattle.civl_goals.specs.Failed.{thread_fails}

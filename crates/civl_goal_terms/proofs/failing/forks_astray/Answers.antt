@@ -1,14 +1,14 @@
 use Rattle.std.proofs.Common.{◌∙◌, Bool, List, ℕ, ap, sym, subst, arith, refl}
 use Rattle.std.specs.Prelude.{if◌then◌else◌}
 use Rattle.civl_tree.specs.declared.expr.Sort.TheVariants.{Bool as Truth}
-use Rattle.civl_values.specs.Values.{is_true}
+use Rattle.civl_firing.specs.values.Values.{is_true}
 use Rattle.civl_firing.specs.Eval.{value_of}
 use Rattle.civl_firing.specs.Scope.{frame_values}
 use Rattle.civl_actions.specs.Scopes.{AreOf}
 use Rattle.civl_meaning.specs.Config.{frame_sorts}
 use Rattle.civl_terms.proofs.Growing.{grows_trans}
-use Rattle.civl_formulas.specs.Said.{Env}
-use Rattle.civl_formulas.proofs.Saying.{test_as}
+use Rattle.civl_states.specs.formula_parts.Said.{Env}
+use Rattle.civl_states.proofs.formula_parts.Saying.{test_as}
 use Rattle.civl_moves.specs.Expressions.{IsBodyTerm}
 use Rattle.civl_goals.specs.Outlines.{note_holds}
 use Rattle.civl_goals.specs.Weights.{note_before_weight, summed_at}

@@ -1,7 +1,7 @@
 use Rattle.std.proofs.Common.{arith}
 use Rattle.civl_tree.specs.declared.expr.Sort.TheVariants.{Bool as Truth}
 use Rattle.civl_terms.proofs.Growing.{grows_trans}
-use Rattle.civl_formulas.proofs.Saying.{sort_stays, test_as, test_stays}
+use Rattle.civl_states.proofs.formula_parts.Saying.{sort_stays, test_as, test_stays}
 use Rattle.civl_goals.specs.Outlines.{invariant_holds}
 use Rattle.civl_goal_terms.specs.Steps.{swept_by}
 use Rattle.civl_goal_terms.proofs.Leading.{loses_is}

@@ -8,8 +8,8 @@ use Rattle.civl_meaning.specs.Config.{frame_sorts}
 use Rattle.civl_terms.proofs.Growing.{grows_trans}
 use Rattle.civl_actions.specs.Scopes.{AreOf, IsTyped}
 use Rattle.civl_conditions.specs.Weights.{body_weight, weights_of}
-use Rattle.civl_formulas.proofs.Listing.{sorts_stay, said_stay}
-use Rattle.civl_formulas.proofs.Saying.{test_as}
+use Rattle.civl_states.proofs.formula_parts.Listing.{sorts_stay, said_stay}
+use Rattle.civl_states.proofs.formula_parts.Saying.{test_as}
 use Rattle.civl_body.proofs.Calling.{terms_of}
 use Rattle.civl_goals.specs.Weights.{form_weight, form_begins}
 use Rattle.civl_goal_terms.proofs.Leading.{spawns_is}

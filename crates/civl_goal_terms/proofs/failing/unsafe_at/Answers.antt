@@ -1,6 +1,6 @@
 use Rattle.std.proofs.Common.{◌∙◌, not, arith}
 use Rattle.civl_terms.proofs.Growing.{grows_trans}
-use Rattle.civl_formulas.proofs.Saying.{test_as}
+use Rattle.civl_states.proofs.formula_parts.Saying.{test_as}
 use Rattle.civl_goal_terms.specs.Steps.{swept_by}
 use Rattle.civl_goal_terms.proofs.Leading.{unsafe_is}
 use Rattle.civl_goal_terms.proofs.Stepping.{not_not}

@@ -4,8 +4,8 @@ use Rattle.std.proofs.lemmas.Option.{slice_get_read, slice_get_past}
 use Rattle.civl_tree.specs.declared.expr.Sort.{Sort}
 use Rattle.civl_tree.specs.declared.program.Proc.{Proc}
 use Rattle.civl_firing.specs.Truth.{place_of}
-use Rattle.civl_formulas.specs.Lists.{AreSaid}
-use Rattle.civl_formulas.proofs.Saying.{constant_test, test_as}
+use Rattle.civl_states.specs.formula_parts.Lists.{AreSaid}
+use Rattle.civl_states.proofs.formula_parts.Saying.{constant_test, test_as}
 use Rattle.civl_meaning.specs.Meaning.{proc_number}
 use Rattle.civl_goal_terms.proofs.Framing.{sorts_named, astray_there, astray_none}
 use Rattle.civl_goal_terms.proofs.frames.begins_astray.Goals as goal

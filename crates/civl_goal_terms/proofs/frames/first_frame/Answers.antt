@@ -5,8 +5,8 @@ use Rattle.civl_meaning.specs.Config.{frame_sorts}
 use Rattle.civl_terms.proofs.Growing.{lengthened}
 use Rattle.civl_actions.specs.Actions.{values_at}
 use Rattle.civl_actions.specs.Scopes.{AreOf}
-use Rattle.civl_formulas.specs.Lists.{AreSaid}
-use Rattle.civl_formulas.proofs.Listing.{said_more}
+use Rattle.civl_states.specs.formula_parts.Lists.{AreSaid}
+use Rattle.civl_states.proofs.formula_parts.Listing.{said_more}
 use Rattle.civl_states.specs.Laying.{inner_sorts}
 use Rattle.civl_states.proofs.Starting.{inner_limits}
 use Rattle.civl_goal_terms.proofs.frames.first_frame.Goals as goal

@@ -2,7 +2,7 @@ use Rattle.std.proofs.Common.{◌++◌, arith}
 use Rattle.civl_firing.specs.Scope.{zeros_of_params, zeros_of_locals}
 use Rattle.civl_meaning.specs.Change.{new_frame}
 use Rattle.civl_terms.proofs.Growing.{grows_trans}
-use Rattle.civl_formulas.proofs.Listing.{sorts_stay, said_stay}
+use Rattle.civl_states.proofs.formula_parts.Listing.{sorts_stay, said_stay}
 use Rattle.civl_goals.specs.Outlines.{note_holds}
 use Rattle.civl_goal_terms.proofs.frames.first_note.Goals as goal
 

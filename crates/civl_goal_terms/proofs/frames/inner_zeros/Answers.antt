@@ -1,8 +1,8 @@
 use Rattle.std.specs.Prelude.{All, IsTrue, map, List}
 use Rattle.std.proofs.Common.{◌∙◌, sym, subst}
 use Rattle.civl_tree.specs.declared.expr.Sort.{Sort}
-use Rattle.civl_values.specs.Values.{is_sort, zero_of}
-use Rattle.civl_formulas.specs.Lists.{AreSaid}
+use Rattle.civl_firing.specs.values.Values.{is_sort, zero_of}
+use Rattle.civl_states.specs.formula_parts.Lists.{AreSaid}
 use Rattle.civl_states.proofs.Laying.{inner_zeros}
 use Rattle.civl_goal_terms.proofs.frames.inner_zeros.Goals as goal
 

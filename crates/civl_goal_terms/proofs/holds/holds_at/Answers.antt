@@ -5,8 +5,8 @@ use Rattle.std.proofs.lemmas.List.{take_more, take_all}
 use Rattle.civl_tree.specs.declared.expr.Expr.{Expr}
 use Rattle.civl_terms.proofs.Growing.{grows_trans}
 use Rattle.civl_conditions.specs.Invariants.{holds_of_globals}
-use Rattle.civl_formulas.specs.Said.{IsTest}
-use Rattle.civl_formulas.proofs.Listing.{sorts_stay}
+use Rattle.civl_states.specs.formula_parts.Said.{IsTest}
+use Rattle.civl_states.proofs.formula_parts.Listing.{sorts_stay}
 use Rattle.civl_states.specs.Stores.{AreGlobals, AreStore}
 use Rattle.civl_states.proofs.Stepping.{HoldSo, hold_more}
 use Rattle.civl_goal_terms.proofs.Holding.{hold_typed}

@@ -9,7 +9,7 @@ use Rattle.civl_meaning.specs.Config.{frame_sorts}
 use Rattle.civl_actions.specs.Actions.{values_at}
 use Rattle.civl_conditions.specs.Permissions.{in_store}
 use Rattle.civl_conditions.specs.Weights.{lin, linear_globals}
-use Rattle.civl_formulas.proofs.Saying.{test_where}
+use Rattle.civl_states.proofs.formula_parts.Saying.{test_where}
 use Rattle.civl_goal_terms.proofs.Parting.{held_said}
 use Rattle.civl_goal_terms.proofs.Assuming.{are_words, words_within, words_sorted, words_pushed, words_more}
 use Rattle.civl_goal_terms.proofs.OthersBeside.{words_joined, words_long}

@@ -2,10 +2,10 @@ use Rattle.std.specs.Prelude.{◌&&◌, not}
 use Rattle.std.proofs.Common.{sym, arith}
 use Rattle.civl_tree.specs.declared.expr.Sort.TheVariants.{Bool as Truth}
 use Rattle.civl_terms.proofs.Growing.{grows_trans}
-use Rattle.civl_sweeps.specs.Sweeps.{Swept}
-use Rattle.civl_formulas.specs.Said.{Env}
-use Rattle.civl_formulas.proofs.Saying.{sort_stays, test_stays, test_as}
-use Rattle.civl_formulas.proofs.Listing.{sorts_stay, said_stay}
+use Rattle.civl_moves.specs.sweeps.Sweeps.{Swept}
+use Rattle.civl_states.specs.formula_parts.Said.{Env}
+use Rattle.civl_states.proofs.formula_parts.Saying.{sort_stays, test_stays, test_as}
+use Rattle.civl_states.proofs.formula_parts.Listing.{sorts_stay, said_stay}
 use Rattle.civl_goals.specs.Outlines.{note_holds}
 use Rattle.civl_goal_terms.specs.Others.{other_frame}
 use Rattle.civl_goal_terms.specs.Steps.{swept_by}

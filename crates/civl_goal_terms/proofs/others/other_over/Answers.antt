@@ -3,9 +3,9 @@ use Rattle.std.proofs.Common.{◌∙◌, sym, ap, subst, arith}
 use Rattle.civl_tree.specs.declared.expr.Sort.{Sort}
 use Rattle.civl_meaning.specs.Config.{frame_sorts}
 use Rattle.civl_terms.proofs.Growing.{lengthens_trans, lengthened}
-use Rattle.civl_formulas.specs.Given.{given, bits_of_sorts, AreVariablesOf}
-use Rattle.civl_formulas.proofs.Giving.{variables_kept}
-use Rattle.civl_formulas.proofs.Saying.{test_as}
+use Rattle.civl_states.specs.formula_parts.Given.{given, bits_of_sorts, AreVariablesOf}
+use Rattle.civl_states.proofs.formula_parts.Giving.{variables_kept}
+use Rattle.civl_states.proofs.formula_parts.Saying.{test_as}
 use Rattle.civl_states.proofs.Limits.{AreSorts}
 use Rattle.civl_states.proofs.Formulas.{formula_of}
 use Rattle.civl_goals.specs.declared.goal.Goal.TheVariants as named

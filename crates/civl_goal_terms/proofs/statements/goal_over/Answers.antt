@@ -2,9 +2,9 @@ use Rattle.std.specs.Prelude.{length}
 use Rattle.std.proofs.Common.{◌∙◌, ◌+◌, [], ap, subst, arith}
 use Rattle.civl_conditions.specs.Weights.{lin, linear_globals}
 use Rattle.civl_terms.proofs.Growing.{lengthens_trans, lengthened}
-use Rattle.civl_formulas.specs.Given.{bits_of_sorts, AreVariablesOf}
-use Rattle.civl_formulas.proofs.Giving.{variables_kept}
-use Rattle.civl_formulas.proofs.Saying.{test_as}
+use Rattle.civl_states.specs.formula_parts.Given.{bits_of_sorts, AreVariablesOf}
+use Rattle.civl_states.proofs.formula_parts.Giving.{variables_kept}
+use Rattle.civl_states.proofs.formula_parts.Saying.{test_as}
 use Rattle.civl_states.proofs.Formulas.{formula_of}
 use Rattle.civl_goals.specs.Failed.{failed}
 use Rattle.civl_goal_terms.specs.Formulas.{sorts_of}

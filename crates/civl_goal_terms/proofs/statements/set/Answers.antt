@@ -2,7 +2,7 @@ use Rattle.std.specs.Prelude.{length}
 use Rattle.std.proofs.Common.{◌∙◌, ◌+◌, ◌≡◌, sym, ap, arith}
 use Rattle.civl_meaning.specs.Config.{frame_sorts}
 use Rattle.civl_terms.proofs.Growing.{lengthens_trans}
-use Rattle.civl_formulas.proofs.Listing.{said_after}
+use Rattle.civl_states.proofs.formula_parts.Listing.{said_after}
 use Rattle.civl_states.proofs.Given.{stand_within}
 use Rattle.civl_goal_terms.specs.Given.{top_count, chosen_from}
 use Rattle.civl_goal_terms.specs.Settings.{sorts_at}

@@ -1,6 +1,6 @@
 use Rattle.std.proofs.Common.{true, false}
 use Rattle.civl_terms.proofs.Growing.{grows_trans}
-use Rattle.civl_formulas.proofs.Saying.{constant_test, test_stays}
+use Rattle.civl_states.proofs.formula_parts.Saying.{constant_test, test_stays}
 use Rattle.civl_goal_terms.proofs.Stepping.{begin_can, begin_says}
 use Rattle.civl_goal_terms.proofs.steps.begin.Goals as goal
 

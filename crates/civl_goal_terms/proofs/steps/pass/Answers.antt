@@ -3,7 +3,7 @@ use Rattle.civl_tree.specs.declared.stmt.Stmt.TheOpen.{Stmt-F}
 use Rattle.civl_meaning.specs.Layers.{topmost}
 use Rattle.civl_actions.specs.Scopes.{AreOf}
 use Rattle.civl_conditions.specs.Variables.{layer_choices}
-use Rattle.civl_formulas.specs.Lists.{AreSaid}
+use Rattle.civl_states.specs.formula_parts.Lists.{AreSaid}
 use Rattle.civl_body.proofs.Forms.{is_assign, is_assert, is_if, is_while, is_yield_loop, is_rank_loop, is_call, is_yield, is_commit, is_intro, is_spawn}
 use Rattle.civl_body.proofs.Typed.{assign_suits, assert_suits}
 use Rattle.civl_goals.specs.Weights.{form_weight}

@@ -5,13 +5,13 @@ use Rattle.civl_tree.specs.declared.action.Action.{Action}
 use Rattle.civl_tree.specs.declared.expr.Expr.{Expr}
 use Rattle.civl_tree.specs.declared.name.Name.{Name}
 use Rattle.civl_tree.specs.rules.Scopes.{body_scope}
-use Rattle.civl_values.specs.ActionWeights.{action_weight}
+use Rattle.civl_firing.specs.values.ActionWeights.{action_weight}
 use Rattle.civl_terms.proofs.Growing.{grows_trans}
 use Rattle.civl_actions.specs.Actions.{values_at}
 use Rattle.civl_actions.specs.Scopes.{AreOf, IsTyped}
 use Rattle.civl_actions.proofs.Staying.{are_stay}
 use Rattle.civl_conditions.specs.Weights.{body_weight, weights_of}
-use Rattle.civl_sweeps.specs.Sweeps.{with_action}
+use Rattle.civl_moves.specs.sweeps.Sweeps.{with_action}
 use Rattle.civl_moves.specs.Calls.{ResultsSuit}
 use Rattle.civl_moves.specs.States.{Moves, body_of}
 use Rattle.civl_moves.proofs.Calling.{if_each, of_some}

@@ -2,7 +2,7 @@ use Rattle.std.specs.Prelude.{not, ◌&&◌, ◌||◌, if◌then◌else◌}
 use Rattle.std.proofs.Common.{◌≡◌, Bool, true, false, refl}
 use Rattle.civl_tree.specs.declared.expr.Sort.TheVariants.{Bool as Truth}
 use Rattle.civl_terms.proofs.Growing.{grows_trans}
-use Rattle.civl_formulas.proofs.Saying.{sort_stays, test_stays, test_as}
+use Rattle.civl_states.proofs.formula_parts.Saying.{sort_stays, test_stays, test_as}
 use Rattle.civl_goal_terms.proofs.tests.chosen.Goals as goal
 
 or_false : (a : Bool) → (a || false) ≡ a

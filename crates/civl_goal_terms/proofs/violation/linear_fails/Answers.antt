@@ -3,7 +3,7 @@ use Rattle.std.proofs.Common.{◌∙◌, sym, ap, subst, arith}
 use Rattle.civl_tree.specs.declared.program.Program.{Program}
 use Rattle.civl_conditions.specs.declared.condition.Condition.TheVariants.{Keep}
 use Rattle.civl_conditions.specs.Weights as conditions
-use Rattle.civl_formulas.specs.Given.{AreVariablesOf}
+use Rattle.civl_states.specs.formula_parts.Given.{AreVariablesOf}
 use Rattle.civl_states.specs.Formulas as states
 use Rattle.civl_goals.proofs.Tops.{layers_fit}
 use Rattle.civl_goal_terms.proofs.Keeping.{have_out_modes, keep_sorts, keep_says, keep_weighs}

@@ -1,7 +1,7 @@
 use Rattle.std.proofs.Common.{◌∙◌, ◌+◌, ◌++◌, true, List, length, sym, ap, arith}
 use Rattle.civl_tree.specs.declared.stmt.Stmt.{Stmt}
 use Rattle.civl_tree.specs.Numbering.{statements_of, inner_of}
-use Rattle.civl_walks.proofs.Walking.{counted_later, none_left}
+use Rattle.civl_names.proofs.walks.Walking.{counted_later, none_left}
 use Rattle.civl_layers.specs.declared.cut.Cut.{Cut}
 use Rattle.civl_layers.specs.Cuts.{cuts_among}
 use Rattle.civl_layers.proofs.Cutting.{pushed, none_behind}

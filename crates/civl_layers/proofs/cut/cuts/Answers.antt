@@ -1,5 +1,5 @@
 use Rattle.std.proofs.Common.{arith}
-use Rattle.civl_walks.proofs.Placing.{body_fits}
+use Rattle.civl_names.proofs.walks.Placing.{body_fits}
 use Rattle.civl_layers.proofs.cut.cuts.Goals as goal
 
 pub push_cuts-requires : goal.push_cuts-requires

@@ -1,6 +1,6 @@
 use Rattle.std.proofs.Common.{◌≡◌, ◌++◌, List, ℕ, drop, map, flat_map}
 use Rattle.std.specs.Prelude.{codes}
-use Rattle.civl_models.specs.Text.{value_text, listed}
+use Rattle.civl_verdicts.specs.models.Text.{value_text, listed}
 use Rattle.civl_lift_command.proofs.report.put_choices.Given as goal
 
 abbrev pub invariant-loop-at : goal.invariant-loop-at

@@ -1,6 +1,6 @@
 use Rattle.std.proofs.Common.{sym, ap, ◌∙◌}
 use Rattle.civl_meaning.specs.Layers.{lowest}
-use Rattle.civl_run.specs.declared.trace.Trace.{Trace}
+use Rattle.civl_script.specs.declared.replays.trace.Trace.{Trace}
 use Rattle.civl_frontend.proofs.Telling.{of_one}
 use Rattle.civl_lift_command.specs.Outcome.{NotFailing, Raises, telling}
 use Rattle.civl_lift_command.proofs.Running.{fails_by, fails_not}

@@ -6,7 +6,7 @@ use Rattle.civl_tree.specs.declared.program.Program.{Program}
 use Rattle.civl_tree.specs.rules.Rules.{Keeps}
 use Rattle.civl_linear.specs.LinearRules.{linear_rules}
 use Rattle.civl_yields.specs.YieldRules.{yield_rules}
-use Rattle.civl_verify.proofs.Admitting.{keeps_first}
+use Rattle.civl_yields.proofs.verify.Admitting.{keeps_first}
 use Rattle.civl_conditions.specs.Weights.{heavy}
 use Rattle.civl_frontend.specs.Rules.{IsLawful}
 use Rattle.civl_frontend.specs.Told.{IsJudged}

@@ -2,14 +2,14 @@ use Rattle.std.specs.Prelude.{◌+◌, ℕ, List, [], ◌∷◌, length, All}
 use Rattle.std.proofs.Common.{Bool, sym, ap, subst, arith}
 use Rattle.civl_tree.specs.declared.expr.Sort.TheVariants.{Bool as Truth}
 use Rattle.civl_firing.specs.Fired.{guard_holds, store_after, outs_after}
-use Rattle.civl_footprints.specs.Agreement.{exists_at}
+use Rattle.civl_conditions.specs.footprints.Agreement.{exists_at}
 use Rattle.civl_terms.proofs.Growing.{grows_trans}
 use Rattle.civl_actions.specs.Actions.{values_at}
 use Rattle.civl_conditions.specs.Values.{same_values, same_stores}
-use Rattle.civl_formulas.specs.Said.{Env, IsTest, AreTests, all_true}
-use Rattle.civl_formulas.specs.Lists.{AreAlike, bits_at}
-use Rattle.civl_formulas.proofs.Saying.{IsBool, sort_stays, test_stays, test_as}
-use Rattle.civl_formulas.proofs.Listing.{alike_stay, said_stay, bits_stay}
+use Rattle.civl_states.specs.formula_parts.Said.{Env, IsTest, AreTests, all_true}
+use Rattle.civl_states.specs.formula_parts.Lists.{AreAlike, bits_at}
+use Rattle.civl_states.proofs.formula_parts.Saying.{IsBool, sort_stays, test_stays, test_as}
+use Rattle.civl_states.proofs.formula_parts.Listing.{alike_stay, said_stay, bits_stay}
 use Rattle.civl_movers.proofs.Alike.{five_bools, same_outs, end_alike_is}
 use Rattle.civl_movers.proofs.ends.end_alike.Goals as goal
 

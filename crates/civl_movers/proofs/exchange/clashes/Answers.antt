@@ -3,9 +3,9 @@ use Rattle.std.proofs.Common.{Bool, not, sym, ap, subst, arith}
 use Rattle.civl_tree.specs.declared.expr.Sort.TheVariants.{Bool as Truth}
 use Rattle.civl_firing.specs.Fired.{gate_holds, guard_holds, store_after}
 use Rattle.civl_terms.proofs.Growing.{grows_trans}
-use Rattle.civl_formulas.specs.Said.{Env, IsTest, AreTests, all_true}
-use Rattle.civl_formulas.proofs.Saying.{IsBool, sort_stays, test_stays, test_as}
-use Rattle.civl_formulas.proofs.Listing.{sorts_stay, said_stay}
+use Rattle.civl_states.specs.formula_parts.Said.{Env, IsTest, AreTests, all_true}
+use Rattle.civl_states.proofs.formula_parts.Saying.{IsBool, sort_stays, test_stays, test_as}
+use Rattle.civl_states.proofs.formula_parts.Listing.{sorts_stay, said_stay}
 use Rattle.civl_states.specs.Runs.{out_sorts}
 use Rattle.civl_states.specs.Same.{layer_sorts, same_weight}
 use Rattle.civl_movers.specs.Ends.{end_alike}

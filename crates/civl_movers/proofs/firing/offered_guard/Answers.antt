@@ -1,7 +1,7 @@
 use Rattle.std.proofs.Common.{arith}
 use Rattle.std.proofs.lemmas.Option.{slice_get_within}
 use Rattle.civl_terms.proofs.Growing.{grows_trans}
-use Rattle.civl_formulas.proofs.Listing.{sorts_stay}
+use Rattle.civl_states.proofs.formula_parts.Listing.{sorts_stay}
 use Rattle.civl_states.proofs.Runs.{of_some, if_some}
 use Rattle.civl_movers.proofs.Runs.{tells_offered}
 use Rattle.civl_movers.proofs.firing.offered_guard.Goals as goal

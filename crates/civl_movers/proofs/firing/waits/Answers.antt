@@ -2,9 +2,9 @@ use Rattle.std.proofs.Common.{Bool, not, arith}
 use Rattle.civl_tree.specs.declared.expr.Sort.TheVariants.{Bool as Truth}
 use Rattle.civl_firing.specs.Fired.{gate_holds}
 use Rattle.civl_terms.proofs.Growing.{grows_trans}
-use Rattle.civl_formulas.specs.Said.{Env}
-use Rattle.civl_formulas.proofs.Saying.{sort_stays, test_stays}
-use Rattle.civl_formulas.proofs.Listing.{sorts_stay, said_stay}
+use Rattle.civl_states.specs.formula_parts.Said.{Env}
+use Rattle.civl_states.proofs.formula_parts.Saying.{sort_stays, test_stays}
+use Rattle.civl_states.proofs.formula_parts.Listing.{sorts_stay, said_stay}
 use Rattle.civl_movers.specs.Runs.{guard_offered}
 use Rattle.civl_states.proofs.Runs.{inputs_stay}
 use Rattle.civl_movers.proofs.firing.waits.Goals as goal

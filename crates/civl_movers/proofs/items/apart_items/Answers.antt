@@ -3,7 +3,7 @@ use Rattle.civl_terms.proofs.Growing.{grows_trans}
 use Rattle.civl_meaning.specs.Permissions.{of_params, pairwise_disjoint}
 use Rattle.civl_conditions.specs.Permissions.{in_store}
 use Rattle.civl_conditions.specs.Weights.{linear_inputs}
-use Rattle.civl_formulas.proofs.Saying.{test_as}
+use Rattle.civl_states.proofs.formula_parts.Saying.{test_as}
 use Rattle.civl_states.specs.Items.{comes_in, number_coming}
 use Rattle.civl_states.proofs.Runs.{ready_stays, invoked_stays}
 use Rattle.civl_states.proofs.Picking.{items_small, permissions_some}

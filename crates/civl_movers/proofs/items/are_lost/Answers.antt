@@ -2,7 +2,7 @@ use Rattle.std.proofs.Common.{◌^◌, ◌∙◌, ◌&&◌, not, ℕ, List, Opti
 use Rattle.civl_bits.specs.declared.value.Value.TheVariants as value
 use Rattle.civl_meaning.specs.Permissions.{pairwise_disjoint}
 use Rattle.civl_conditions.specs.Permissions.{included}
-use Rattle.civl_formulas.specs.Masks.{MasksAll}
+use Rattle.civl_states.specs.formula_parts.Masks.{MasksAll}
 use Rattle.civl_movers.proofs.items.are_lost.Goals as goal
 
 pub returns-in_ok-id-in-None-clause-test : goal.returns-in_ok-id-in-None-clause-test

@@ -4,10 +4,10 @@ use Rattle.civl_terms.proofs.Growing.{grows_trans}
 use Rattle.civl_meaning.specs.Permissions.{of_params}
 use Rattle.civl_linear.specs.Modes.{is_lent}
 use Rattle.civl_conditions.specs.Permissions.{of_modes}
-use Rattle.civl_formulas.specs.Lists.{AreSaid}
-use Rattle.civl_formulas.specs.Masks.{AreCarried}
-use Rattle.civl_formulas.proofs.Listing.{sorts_stay, said_stay}
-use Rattle.civl_formulas.proofs.Carrying.{carried_as}
+use Rattle.civl_states.specs.formula_parts.Lists.{AreSaid}
+use Rattle.civl_states.specs.formula_parts.Masks.{AreCarried}
+use Rattle.civl_states.proofs.formula_parts.Listing.{sorts_stay, said_stay}
+use Rattle.civl_states.proofs.formula_parts.Carrying.{carried_as}
 use Rattle.civl_movers.specs.Items.{handed_back}
 use Rattle.civl_states.specs.Runs.{param_sorts, out_sorts}
 use Rattle.civl_states.proofs.Picking.{same_some, action_wide}

@@ -5,8 +5,8 @@ use Rattle.civl_firing.specs.Fired.{gate_holds, guard_holds, store_after, outs_a
 use Rattle.civl_terms.proofs.Growing.{grows_trans}
 use Rattle.civl_meaning.specs.Permissions.{pairwise_disjoint}
 use Rattle.civl_conditions.specs.Permissions.{included}
-use Rattle.civl_formulas.specs.Said.{Env, AreTests, all_true}
-use Rattle.civl_formulas.proofs.Saying.{sort_stays, test_stays, test_as, IsBool, four_bools, four_tests}
+use Rattle.civl_states.specs.formula_parts.Said.{Env, AreTests, all_true}
+use Rattle.civl_states.proofs.formula_parts.Saying.{sort_stays, test_stays, test_as, IsBool, four_bools, four_tests}
 use Rattle.civl_states.specs.Items.{comes_in, number_coming}
 use Rattle.civl_movers.specs.Items.{goes_out, number_going}
 use Rattle.civl_states.proofs.Picking.{items_small, permissions_some}

@@ -3,7 +3,7 @@ use Rattle.std.proofs.Common.{[], arith}
 use Rattle.civl_terms.proofs.Growing.{grows_trans}
 use Rattle.civl_conditions.specs.Permissions.{in_store}
 use Rattle.civl_conditions.specs.Weights.{linear_globals}
-use Rattle.civl_formulas.proofs.Listing.{sorts_stay, said_stay}
+use Rattle.civl_states.proofs.formula_parts.Listing.{sorts_stay, said_stay}
 use Rattle.civl_states.proofs.Runs.{ready_stays, invoked_stays}
 use Rattle.civl_states.proofs.Picking.{none_counted, first_counted, first_weighs}
 use Rattle.civl_movers.proofs.items.outgoing.Goals as goal

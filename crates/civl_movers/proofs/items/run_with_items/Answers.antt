@@ -1,8 +1,8 @@
 use Rattle.std.proofs.Common.{arith}
 use Rattle.civl_firing.specs.Fired.{store_after, outs_after}
 use Rattle.civl_terms.proofs.Growing.{grows_trans}
-use Rattle.civl_formulas.proofs.Listing.{sorts_stay, said_stay}
-use Rattle.civl_formulas.proofs.Carrying.{carried_stays, can_carry_stays}
+use Rattle.civl_states.proofs.formula_parts.Listing.{sorts_stay, said_stay}
+use Rattle.civl_states.proofs.formula_parts.Carrying.{carried_stays, can_carry_stays}
 use Rattle.civl_states.specs.Items.{comes_in}
 use Rattle.civl_states.proofs.Runs.{ready_stays, invoked_stays, run_stays}
 use Rattle.civl_movers.proofs.Runs.{tested_stays}

@@ -3,7 +3,7 @@ use Rattle.civl_tree.specs.declared.expr.Sort.TheVariants.{Bool as Truth}
 use Rattle.civl_terms.proofs.Growing.{grows_trans}
 use Rattle.civl_meaning.specs.Permissions.{pairwise_disjoint}
 use Rattle.civl_conditions.specs.Permissions.{included}
-use Rattle.civl_formulas.proofs.Saying.{sort_stays, test_stays}
+use Rattle.civl_states.proofs.formula_parts.Saying.{sort_stays, test_stays}
 use Rattle.civl_movers.proofs.items.some_lost.Goals as goal
 
 pub both-requires-clause-a : goal.both-requires-clause-a

@@ -1,8 +1,8 @@
 use Rattle.std.proofs.Common.{arith}
 use Rattle.civl_tree.specs.declared.expr.Sort.TheVariants.{Bool as Truth}
 use Rattle.civl_terms.proofs.Growing.{grows_trans}
-use Rattle.civl_formulas.proofs.Saying.{sort_stays}
-use Rattle.civl_formulas.proofs.Listing.{sorts_stay}
+use Rattle.civl_states.proofs.formula_parts.Saying.{sort_stays}
+use Rattle.civl_states.proofs.formula_parts.Listing.{sorts_stay}
 use Rattle.civl_states.proofs.Runs.{ready_stays, inputs_of}
 use Rattle.civl_movers.proofs.Runs.{have_met}
 use Rattle.civl_movers.proofs.meeting.meet.Goals as goal

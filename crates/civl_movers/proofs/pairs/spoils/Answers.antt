@@ -3,8 +3,8 @@ use Rattle.std.specs.Prelude.{All}
 use Rattle.civl_tree.specs.declared.expr.Sort.TheVariants.{Bool as Truth}
 use Rattle.civl_firing.specs.Fired.{gate_holds, guard_holds, store_after}
 use Rattle.civl_terms.proofs.Growing.{grows_trans}
-use Rattle.civl_formulas.specs.Said.{Env, AreTests, all_true}
-use Rattle.civl_formulas.proofs.Saying.{sort_stays, test_stays, test_as, IsBool, four_bools, four_tests}
+use Rattle.civl_states.specs.formula_parts.Said.{Env, AreTests, all_true}
+use Rattle.civl_states.proofs.formula_parts.Saying.{sort_stays, test_stays, test_as, IsBool, four_bools, four_tests}
 use Rattle.civl_movers.proofs.Telling.{spoils_is}
 use Rattle.civl_movers.proofs.pairs.spoils.Goals as goal
 

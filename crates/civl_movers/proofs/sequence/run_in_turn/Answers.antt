@@ -1,6 +1,6 @@
 use Rattle.std.proofs.Common.{arith}
 use Rattle.civl_terms.proofs.Growing.{grows_trans}
-use Rattle.civl_formulas.proofs.Listing.{sorts_stay}
+use Rattle.civl_states.proofs.formula_parts.Listing.{sorts_stay}
 use Rattle.civl_states.proofs.Runs.{ready_stays}
 use Rattle.civl_movers.proofs.Runs.{tested_stays, have_run}
 use Rattle.civl_movers.proofs.sequence.run_in_turn.Goals as goal

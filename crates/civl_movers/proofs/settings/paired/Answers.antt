@@ -1,8 +1,8 @@
 use Rattle.std.specs.Prelude.{◌+◌, ◌-◌, ℕ}
 use Rattle.std.proofs.Common.{◌∙◌, ◌++◌, ap, ap₂, arith}
 use Rattle.civl_terms.proofs.Growing.{lengthens_same, lengthens_trans}
-use Rattle.civl_formulas.specs.Given.{bits_of_sorts}
-use Rattle.civl_formulas.proofs.Giving.{bits-append}
+use Rattle.civl_states.specs.formula_parts.Given.{bits_of_sorts}
+use Rattle.civl_states.proofs.formula_parts.Giving.{bits-append}
 use Rattle.civl_states.specs.declared.stores.Existing.TheVariants.{Layer}
 use Rattle.civl_states.specs.Existing.{existing_sorts}
 use Rattle.civl_states.specs.Runs.{instance_sorts}

@@ -4,9 +4,9 @@ use Rattle.std.proofs.lemmas.List.{length-map}
 use Rattle.civl_terms.proofs.Growing.{lengthens_trans, lengthened}
 use Rattle.civl_conditions.specs.declared.condition.Condition.TheVariants.{Fire}
 use Rattle.civl_conditions.specs.Violated.{violated}
-use Rattle.civl_formulas.specs.Given.{bits_of_sorts, AreVariablesOf}
-use Rattle.civl_formulas.proofs.Giving.{bits-append, variables_kept}
-use Rattle.civl_formulas.proofs.Saying.{test_as}
+use Rattle.civl_states.specs.formula_parts.Given.{bits_of_sorts, AreVariablesOf}
+use Rattle.civl_states.proofs.formula_parts.Giving.{bits-append, variables_kept}
+use Rattle.civl_states.proofs.formula_parts.Saying.{test_as}
 use Rattle.civl_states.specs.declared.stores.Existing.TheVariants.{Layer}
 use Rattle.civl_states.specs.Existing.{existing_sorts}
 use Rattle.civl_states.specs.Runs.{param_sorts}

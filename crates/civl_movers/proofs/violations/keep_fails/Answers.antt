@@ -5,9 +5,9 @@ use Rattle.civl_linear.specs.Modes.{is_lent, is_given}
 use Rattle.civl_conditions.specs.declared.condition.Condition.TheVariants.{Keep}
 use Rattle.civl_conditions.specs.Violated.{violated}
 use Rattle.civl_conditions.specs.Weights.{lin, linear_globals}
-use Rattle.civl_formulas.specs.Given.{bits_of_sorts, AreVariablesOf}
-use Rattle.civl_formulas.proofs.Giving.{bits-append, variables_kept}
-use Rattle.civl_formulas.proofs.Saying.{test_as}
+use Rattle.civl_states.specs.formula_parts.Given.{bits_of_sorts, AreVariablesOf}
+use Rattle.civl_states.proofs.formula_parts.Giving.{bits-append, variables_kept}
+use Rattle.civl_states.proofs.formula_parts.Saying.{test_as}
 use Rattle.civl_states.specs.declared.stores.Existing.TheVariants.{Layer}
 use Rattle.civl_states.specs.Existing.{existing_sorts}
 use Rattle.civl_states.specs.Runs.{instance_sorts}

@@ -1,8 +1,8 @@
 use Rattle.civl_tree.specs.declared.expr.Sort.TheVariants.{Bool as Truth}
 use Rattle.civl_terms.proofs.Growing.{grows_trans}
 use Rattle.civl_conditions.specs.Movers.{apart}
-use Rattle.civl_formulas.proofs.Saying.{sort_stays, test_stays}
-use Rattle.civl_formulas.proofs.Listing.{sorts_stay, said_stay}
+use Rattle.civl_states.proofs.formula_parts.Saying.{sort_stays, test_stays}
+use Rattle.civl_states.proofs.formula_parts.Listing.{sorts_stay, said_stay}
 use Rattle.civl_states.proofs.Runs.{ready_stays, invoked_stays}
 use Rattle.civl_movers.specs.Runs.{invoke}
 use Rattle.civl_movers.specs.Settings.{kind_fails}

@@ -3,9 +3,9 @@ use Rattle.std.proofs.Common.{◌≡◌, Some, refl, sym, ap, subst, arith}
 use Rattle.civl_terms.proofs.Growing.{lengthens_trans, lengthened}
 use Rattle.civl_conditions.specs.declared.condition.Condition.TheVariants.{Pair}
 use Rattle.civl_conditions.specs.Violated.{violated}
-use Rattle.civl_formulas.specs.Given.{bits_of_sorts, AreVariablesOf}
-use Rattle.civl_formulas.proofs.Giving.{variables_kept}
-use Rattle.civl_formulas.proofs.Saying.{test_as}
+use Rattle.civl_states.specs.formula_parts.Given.{bits_of_sorts, AreVariablesOf}
+use Rattle.civl_states.proofs.formula_parts.Giving.{variables_kept}
+use Rattle.civl_states.proofs.formula_parts.Saying.{test_as}
 use Rattle.civl_states.specs.Runs.{out_sorts}
 use Rattle.civl_states.specs.Same.{layer_sorts}
 use Rattle.civl_states.specs.Formulas.{sorts_of}

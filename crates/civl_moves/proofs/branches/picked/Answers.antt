@@ -3,7 +3,7 @@ use Rattle.std.specs.Prelude.{IsSome}
 use Rattle.civl_tree.specs.declared.expr.Sort.{Sort}
 use Rattle.civl_tree.specs.declared.expr.Sort.TheVariants.{Bool as Truth}
 use Rattle.civl_actions.proofs.Staying.{sorted_within}
-use Rattle.civl_formulas.proofs.Listing.{some_within}
+use Rattle.civl_states.proofs.formula_parts.Listing.{some_within}
 use Rattle.civl_moves.proofs.Picking.{pick_fits, picked_said}
 use Rattle.civl_moves.proofs.branches.picked.Goals as goal
 

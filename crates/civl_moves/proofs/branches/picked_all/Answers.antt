@@ -4,8 +4,8 @@ use Rattle.std.proofs.lemmas.List.{take_all, length-append}
 use Rattle.civl_tree.specs.declared.expr.Sort.{Sort}
 use Rattle.civl_tree.specs.declared.expr.Sort.TheVariants.{Bool as Truth}
 use Rattle.civl_terms.proofs.Growing.{grows_trans}
-use Rattle.civl_formulas.proofs.Saying.{sort_stays}
-use Rattle.civl_formulas.proofs.Listing.{alike_at, alike_long, alike_stay}
+use Rattle.civl_states.proofs.formula_parts.Saying.{sort_stays}
+use Rattle.civl_states.proofs.formula_parts.Listing.{alike_at, alike_long, alike_stay}
 use Rattle.civl_moves.specs.Branches.{ArePicked, KeepsSame, differing}
 use Rattle.civl_moves.proofs.Picking.{are_length, picked_step, differ_next}
 use Rattle.civl_moves.proofs.Leaving.{same_step}

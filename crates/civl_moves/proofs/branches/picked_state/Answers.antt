@@ -1,7 +1,7 @@
 use Rattle.std.proofs.Common.{◌∙◌, ap₂, subst, arith, List, ℕ}
 use Rattle.civl_terms.proofs.Growing.{grows_trans}
 use Rattle.civl_actions.proofs.Staying.{are_stay}
-use Rattle.civl_formulas.proofs.Listing.{alike_stay}
+use Rattle.civl_states.proofs.formula_parts.Listing.{alike_stay}
 use Rattle.civl_moves.specs.Branches.{KeepsSame, differing}
 use Rattle.civl_moves.proofs.States.{bool_stays}
 use Rattle.civl_moves.proofs.Picking.{alike_of, picked_of, picked_since, picked_stays, differ_stays}

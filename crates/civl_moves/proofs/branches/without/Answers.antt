@@ -1,5 +1,5 @@
 use Rattle.civl_tree.specs.declared.expr.Sort.TheVariants.{Bool as Truth}
-use Rattle.civl_formulas.proofs.Saying.{sort_stays, test_stays}
+use Rattle.civl_states.proofs.formula_parts.Saying.{sort_stays, test_stays}
 use Rattle.civl_moves.proofs.branches.without.Goals as goal
 
 pub both-requires-clause-a : goal.both-requires-clause-a

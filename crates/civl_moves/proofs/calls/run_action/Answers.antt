@@ -1,8 +1,8 @@
 use Rattle.civl_tree.specs.declared.expr.Sort.TheVariants.{Bool as Truth}
 use Rattle.civl_terms.proofs.Growing.{grows_trans}
-use Rattle.civl_formulas.proofs.Saying.{sort_stays}
+use Rattle.civl_states.proofs.formula_parts.Saying.{sort_stays}
 use Rattle.civl_terms.specs.Weights.{graph_weight}
-use Rattle.civl_values.specs.ActionWeights.{action_weight}
+use Rattle.civl_firing.specs.values.ActionWeights.{action_weight}
 use Rattle.civl_moves.proofs.Calling.{of_within, if_each, of_some, has_run, weighs_four}
 use Rattle.civl_moves.proofs.calls.run_action.Goals as goal
 

@@ -1,7 +1,7 @@
 use Rattle.std.proofs.Common.{◌∙◌, arith}
 use Rattle.civl_tree.specs.rules.Scopes.{note_scope}
 use Rattle.civl_actions.proofs.Staying.{are_stay, values_stay}
-use Rattle.civl_paths.specs.NoteValues.{note_names, plain_note_values}
+use Rattle.civl_conditions.specs.paths.NoteValues.{note_names, plain_note_values}
 use Rattle.civl_actions.specs.Actions.{values_at, store_at}
 use Rattle.civl_moves.proofs.Scoping.{Made, present_fits, made_means, values_joined, term_is}
 use Rattle.civl_moves.proofs.expressions.note_term.Goals as goal

@@ -1,7 +1,7 @@
 use Rattle.std.proofs.Common.{◌∙◌, ◌++◌, ap, subst, sym, arith, List, ℕ}
 use Rattle.std.specs.Prelude.{All, IsTrue}
 use Rattle.civl_tree.specs.declared.program.Global.{Global}
-use Rattle.civl_values.specs.Values.{is_sort}
+use Rattle.civl_firing.specs.values.Values.{is_sort}
 use Rattle.civl_moves.specs.Expressions.{AreZeros}
 use Rattle.civl_tree.specs.rules.Names.{global_names, names_in_proc}
 use Rattle.civl_tree.specs.rules.Scopes.{body_scope}

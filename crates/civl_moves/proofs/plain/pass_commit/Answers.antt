@@ -1,6 +1,6 @@
 use Rattle.std.specs.Prelude.{true}
 use Rattle.civl_terms.proofs.Growing.{grows_trans}
-use Rattle.civl_formulas.proofs.Saying.{test_stays, constant_test}
+use Rattle.civl_states.proofs.formula_parts.Saying.{test_stays, constant_test}
 use Rattle.civl_moves.proofs.Moving.{commit_moves}
 use Rattle.civl_moves.proofs.plain.pass_commit.Goals as goal
 

@@ -1,5 +1,5 @@
 use Rattle.std.specs.Prelude.{false}
-use Rattle.civl_formulas.proofs.Saying.{constant_test}
+use Rattle.civl_states.proofs.formula_parts.Saying.{constant_test}
 use Rattle.civl_moves.proofs.Stopping.{stop_moves}
 use Rattle.civl_moves.proofs.stops.stop.Goals as goal
 

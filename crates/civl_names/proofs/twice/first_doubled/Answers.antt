@@ -1,6 +1,6 @@
 use Rattle.std.proofs.Common.{◌≡◌, ◌∙◌, true, false, sym}
 use Rattle.civl_tree.specs.rules.Twice.{stmt_twice}
-use Rattle.civl_walks.proofs.Finding.{next_seen, none_seen, where_found, where_behind, where_none}
+use Rattle.civl_names.proofs.walks.Finding.{next_seen, none_seen, where_found, where_behind, where_none}
 use Rattle.civl_names.proofs.twice.first_doubled.Goals as goal
 
 pub returns-then-branch : goal.returns-then-branch

@@ -4,7 +4,7 @@ use Rattle.civl_tree.specs.declared.program.Local.{Local}
 use Rattle.civl_conditions.specs.Weights.{outs_bits}
 use Rattle.civl_weighing.specs.Bits.{locals_bits}
 use Rattle.civl_weighing.proofs.Capping.{sum_weighs, weighs_same}
-use Rattle.civl_sums.proofs.Groups.{params_bits_are, locals_bits_are}
+use Rattle.civl_weights.proofs.sums.Groups.{params_bits_are, locals_bits_are}
 use Rattle.civl_outlined.proofs.Stating.{frame_is}
 use Rattle.civl_outlined.proofs.roots.frame_bits.Goals as goal
 

@@ -1,7 +1,7 @@
 use Rattle.std.proofs.Common.{List, subst, sym}
 use Rattle.std.specs.List.{AllZip}
-use Rattle.civl_sums.specs.declared.actions.ActionSums.{ActionSums}
-use Rattle.civl_sums.specs.Sums.{OfAction}
+use Rattle.civl_weights.specs.declared.sums.actions.ActionSums.{ActionSums}
+use Rattle.civl_weights.specs.sums.Sums.{OfAction}
 use Rattle.civl_weighing.proofs.Capping.{sum_weighs, weighs_same}
 use Rattle.civl_outlined.proofs.Totals.{linear_is}
 use Rattle.civl_outlined.proofs.weights.keeps_permissions.Goals as goal

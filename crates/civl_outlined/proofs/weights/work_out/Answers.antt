@@ -1,7 +1,7 @@
 use Rattle.std.proofs.Common.{List, [], refl, ap, ◌∙◌}
 use Rattle.std.specs.Prelude.{filter}
 use Rattle.civl_tree.specs.declared.program.Global.{Global}
-use Rattle.civl_footprints.specs.Agreement.{exists_at}
+use Rattle.civl_conditions.specs.footprints.Agreement.{exists_at}
 use Rattle.civl_conditions.specs.Variables.{of_globals}
 use Rattle.civl_conditions.specs.Weights.{bits_of_variables}
 use Rattle.civl_weighing.proofs.Capping.{weighs_same}

@@ -1,4 +1,4 @@
-use Rattle.civl_judging.proofs.Making.{made_term}
+use Rattle.civl_verdicts.proofs.judging.Making.{made_term}
 use Rattle.civl_prove.specs.Proved.{goal_formula}
 use Rattle.civl_prove.proofs.Limits.{few_of_goal}
 use Rattle.civl_prove.proofs.proving.decide_goal.Goals as goal

@@ -1,8 +1,8 @@
 use Rattle.std.specs.Prelude.{length}
 use Rattle.std.proofs.Common.{◌+◌, ◌∙◌, refl, ap, subst, arith}
 use Rattle.civl_goals.specs.declared.goal.Goal.TheVariants.{Invariant}
-use Rattle.civl_decide.specs.Decided.{IsDecided}
-use Rattle.civl_decide.proofs.Rounds.{asked_more}
+use Rattle.civl_verdicts.specs.decisions.Decided.{IsDecided}
+use Rattle.civl_verdicts.proofs.decisions.Rounds.{asked_more}
 use Rattle.civl_prove.specs.Proved.{goal_formula}
 use Rattle.civl_prove.proofs.Reaching.{none_before, one_more, up_to, here_in, reached, fails, goals_are_light}
 use Rattle.civl_prove.proofs.proving.prove_goals.Goals as goal

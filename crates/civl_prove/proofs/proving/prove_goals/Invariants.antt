@@ -1,4 +1,4 @@
-use Rattle.civl_decide.specs.Decided.{WereAsked}
+use Rattle.civl_verdicts.specs.decisions.Decided.{WereAsked}
 use Rattle.civl_prove.specs.Proved.{HoldUpTo}
 use Rattle.civl_prove.proofs.proving.prove_goals.Given as goal
 

@@ -5,19 +5,19 @@ use Rattle.civl_tree.specs.declared.expr.Sort.TheVariants.{Bool as Truth}
 use Rattle.civl_tree.specs.declared.action.Action.{Action}
 use Rattle.civl_tree.specs.rules.Scopes.{note_scope}
 use Rattle.civl_tree.specs.rules.Sorts.{sort_of}
-use Rattle.civl_values.specs.ActionWeights.{gate_weight}
+use Rattle.civl_firing.specs.values.ActionWeights.{gate_weight}
 use Rattle.civl_meaning.specs.Permissions.{pairwise_disjoint}
 use Rattle.civl_terms.specs.Weights.{graph_weight}
 use Rattle.civl_terms.proofs.Growing.{grows_trans}
 use Rattle.civl_actions.specs.Scopes.{IsTyped}
-use Rattle.civl_paths.specs.Ends.{is_entry, is_rank_loop}
+use Rattle.civl_conditions.specs.paths.Ends.{is_entry, is_rank_loop}
 use Rattle.civl_conditions.specs.Assumed.{owned, refined_gate, cut_invariant, note_holds}
 use Rattle.civl_conditions.specs.Invariants.{invariants_hold}
 use Rattle.civl_conditions.specs.Steps.{step_invariants}
 use Rattle.civl_conditions.specs.Weights.{lin, linear_globals, global_weight, note_weight, weights_of, maybe_weight}
-use Rattle.civl_formulas.specs.Said.{Env, IsTest}
-use Rattle.civl_formulas.proofs.Saying.{test_as}
-use Rattle.civl_formulas.proofs.Listing.{sorts_stay, said_stay}
+use Rattle.civl_states.specs.formula_parts.Said.{Env, IsTest}
+use Rattle.civl_states.proofs.formula_parts.Saying.{test_as}
+use Rattle.civl_states.proofs.formula_parts.Listing.{sorts_stay, said_stay}
 use Rattle.civl_states.specs.Notes.{Seen, seen_values}
 use Rattle.civl_states.proofs.Weighing.{weighs_some, gate_weighs}
 use Rattle.civl_refine.specs.Assuming.{gate_or_done}

@@ -2,8 +2,8 @@ use Rattle.std.specs.Prelude.{Bool}
 use Rattle.civl_tree.specs.declared.expr.Sort.TheVariants.{Bool as Truth}
 use Rattle.std.proofs.Common.{arith}
 use Rattle.civl_terms.proofs.Growing.{grows_trans}
-use Rattle.civl_formulas.specs.Said.{Env}
-use Rattle.civl_formulas.proofs.Saying.{sort_stays, test_stays, test_as}
+use Rattle.civl_states.specs.formula_parts.Said.{Env}
+use Rattle.civl_states.proofs.formula_parts.Saying.{sort_stays, test_stays, test_as}
 use Rattle.civl_conditions.specs.Assumed.{refined_gate}
 use Rattle.civl_refine.proofs.Assuming.{refined_is, refined_holds}
 use Rattle.civl_refine.proofs.assumption.begun_gate.Goals as goal

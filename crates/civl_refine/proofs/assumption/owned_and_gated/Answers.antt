@@ -7,13 +7,13 @@ use Rattle.civl_terms.proofs.Growing.{grows_trans}
 use Rattle.civl_conditions.specs.Assumed.{owned, refined_gate}
 use Rattle.civl_conditions.specs.Permissions.{in_store, of_held}
 use Rattle.std.specs.Prelude.{◌++◌}
-use Rattle.civl_formulas.specs.Said.{Env, IsTest}
-use Rattle.civl_formulas.proofs.Saying.{sort_stays, test_stays}
+use Rattle.civl_states.specs.formula_parts.Said.{Env, IsTest}
+use Rattle.civl_states.proofs.formula_parts.Saying.{sort_stays, test_stays}
 use Rattle.std.specs.Prelude.{Option}
 use Rattle.civl_tree.specs.declared.action.Action.{Action}
-use Rattle.civl_values.specs.ActionWeights.{gate_weight}
+use Rattle.civl_firing.specs.values.ActionWeights.{gate_weight}
 use Rattle.civl_terms.specs.Weights.{graph_weight}
-use Rattle.civl_paths.specs.Ends.{is_entry, is_rank_loop}
+use Rattle.civl_conditions.specs.paths.Ends.{is_entry, is_rank_loop}
 use Rattle.civl_refine.specs.Assuming.{gate_or_done}
 use Rattle.civl_refine.proofs.Assuming.{held_words, begin_stays, begun_stays, refined_is, kinds_weigh}
 use Rattle.civl_refine.proofs.assumption.owned_and_gated.Goals as goal

@@ -1,5 +1,5 @@
 use Rattle.std.proofs.Common.{sym}
-use Rattle.civl_formulas.proofs.Saying.{test_as}
+use Rattle.civl_states.proofs.formula_parts.Saying.{test_as}
 use Rattle.civl_refine.proofs.Asking.{invariant_is}
 use Rattle.civl_refine.proofs.ends.invariant_there.Goals as goal
 

@@ -2,10 +2,10 @@ use Rattle.std.specs.Prelude.{List, Option, not, true, slice_get}
 use Rattle.std.specs.Option.{option_map_or}
 use Rattle.std.proofs.Common.{◌∙◌, ◌+◌, sym, ap, arith}
 use Rattle.civl_tree.specs.declared.action.Action.{Action}
-use Rattle.civl_values.specs.ActionWeights.{guard_weight, updates_weight}
+use Rattle.civl_firing.specs.values.ActionWeights.{guard_weight, updates_weight}
 use Rattle.civl_layers.specs.declared.cut.Cut.{Cut}
-use Rattle.civl_paths.specs.Ends.{is_rank_loop}
-use Rattle.civl_formulas.proofs.Saying.{test_as}
+use Rattle.civl_conditions.specs.paths.Ends.{is_rank_loop}
+use Rattle.civl_states.proofs.formula_parts.Saying.{test_as}
 use Rattle.civl_states.proofs.Weighing.{guard_weighs}
 use Rattle.civl_refine.proofs.Asking.{perform_is}
 use Rattle.civl_refine.proofs.ends.perform_at.Goals as goal

@@ -3,12 +3,12 @@ use Rattle.std.proofs.Common.{◌∙◌, ap}
 use Rattle.std.proofs.lemmas.Bool.{eq-eqb}
 use Rattle.civl_tree.specs.declared.expr.Expr.{Expr}
 use Rattle.civl_tree.specs.declared.expr.Two.TheVariants.{Lt}
-use Rattle.civl_values.specs.Values.{is_true}
-use Rattle.civl_values.specs.Operators.{two_value}
+use Rattle.civl_firing.specs.values.Values.{is_true}
+use Rattle.civl_firing.specs.values.Operators.{two_value}
 use Rattle.civl_firing.specs.Eval.{value_of}
-use Rattle.civl_paths.specs.NoteValues.{plain_note_values}
+use Rattle.civl_conditions.specs.paths.NoteValues.{plain_note_values}
 use Rattle.civl_conditions.specs.Movers.{on_some}
-use Rattle.civl_formulas.proofs.Saying.{test_as}
+use Rattle.civl_states.proofs.formula_parts.Saying.{test_as}
 use Rattle.civl_refine.proofs.Asking.{asked, not_not}
 use Rattle.civl_refine.proofs.ends.rank_at.Goals as goal
 

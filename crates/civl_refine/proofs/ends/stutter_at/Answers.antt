@@ -2,8 +2,8 @@ use Rattle.std.specs.Prelude.{List, not, true, slice_get}
 use Rattle.std.specs.Option.{option_map_or}
 use Rattle.std.proofs.Common.{◌∙◌, sym, ap}
 use Rattle.civl_layers.specs.declared.cut.Cut.{Cut}
-use Rattle.civl_paths.specs.Ends.{ends_block, is_rank_loop}
-use Rattle.civl_formulas.proofs.Saying.{test_as}
+use Rattle.civl_conditions.specs.paths.Ends.{ends_block, is_rank_loop}
+use Rattle.civl_states.proofs.formula_parts.Saying.{test_as}
 use Rattle.civl_refine.proofs.Asking.{asked}
 use Rattle.civl_refine.proofs.ends.stutter_at.Goals as goal
 

@@ -4,11 +4,11 @@ use Rattle.std.proofs.Common.{sym, ap, subst}
 use Rattle.civl_tree.specs.declared.expr.Sort.TheVariants.{Bool as Truth}
 use Rattle.civl_terms.proofs.Growing.{grows_trans}
 use Rattle.civl_terms.specs.Weights.{graph_weight}
-use Rattle.civl_paths.specs.Ends.{is_rank_loop}
+use Rattle.civl_conditions.specs.paths.Ends.{is_rank_loop}
 use Rattle.civl_conditions.specs.Assumed.{assumed}
 use Rattle.civl_conditions.specs.Weights.{part_weight, summed}
-use Rattle.civl_formulas.specs.Said.{Env}
-use Rattle.civl_formulas.proofs.Saying.{sort_stays, test_stays, test_as}
+use Rattle.civl_states.specs.formula_parts.Said.{Env}
+use Rattle.civl_states.proofs.formula_parts.Saying.{sort_stays, test_stays, test_as}
 use Rattle.civl_body.specs.declared.way.Way.{Way}
 use Rattle.civl_body.specs.Walks.{IsWay, CanTake}
 use Rattle.civl_refine.specs.Judging.{fails_before}

@@ -2,8 +2,8 @@ use Rattle.std.specs.Prelude.{not}
 use Rattle.std.proofs.Common.{sym, subst}
 use Rattle.civl_tree.specs.declared.expr.Sort.TheVariants.{Bool as Truth}
 use Rattle.civl_conditions.specs.declared.condition.Part.{Part}
-use Rattle.civl_formulas.specs.Said.{IsTest}
-use Rattle.civl_formulas.proofs.Saying.{sort_stays, test_stays}
+use Rattle.civl_states.specs.formula_parts.Said.{IsTest}
+use Rattle.civl_states.proofs.formula_parts.Saying.{sort_stays, test_stays}
 use Rattle.civl_refine.specs.Judging.{fails_before}
 use Rattle.civl_refine.proofs.failures.kept_before.Goals as goal
 

@@ -1,8 +1,8 @@
 use Rattle.std.specs.Prelude.{Bool, not, ◌||◌}
 use Rattle.civl_tree.specs.declared.expr.Sort.TheVariants.{Bool as Truth}
 use Rattle.civl_terms.proofs.Growing.{grows_trans}
-use Rattle.civl_formulas.proofs.Saying.{sort_stays, test_stays}
-use Rattle.civl_formulas.specs.Said.{Env}
+use Rattle.civl_states.proofs.formula_parts.Saying.{sort_stays, test_stays}
+use Rattle.civl_states.specs.formula_parts.Said.{Env}
 use Rattle.civl_refine.proofs.gates.gate_and_done.Goals as goal
 
 pub implied-requires-clause-a : goal.implied-requires-clause-a

@@ -1,7 +1,7 @@
 use Rattle.std.proofs.Common.{ap}
 use Rattle.std.specs.Prelude.{◌||◌}
-use Rattle.civl_formulas.proofs.Saying.{test_as}
-use Rattle.civl_paths.specs.Ends.{is_rank_loop}
+use Rattle.civl_states.proofs.formula_parts.Saying.{test_as}
+use Rattle.civl_conditions.specs.paths.Ends.{is_rank_loop}
 use Rattle.civl_refine.proofs.Assuming.{gate_yield}
 use Rattle.civl_refine.proofs.gates.gate_or_done.Goals as goal
 

@@ -3,9 +3,9 @@ use Rattle.std.specs.Prelude.{Bool, List, ℕ, ◌&&◌, if◌then◌else◌}
 use Rattle.std.proofs.lemmas.Bool.{eq-eqb}
 use Rattle.civl_tree.specs.declared.expr.Sort.TheVariants.{Bool as Truth}
 use Rattle.civl_terms.proofs.Growing.{grows_trans}
-use Rattle.civl_formulas.specs.Said.{Env}
-use Rattle.civl_formulas.specs.Lists.{AreSaid}
-use Rattle.civl_formulas.proofs.Saying.{sort_stays, test_stays, test_as}
+use Rattle.civl_states.specs.formula_parts.Said.{Env}
+use Rattle.civl_states.specs.formula_parts.Lists.{AreSaid}
+use Rattle.civl_states.proofs.formula_parts.Saying.{sort_stays, test_stays, test_as}
 use Rattle.civl_conditions.specs.Invariants.{holds_of_globals}
 use Rattle.civl_states.specs.Stores.{global_sorts}
 use Rattle.civl_refine.proofs.invariants.with_invariant.Goals as goal

@@ -2,8 +2,8 @@ use Rattle.std.specs.Prelude.{◌&&◌}
 use Rattle.std.proofs.Common.{◌∙◌, sym, arith}
 use Rattle.civl_terms.proofs.Growing.{grows_trans}
 use Rattle.civl_actions.proofs.Listing.{item_at}
-use Rattle.civl_formulas.proofs.Saying.{test_as}
-use Rattle.civl_formulas.proofs.Listing.{sorts_stay, said_stay}
+use Rattle.civl_states.proofs.formula_parts.Saying.{test_as}
+use Rattle.civl_states.proofs.formula_parts.Listing.{sorts_stay, said_stay}
 use Rattle.civl_states.specs.Stores.{global_sorts}
 use Rattle.civl_refine.specs.Assuming.{holds_at}
 use Rattle.civl_refine.proofs.Typing.{invariant_typed, invariant_truth}

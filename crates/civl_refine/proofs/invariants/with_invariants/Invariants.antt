@@ -4,7 +4,7 @@ use Rattle.civl_firing.specs.declared.store.Store.{Store}
 use Rattle.civl_terms.specs.Graphs.{sort_at}
 use Rattle.civl_terms.specs.Building.{Grows}
 use Rattle.civl_terms.specs.Weights.{graph_weight}
-use Rattle.civl_formulas.specs.Said.{Env, IsTest}
+use Rattle.civl_states.specs.formula_parts.Said.{Env, IsTest}
 use Rattle.civl_states.specs.Stores.{AreStore}
 use Rattle.civl_refine.proofs.Assuming.{all_hold, all_weigh}
 use Rattle.civl_refine.proofs.invariants.with_invariants.Given as goal

@@ -3,8 +3,8 @@ use Rattle.std.proofs.Common.{◌≡◌, ◌∙◌, sym, ap, subst, arith, ◌^�
 use Rattle.civl_tree.specs.declared.expr.Sort.TheVariants.{Word}
 use Rattle.civl_terms.specs.Graphs.{sort_at}
 use Rattle.civl_terms.proofs.Growing.{grows_trans}
-use Rattle.civl_formulas.proofs.Carrying.{carried_as}
-use Rattle.civl_formulas.proofs.Listing.{sorts_stay, said_stay}
+use Rattle.civl_states.proofs.formula_parts.Carrying.{carried_as}
+use Rattle.civl_states.proofs.formula_parts.Listing.{sorts_stay, said_stay}
 use Rattle.civl_conditions.specs.Permissions.{in_store}
 use Rattle.civl_conditions.specs.Weights.{linear_globals}
 use Rattle.civl_states.proofs.Picking.{permissions_few, none_counted}

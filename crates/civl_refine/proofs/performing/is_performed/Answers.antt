@@ -4,12 +4,12 @@ use Rattle.civl_tree.specs.declared.expr.Sort.TheVariants.{Bool as Truth}
 use Rattle.civl_firing.specs.Fired.{guard_holds, store_after, outs_after}
 use Rattle.civl_meaning.specs.Change.{outs_in}
 use Rattle.civl_terms.proofs.Growing.{grows_trans}
-use Rattle.civl_footprints.specs.Agreement.{exists_at}
+use Rattle.civl_conditions.specs.footprints.Agreement.{exists_at}
 use Rattle.civl_conditions.specs.Assumed.{inputs_of}
 use Rattle.civl_conditions.specs.Values.{same_values, same_stores}
-use Rattle.civl_formulas.specs.Said.{Env}
-use Rattle.civl_formulas.proofs.Saying.{sort_stays, test_stays}
-use Rattle.civl_formulas.proofs.Listing.{sorts_stay, said_stay}
+use Rattle.civl_states.specs.formula_parts.Said.{Env}
+use Rattle.civl_states.proofs.formula_parts.Saying.{sort_stays, test_stays}
+use Rattle.civl_states.proofs.formula_parts.Listing.{sorts_stay, said_stay}
 use Rattle.civl_states.proofs.Limits.{proc_out_sorts_are}
 use Rattle.civl_refine.proofs.Judging.{outs_weigh, globals_weigh}
 use Rattle.civl_refine.proofs.performing.is_performed.Goals as goal

@@ -10,10 +10,10 @@ use Rattle.civl_terms.proofs.Growing.{grows_trans}
 use Rattle.civl_firing.specs.Fired.{outs_after}
 use Rattle.civl_actions.specs.Scopes.{AreOf}
 use Rattle.civl_conditions.specs.Assumed.{inputs_of}
-use Rattle.civl_formulas.specs.Said.{Env}
-use Rattle.civl_formulas.specs.Lists.{AreSaid}
-use Rattle.civl_formulas.proofs.Saying.{sort_stays, test_stays}
-use Rattle.civl_formulas.proofs.Listing.{sorts_stay, said_stay}
+use Rattle.civl_states.specs.formula_parts.Said.{Env}
+use Rattle.civl_states.specs.formula_parts.Lists.{AreSaid}
+use Rattle.civl_states.proofs.formula_parts.Saying.{sort_stays, test_stays}
+use Rattle.civl_states.proofs.formula_parts.Listing.{sorts_stay, said_stay}
 use Rattle.civl_states.proofs.Runs.{of_some, if_some}
 use Rattle.civl_refine.proofs.Assuming.{inputs_sorted, inputs_said, frame_long, same_some}
 use Rattle.civl_refine.proofs.Doing.{guard_said, store_said, outs_change}

@@ -2,8 +2,8 @@ use Rattle.std.specs.Prelude.{Bool, ◌||◌}
 use Rattle.std.proofs.Common.{arith}
 use Rattle.civl_tree.specs.declared.expr.Sort.TheVariants.{Bool as Truth}
 use Rattle.civl_terms.proofs.Growing.{grows_trans}
-use Rattle.civl_formulas.specs.Said.{Env}
-use Rattle.civl_formulas.proofs.Saying.{sort_stays, test_stays}
+use Rattle.civl_states.specs.formula_parts.Said.{Env}
+use Rattle.civl_states.proofs.formula_parts.Saying.{sort_stays, test_stays}
 use Rattle.civl_refine.specs.Judging.{comes_to, with_values}
 use Rattle.civl_refine.proofs.Assuming.{begin_stays, begun_stays}
 use Rattle.civl_refine.proofs.Judging.{end_stays, at_stays}

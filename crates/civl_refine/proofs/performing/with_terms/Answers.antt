@@ -9,12 +9,12 @@ use Rattle.civl_terms.specs.Graphs.{sort_at}
 use Rattle.civl_actions.specs.Actions.{values_at}
 use Rattle.civl_actions.specs.Scopes.{AreOf}
 use Rattle.civl_actions.proofs.Listing.{item_at}
-use Rattle.civl_paths.specs.NoteValues.{plain_note_values}
+use Rattle.civl_conditions.specs.paths.NoteValues.{plain_note_values}
 use Rattle.civl_conditions.specs.Assumed.{with_of}
 use Rattle.civl_conditions.specs.Weights.{note_weight}
-use Rattle.civl_formulas.specs.Said.{Env}
-use Rattle.civl_formulas.specs.Lists.{AreSaid}
-use Rattle.civl_formulas.proofs.Listing.{sorts_stay, said_stay}
+use Rattle.civl_states.specs.formula_parts.Said.{Env}
+use Rattle.civl_states.specs.formula_parts.Lists.{AreSaid}
+use Rattle.civl_states.proofs.formula_parts.Listing.{sorts_stay, said_stay}
 use Rattle.civl_states.specs.Stores.{choice_sorts}
 use Rattle.civl_refine.proofs.Assuming.{same_some}
 use Rattle.civl_refine.proofs.Withs.{with_at, with_long, sorted_next, said_next, weigh_next, whole}

@@ -4,12 +4,12 @@ use Rattle.civl_firing.specs.Eval.{values_of}
 use Rattle.civl_terms.specs.Building.{Grows}
 use Rattle.civl_terms.specs.Weights.{graph_weight}
 use Rattle.civl_actions.specs.Scopes.{AreOf}
-use Rattle.civl_paths.specs.NoteValues.{plain_note_values}
-use Rattle.civl_paths.specs.Paths.{Progress}
+use Rattle.civl_conditions.specs.paths.NoteValues.{plain_note_values}
+use Rattle.civl_conditions.specs.paths.Paths.{Progress}
 use Rattle.civl_conditions.specs.Assumed.{with_of}
 use Rattle.civl_conditions.specs.Weights.{note_weight, weights_of}
-use Rattle.civl_formulas.specs.Said.{Env}
-use Rattle.civl_formulas.specs.Lists.{AreSaid}
+use Rattle.civl_states.specs.formula_parts.Said.{Env}
+use Rattle.civl_states.specs.formula_parts.Lists.{AreSaid}
 use Rattle.civl_states.specs.Stores.{choice_sorts}
 use Rattle.civl_refine.specs.Judging.{IsAt}
 use Rattle.civl_refine.proofs.performing.with_terms.Given as goal

@@ -3,10 +3,10 @@ use Rattle.std.proofs.Common.{◌∙◌, sym, ap, subst}
 use Rattle.civl_tree.specs.rules.Uses.{param_sorts}
 use Rattle.civl_meaning.specs.Config.{frame_sorts}
 use Rattle.civl_actions.specs.Scopes.{AreOf}
-use Rattle.civl_paths.specs.NoteValues.{note_values, steady_note_values}
+use Rattle.civl_conditions.specs.paths.NoteValues.{note_values, steady_note_values}
 use Rattle.civl_conditions.specs.Invariants.{holds_in}
-use Rattle.civl_formulas.specs.Lists.{AreSaid}
-use Rattle.civl_formulas.proofs.Saying.{test_as}
+use Rattle.civl_states.specs.formula_parts.Lists.{AreSaid}
+use Rattle.civl_states.proofs.formula_parts.Saying.{test_as}
 use Rattle.civl_states.specs.Stores.{AreGlobals, AreStore}
 use Rattle.civl_refine.proofs.Typing.{cut_typed, cut_truth}
 use Rattle.civl_refine.proofs.ranks.invariant_kept.Goals as goal

@@ -2,17 +2,17 @@ use Rattle.std.specs.Prelude.{Option, IsSome, List}
 use Rattle.std.proofs.Common.{◌∙◌, refl, sym, ap, subst, arith}
 use Rattle.civl_bits.specs.declared.value.Value.{Value}
 use Rattle.civl_tree.specs.declared.expr.Sort.{Sort}
-use Rattle.civl_values.specs.Weights.{bits_in}
+use Rattle.civl_firing.specs.values.Weights.{bits_in}
 use Rattle.civl_firing.specs.declared.store.Store.{Store}
 use Rattle.civl_firing.specs.Eval.{value_of}
-use Rattle.civl_paths.specs.NoteValues.{plain_note_values}
-use Rattle.civl_formulas.specs.Said.{Env}
+use Rattle.civl_conditions.specs.paths.NoteValues.{plain_note_values}
+use Rattle.civl_states.specs.formula_parts.Said.{Env}
 use Rattle.civl_refine.proofs.Judging.{less_test, less_sorted}
 use Rattle.civl_tree.specs.declared.expr.Sort.TheVariants.{Word}
 use Rattle.civl_terms.proofs.Growing.{grows_trans}
 use Rattle.civl_actions.proofs.Staying.{sorted_within}
-use Rattle.civl_formulas.proofs.Saying.{sort_stays, said_stays}
-use Rattle.civl_formulas.proofs.Listing.{sorts_stay, said_stay}
+use Rattle.civl_states.proofs.formula_parts.Saying.{sort_stays, said_stays}
+use Rattle.civl_states.proofs.formula_parts.Listing.{sorts_stay, said_stay}
 use Rattle.civl_refine.proofs.Typing.{rank_typed, rank_word}
 use Rattle.civl_refine.proofs.ranks.rank_kept.Goals as goal
 

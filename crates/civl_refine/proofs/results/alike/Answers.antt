@@ -3,8 +3,8 @@ use Rattle.std.proofs.Common.{◌∙◌, refl, sym, ap, subst, arith}
 use Rattle.civl_bits.specs.declared.value.Value.TheVariants as value
 use Rattle.civl_tree.specs.declared.expr.Sort.{Sort}
 use Rattle.civl_tree.specs.declared.expr.Sort.TheVariants.{Bool as Truth}
-use Rattle.civl_values.specs.Weights.{bits_in}
-use Rattle.civl_formulas.proofs.Saying.{test_as}
+use Rattle.civl_firing.specs.values.Weights.{bits_in}
+use Rattle.civl_states.proofs.formula_parts.Saying.{test_as}
 use Rattle.civl_refine.proofs.Judging.{bools_same, bool_said}
 use Rattle.civl_refine.proofs.results.alike.Goals as goal
 

@@ -4,7 +4,7 @@ use Rattle.civl_tree.specs.rules.Uses.{param_sorts}
 use Rattle.civl_actions.specs.Scopes.{AreOf}
 use Rattle.civl_actions.specs.Actions.{values_at}
 use Rattle.civl_conditions.specs.Values.{same_values}
-use Rattle.civl_formulas.proofs.Saying.{test_where}
+use Rattle.civl_states.proofs.formula_parts.Saying.{test_where}
 use Rattle.civl_states.proofs.Choosing.{same_weighs}
 use Rattle.civl_refine.proofs.Judging.{outs_sorted, outs_said, outs_within}
 use Rattle.civl_refine.proofs.results.same_outs.Goals as goal

@@ -2,10 +2,10 @@ use Rattle.std.specs.Prelude.{Bool, not, ◌||◌, ◌&&◌}
 use Rattle.civl_tree.specs.declared.expr.Sort.TheVariants.{Bool as Truth}
 use Rattle.civl_meaning.specs.Change.{outs_in}
 use Rattle.civl_terms.proofs.Growing.{grows_trans}
-use Rattle.civl_footprints.specs.Agreement.{exists_at}
+use Rattle.civl_conditions.specs.footprints.Agreement.{exists_at}
 use Rattle.civl_conditions.specs.Values.{same_bool, same_values, same_stores}
-use Rattle.civl_formulas.specs.Said.{Env}
-use Rattle.civl_formulas.proofs.Saying.{sort_stays, test_stays, test_as}
+use Rattle.civl_states.specs.formula_parts.Said.{Env}
+use Rattle.civl_states.proofs.formula_parts.Saying.{sort_stays, test_stays, test_as}
 use Rattle.civl_refine.proofs.Assuming.{begin_stays, begun_stays}
 use Rattle.civl_refine.proofs.Judging.{end_stays, at_stays, stutter_is}
 use Rattle.civl_refine.proofs.results.stutter_kept.Goals as goal

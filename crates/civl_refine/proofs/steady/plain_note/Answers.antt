@@ -2,8 +2,8 @@ use Rattle.std.proofs.Common.{false, ap, arith}
 use Rattle.civl_firing.specs.declared.scope.Scope.{Scope}
 use Rattle.civl_firing.specs.Eval.{value_of}
 use Rattle.civl_terms.proofs.Growing.{grows_trans}
-use Rattle.civl_formulas.proofs.Saying.{constant_test}
-use Rattle.civl_formulas.proofs.Listing.{sorts_stay, said_stay}
+use Rattle.civl_states.proofs.formula_parts.Saying.{constant_test}
+use Rattle.civl_states.proofs.formula_parts.Listing.{sorts_stay, said_stay}
 use Rattle.civl_refine.proofs.Judging.{plain_is, said_where}
 use Rattle.civl_refine.proofs.steady.plain_note.Goals as goal
 

@@ -6,8 +6,8 @@ use Rattle.civl_tree.specs.rules.Uses.{param_sorts}
 use Rattle.civl_meaning.specs.Config.{frame_sorts}
 use Rattle.civl_meaning.specs.Change.{outs_in}
 use Rattle.civl_actions.specs.Scopes.{AreOf}
-use Rattle.civl_formulas.specs.Said.{Env, IsTest}
-use Rattle.civl_formulas.specs.Lists.{AreSaid}
+use Rattle.civl_states.specs.formula_parts.Said.{Env, IsTest}
+use Rattle.civl_states.specs.formula_parts.Lists.{AreSaid}
 use Rattle.civl_states.specs.declared.notes.View.{View}
 use Rattle.civl_states.specs.Stores.{AreGlobals, AreStore}
 use Rattle.civl_states.specs.Notes.{AreSeen}

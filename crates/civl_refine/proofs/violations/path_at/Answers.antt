@@ -2,13 +2,13 @@ use Rattle.std.specs.Prelude.{length, map, List, [], if◌then◌else◌}
 use Rattle.std.proofs.Common.{◌∙◌, ℕ, ◌+◌, ◌*◌, ◌≤◌, sym, ap, subst, arith}
 use Rattle.civl_terms.proofs.Growing.{lengthens_trans, lengthened}
 use Rattle.civl_terms.specs.Weights.{graph_weight}
-use Rattle.civl_paths.specs.Ends.{is_rank_loop}
+use Rattle.civl_conditions.specs.paths.Ends.{is_rank_loop}
 use Rattle.civl_conditions.specs.Parts.{path_fails}
 use Rattle.civl_conditions.specs.Values.{Begun, begun}
-use Rattle.civl_formulas.specs.Said.{Env}
+use Rattle.civl_states.specs.formula_parts.Said.{Env}
 use Rattle.civl_conditions.specs.Weights.{base_weight, part_weight, summed}
-use Rattle.civl_formulas.specs.Given.{given, AreVariablesOf}
-use Rattle.civl_formulas.proofs.Giving.{variables_kept}
+use Rattle.civl_states.specs.formula_parts.Given.{given, AreVariablesOf}
+use Rattle.civl_states.proofs.formula_parts.Giving.{variables_kept}
 use Rattle.civl_states.proofs.Formulas.{formula_of}
 use Rattle.civl_states.proofs.Given.{stand_first}
 use Rattle.civl_states.proofs.Limits.{AreSorts}

@@ -2,9 +2,9 @@ use Rattle.std.proofs.Common.{◌∙◌, arith}
 use Rattle.civl_terms.proofs.Growing.{lengthens_trans, lengthened}
 use Rattle.civl_layers.specs.Cuts.{proc_cuts}
 use Rattle.civl_conditions.specs.Values.{Begun, begun}
-use Rattle.civl_formulas.specs.Said.{Env}
-use Rattle.civl_formulas.specs.Given.{given}
-use Rattle.civl_formulas.proofs.Giving.{variables_kept}
+use Rattle.civl_states.specs.formula_parts.Said.{Env}
+use Rattle.civl_states.specs.formula_parts.Given.{given}
+use Rattle.civl_states.proofs.formula_parts.Giving.{variables_kept}
 use Rattle.civl_refine.proofs.Assuming.{begin_stays, begun_stays}
 use Rattle.civl_refine.proofs.Cutting.{cut_among, statements_few, refines_some}
 use Rattle.civl_refine.proofs.walking.walk_from.Goals as goal

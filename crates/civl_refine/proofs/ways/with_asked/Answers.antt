@@ -2,7 +2,7 @@ use Rattle.std.specs.Prelude.{Option, not, ◌||◌, ℕ}
 use Rattle.std.proofs.Common.{subst}
 use Rattle.civl_tree.specs.declared.expr.Sort.TheVariants.{Bool as Truth}
 use Rattle.civl_terms.proofs.Growing.{grows_trans}
-use Rattle.civl_formulas.proofs.Saying.{sort_stays, test_stays}
+use Rattle.civl_states.proofs.formula_parts.Saying.{sort_stays, test_stays}
 use Rattle.civl_refine.specs.Judging.{Asks}
 use Rattle.civl_refine.proofs.ways.with_asked.Goals as goal
 

@@ -2,9 +2,9 @@ use Rattle.std.specs.Prelude.{Bool, not, ◌||◌, ◌&&◌}
 use Rattle.std.proofs.Common.{ap}
 use Rattle.civl_tree.specs.declared.expr.Sort.TheVariants.{Bool as Truth}
 use Rattle.civl_terms.proofs.Growing.{grows_trans}
-use Rattle.civl_paths.specs.Paths.{Progress, progress_of}
-use Rattle.civl_formulas.specs.Said.{Env}
-use Rattle.civl_formulas.proofs.Saying.{sort_stays, test_stays, test_where}
+use Rattle.civl_conditions.specs.paths.Paths.{Progress, progress_of}
+use Rattle.civl_states.specs.formula_parts.Said.{Env}
+use Rattle.civl_states.proofs.formula_parts.Saying.{sort_stays, test_stays, test_where}
 use Rattle.civl_body.specs.Walks.{ends_at}
 use Rattle.civl_refine.specs.Judging.{fails_at}
 use Rattle.civl_refine.proofs.Taking.{said_state, is_at, state_is, taken_same}

@@ -2,7 +2,7 @@ use Rattle.std.specs.Prelude.{◌&&◌}
 use Rattle.std.proofs.Common.{◌∙◌, sym, subst, arith}
 use Rattle.std.proofs.lemmas.List.Elements.{All-get_or}
 use Rattle.civl_terms.proofs.Growing.{grows_trans}
-use Rattle.civl_formulas.proofs.Saying.{test_as}
+use Rattle.civl_states.proofs.formula_parts.Saying.{test_as}
 use Rattle.civl_conditions.specs.Weights.{part_weight}
 use Rattle.civl_body.specs.Walks.{IsWay, CanTake}
 use Rattle.civl_refine.specs.Ways.{kept_by}

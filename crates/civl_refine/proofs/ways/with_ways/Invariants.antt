@@ -4,10 +4,10 @@ use Rattle.civl_tree.specs.declared.expr.Sort.TheVariants.{Bool as Truth}
 use Rattle.civl_terms.specs.Graphs.{sort_at}
 use Rattle.civl_terms.specs.Building.{Grows}
 use Rattle.civl_terms.specs.Weights.{graph_weight}
-use Rattle.civl_paths.specs.Paths.{Outcome}
+use Rattle.civl_conditions.specs.paths.Paths.{Outcome}
 use Rattle.civl_conditions.specs.Values.{Begun}
 use Rattle.civl_conditions.specs.Weights.{part_weight, summed}
-use Rattle.civl_formulas.specs.Said.{Env, IsTest}
+use Rattle.civl_states.specs.formula_parts.Said.{Env, IsTest}
 use Rattle.civl_states.specs.Beginnings.{AreBegun}
 use Rattle.civl_body.specs.Walks.{IsWay}
 use Rattle.civl_refine.specs.Ways.{kept_by}

@@ -1,6 +1,6 @@
 use Rattle.std.proofs.Common.{IsTrue, subst, ap, sym, ◌∙◌}
 use Rattle.std.proofs.lemmas.Bool.{true≢false}
-use Rattle.civl_values.specs.Values.{is_of}
+use Rattle.civl_firing.specs.values.Values.{is_of}
 use Rattle.civl_script.proofs.One.{one_value}
 use Rattle.civl_script.proofs.schedule.entry_value.Goals as goal
 

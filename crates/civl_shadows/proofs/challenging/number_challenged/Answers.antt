@@ -2,7 +2,7 @@ use Rattle.std.proofs.Common.{◌≡◌, ◌∙◌, List, Bool, true, not, Some,
 use Rattle.std.proofs.lemmas.Option.{slice_get_read}
 use Rattle.civl_bits.specs.declared.value.Value.{Value}
 use Rattle.civl_tree.specs.declared.program.Proc.{Proc}
-use Rattle.civl_blocks.specs.Challenged.{allows}
+use Rattle.civl_reduction.specs.blocks.Challenged.{allows}
 use Rattle.civl_shadows.proofs.Calls.{runs_so}
 use Rattle.civl_shadows.proofs.challenging.number_challenged.Goals as goal
 

@@ -3,7 +3,7 @@ use Rattle.civl_tree.specs.declared.action.Action.{Action}
 use Rattle.civl_tree.specs.declared.program.Refines.{Refines}
 use Rattle.civl_meaning.specs.Meaning.{meaning_of_action, refined}
 use Rattle.civl_meaning.proofs.Calling.{action_there, no_action}
-use Rattle.civl_paths.specs.Choices.{action_meant}
+use Rattle.civl_conditions.specs.paths.Choices.{action_meant}
 use Rattle.civl_shadows.proofs.challenging.refined_action.Goals as goal
 
 pub returns-then-at-actions : goal.returns-then-at-actions

@@ -1,5 +1,5 @@
 use Rattle.std.proofs.Common.{◌≡◌, drop}
-use Rattle.civl_blocks.specs.Challenged.{some_challenged}
+use Rattle.civl_reduction.specs.blocks.Challenged.{some_challenged}
 use Rattle.civl_shadows.specs.Shadows.{done_in}
 use Rattle.civl_shadows.proofs.challenging.some_challenged.Given as goal
 

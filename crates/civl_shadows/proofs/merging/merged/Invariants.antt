@@ -1,5 +1,5 @@
 use Rattle.std.proofs.Common.{◌≡◌, ◌+◌, ◌++◌, drop}
-use Rattle.civl_blocks.specs.Shadow.{merged_values}
+use Rattle.civl_reduction.specs.blocks.Shadow.{merged_values}
 use Rattle.civl_shadows.proofs.merging.merged.Given as goal
 
 abbrev pub invariant-loop-at : goal.invariant-loop-at

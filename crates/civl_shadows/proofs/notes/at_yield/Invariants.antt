@@ -1,5 +1,5 @@
 use Rattle.std.proofs.Common.{◌≡◌, drop}
-use Rattle.civl_blocks.specs.Blocks.{at_yield}
+use Rattle.civl_reduction.specs.blocks.Blocks.{at_yield}
 use Rattle.civl_shadows.specs.Rests.{rest_of}
 use Rattle.civl_shadows.proofs.notes.at_yield.Given as goal
 

@@ -1,5 +1,5 @@
 use Rattle.std.proofs.Common.{◌≡◌, drop}
-use Rattle.civl_blocks.specs.Shadow.{glided}
+use Rattle.civl_reduction.specs.blocks.Shadow.{glided}
 use Rattle.civl_shadows.specs.Notes.{noted, progress_of}
 use Rattle.civl_shadows.specs.Rests.{rest_of}
 use Rattle.civl_shadows.proofs.notes.glide.Given as goal

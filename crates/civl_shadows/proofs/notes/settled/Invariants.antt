@@ -1,5 +1,5 @@
 use Rattle.std.proofs.Common.{◌≡◌, drop}
-use Rattle.civl_blocks.specs.Cuts.{settled}
+use Rattle.civl_reduction.specs.blocks.Cuts.{settled}
 use Rattle.civl_shadows.specs.Rests.{rest_of}
 use Rattle.civl_shadows.proofs.notes.settled.Given as goal
 

@@ -1,7 +1,7 @@
 use Rattle.std.proofs.Common.{◌≡◌, ◌+◌, ◌∙◌, List, ap, subst}
 use Rattle.civl_meaning.specs.declared.config.Running.{Running}
-use Rattle.civl_blocks.specs.Cuts.{frame_at}
-use Rattle.civl_blocks.specs.Shadow.{after_frame}
+use Rattle.civl_reduction.specs.blocks.Cuts.{frame_at}
+use Rattle.civl_reduction.specs.blocks.Shadow.{after_frame}
 use Rattle.civl_shadows.specs.Frames.{framed_of}
 use Rattle.civl_shadows.specs.Shadows.{IsShadow}
 use Rattle.civl_shadows.specs.Stepping.{with_effect, begun_by}

@@ -1,7 +1,7 @@
 use Rattle.std.proofs.Common.{arith}
 use Rattle.civl_terms.proofs.Growing.{lengthens_trans}
 use Rattle.civl_conditions.specs.Values.{layout}
-use Rattle.civl_formulas.proofs.Listing.{said_after}
+use Rattle.civl_states.proofs.formula_parts.Listing.{said_after}
 use Rattle.civl_states.proofs.Limits.{globals_few, proc_few}
 use Rattle.civl_states.proofs.Starting.{groups_stand, are_begun, can_begin, test_after, inner_limits, path_bits}
 use Rattle.civl_states.proofs.beginning.begin.Goals as goal

@@ -7,7 +7,7 @@ use Rattle.civl_tree.specs.Numbering.{statements_of}
 use Rattle.civl_layers.specs.Cuts.{proc_cuts}
 use Rattle.civl_bodies.specs.Bodies.{ArePassed}
 use Rattle.civl_conditions.specs.Variables.{passed_choices}
-use Rattle.civl_formulas.specs.Given.{bits_of_sorts}
+use Rattle.civl_states.specs.formula_parts.Given.{bits_of_sorts}
 use Rattle.civl_states.specs.declared.choices.Chosen.{Chosen}
 use Rattle.civl_states.specs.Groups.{StandFrom}
 use Rattle.civl_states.specs.Laying.{call_sorts, with_some, AreChosen}

@@ -2,7 +2,7 @@ use Rattle.std.specs.Prelude.{◌≡◌, ◌+◌, ◌≤◌, map, drop, take}
 use Rattle.civl_terms.specs.Building.{Lengthens}
 use Rattle.civl_terms.specs.Weights.{graph_weight}
 use Rattle.civl_conditions.specs.Values.{choices_count}
-use Rattle.civl_formulas.specs.Given.{bits_of_sorts, AreVariablesOf}
+use Rattle.civl_states.specs.formula_parts.Given.{bits_of_sorts, AreVariablesOf}
 use Rattle.civl_states.specs.Groups.{StandFrom}
 use Rattle.civl_states.specs.Laying.{calls_at, call_sorts, with_some, AreChosen}
 use Rattle.civl_states.proofs.beginning_choices.choices_from.Given as goal

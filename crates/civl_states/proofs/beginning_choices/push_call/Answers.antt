@@ -2,8 +2,8 @@ use Rattle.std.specs.Prelude.{map}
 use Rattle.std.proofs.Common.{◌<◌, ℕ, length, subst, arith}
 use Rattle.std.proofs.lemmas.List.{length-map}
 use Rattle.civl_tree.specs.declared.action.Choice.{Choice}
-use Rattle.civl_formulas.specs.Given.{given}
-use Rattle.civl_formulas.specs.Lists.{AreSaid}
+use Rattle.civl_states.specs.formula_parts.Given.{given}
+use Rattle.civl_states.specs.formula_parts.Lists.{AreSaid}
 use Rattle.civl_states.proofs.Given.{stand_within, given_group, group_bits}
 use Rattle.civl_states.proofs.Calling.{choose_one}
 use Rattle.civl_states.proofs.beginning_choices.push_call.Goals as goal

@@ -1,5 +1,5 @@
 use Rattle.civl_terms.proofs.Growing.{lengthens_trans}
-use Rattle.civl_formulas.proofs.Listing.{said_after}
+use Rattle.civl_states.proofs.formula_parts.Listing.{said_after}
 use Rattle.civl_states.proofs.Starting.{test_after}
 use Rattle.civl_states.proofs.beginning_frames.begin_frame.Goals as goal
 

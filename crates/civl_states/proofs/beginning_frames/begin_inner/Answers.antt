@@ -1,11 +1,11 @@
 use Rattle.std.specs.Prelude.{not, length, List, ℕ, map}
 use Rattle.std.proofs.Common.{◌≡◌, ◌∙◌, sym, ap, subst, arith, ◌+◌, ◌++◌}
 use Rattle.civl_tree.specs.declared.expr.Sort.{Sort}
-use Rattle.civl_values.specs.Values.{zero_of}
+use Rattle.civl_firing.specs.values.Values.{zero_of}
 use Rattle.civl_firing.specs.Scope.{zeros_of_params, zeros_of_locals}
-use Rattle.civl_paths.specs.Ends.{is_entry}
-use Rattle.civl_formulas.specs.Lists.{AreSaid}
-use Rattle.civl_formulas.specs.Given.{given, bits_of_sorts}
+use Rattle.civl_conditions.specs.paths.Ends.{is_entry}
+use Rattle.civl_states.specs.formula_parts.Lists.{AreSaid}
+use Rattle.civl_states.specs.formula_parts.Given.{given, bits_of_sorts}
 use Rattle.civl_states.specs.Laying.{sorts_where, inner_sorts}
 use Rattle.civl_states.proofs.Given.{stand_within, given_group, group_bits}
 use Rattle.civl_states.proofs.Laying.{where_there, said_then, said_else, inner_zeros, inner_long}

@@ -4,9 +4,9 @@ use Rattle.std.proofs.lemmas.List.{length-map}
 use Rattle.civl_tree.specs.rules.Uses.{param_sorts}
 use Rattle.civl_meaning.specs.Config.{frame_sorts}
 use Rattle.civl_terms.proofs.Growing.{lengthens_trans}
-use Rattle.civl_formulas.specs.Lists.{AreSaid}
-use Rattle.civl_formulas.specs.Given.{given}
-use Rattle.civl_formulas.proofs.Listing.{said_more}
+use Rattle.civl_states.specs.formula_parts.Lists.{AreSaid}
+use Rattle.civl_states.specs.formula_parts.Given.{given}
+use Rattle.civl_states.proofs.formula_parts.Listing.{said_more}
 use Rattle.civl_states.specs.Laying.{inner_sorts, inner_values, begun_locals}
 use Rattle.civl_states.proofs.Given.{stand_within, given_group, group_bits}
 use Rattle.civl_states.proofs.beginning_frames.begin_locals.Goals as goal

@@ -1,6 +1,6 @@
 use Rattle.civl_tree.specs.declared.expr.Sort.TheVariants.{Bool as Truth}
 use Rattle.std.specs.Prelude.{[]}
-use Rattle.civl_formulas.proofs.Giving.{free_in, variables_stay}
+use Rattle.civl_states.proofs.formula_parts.Giving.{free_in, variables_stay}
 use Rattle.civl_states.proofs.Laying.{stand_here, flag_said}
 use Rattle.civl_states.proofs.beginning_frames.flag.Goals as goal
 

@@ -1,8 +1,8 @@
 use Rattle.std.specs.Prelude.{◌≤◌, map, take}
-use Rattle.civl_values.specs.Values.{zero_of}
+use Rattle.civl_firing.specs.values.Values.{zero_of}
 use Rattle.civl_terms.specs.Building.{Grows}
 use Rattle.civl_terms.specs.Weights.{graph_weight}
-use Rattle.civl_formulas.specs.Lists.{AreSaid}
+use Rattle.civl_states.specs.formula_parts.Lists.{AreSaid}
 use Rattle.civl_states.proofs.beginning_frames.zeros.Given as goal
 
 abbrev pub invariant-loop-sort : goal.invariant-loop-sort

@@ -1,5 +1,5 @@
 use Rattle.std.proofs.Common.{arith}
-use Rattle.civl_paths.specs.Seen.{exists_near}
+use Rattle.civl_conditions.specs.paths.Seen.{exists_near}
 use Rattle.civl_states.proofs.Laying.{few_pass}
 use Rattle.civl_states.proofs.beginning_places.near_count.Goals as goal
 

@@ -1,5 +1,5 @@
 use Rattle.std.proofs.Common.{◌∙◌, sym, ap, ap₂, arith}
-use Rattle.civl_footprints.specs.Agreement.{exists_at}
+use Rattle.civl_conditions.specs.footprints.Agreement.{exists_at}
 use Rattle.civl_states.specs.Items.{picked}
 use Rattle.civl_states.proofs.Picking.{picked_kept, picked_passed, picked_end}
 use Rattle.civl_states.proofs.globals.existing.Goals as goal

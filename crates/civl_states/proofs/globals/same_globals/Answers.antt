@@ -1,8 +1,8 @@
 use Rattle.std.specs.Prelude.{◌+◌, ℕ, List, length}
 use Rattle.std.proofs.Common.{◌∙◌, sym, ap, subst, arith}
-use Rattle.civl_footprints.specs.Agreement.{exists_at}
-use Rattle.civl_formulas.specs.Said.{IsTest}
-use Rattle.civl_formulas.specs.Lists.{AreAlike, bits_at}
+use Rattle.civl_conditions.specs.footprints.Agreement.{exists_at}
+use Rattle.civl_states.specs.formula_parts.Said.{IsTest}
+use Rattle.civl_states.specs.formula_parts.Lists.{AreAlike, bits_at}
 use Rattle.civl_actions.specs.Actions.{values_at}
 use Rattle.civl_conditions.specs.Values.{same_values}
 use Rattle.civl_states.specs.Items.{picked}

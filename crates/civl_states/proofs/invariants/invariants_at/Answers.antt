@@ -9,8 +9,8 @@ use Rattle.civl_tree.specs.declared.program.Invariant.{Invariant}
 use Rattle.civl_terms.specs.declared.node.Node.{Node}
 use Rattle.civl_terms.proofs.Growing.{grows_trans}
 use Rattle.civl_conditions.specs.Invariants.{holds_of_globals}
-use Rattle.civl_formulas.specs.Said.{IsTest}
-use Rattle.civl_formulas.proofs.Listing.{sorts_stay}
+use Rattle.civl_states.specs.formula_parts.Said.{IsTest}
+use Rattle.civl_states.proofs.formula_parts.Listing.{sorts_stay}
 use Rattle.civl_states.proofs.Typed.{invariant_typed}
 use Rattle.civl_states.proofs.Stepping.{of_step, HoldSo, hold_more, step_more, step_same}
 use Rattle.civl_states.proofs.invariants.invariants_at.Goals as goal

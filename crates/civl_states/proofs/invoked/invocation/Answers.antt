@@ -1,8 +1,8 @@
 use Rattle.std.specs.Prelude.{◌+◌, ℕ, length}
 use Rattle.std.proofs.Common.{◌∙◌, ap, ap₂, arith}
 use Rattle.civl_terms.proofs.Growing.{lengthens_trans}
-use Rattle.civl_formulas.specs.Given.{bits_of_sorts, sorts_from}
-use Rattle.civl_formulas.proofs.Giving.{bits-append}
+use Rattle.civl_states.specs.formula_parts.Given.{bits_of_sorts, sorts_from}
+use Rattle.civl_states.proofs.formula_parts.Giving.{bits-append}
 use Rattle.civl_states.specs.Stores.{choice_sorts}
 use Rattle.civl_states.specs.Runs.{param_sorts}
 use Rattle.civl_states.proofs.Limits.{action_few}

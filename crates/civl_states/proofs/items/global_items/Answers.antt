@@ -6,7 +6,7 @@ use Rattle.civl_terms.specs.Weights.{graph_weight}
 use Rattle.civl_actions.specs.Actions.{values_at}
 use Rattle.civl_meaning.specs.Permissions.{permissions_of_global}
 use Rattle.civl_conditions.specs.Permissions.{in_store}
-use Rattle.civl_formulas.proofs.Carrying.{carried_as}
+use Rattle.civl_states.proofs.formula_parts.Carrying.{carried_as}
 use Rattle.civl_states.specs.Items.{HasItems, items_weight}
 use Rattle.civl_states.proofs.Picking.{picked_sorted, kept_items, kept_long, of_globals_is, global_sorted}
 use Rattle.civl_states.proofs.items.global_items.Goals as goal

@@ -1,8 +1,8 @@
 use Rattle.std.specs.Prelude.{◌^◌}
 use Rattle.std.proofs.Common.{◌++◌, sym, subst}
 use Rattle.civl_meaning.specs.Permissions.{of_params}
-use Rattle.civl_formulas.specs.Lists.{AreSaid}
-use Rattle.civl_formulas.specs.Masks.{AreCarried}
+use Rattle.civl_states.specs.formula_parts.Lists.{AreSaid}
+use Rattle.civl_states.specs.formula_parts.Masks.{AreCarried}
 use Rattle.civl_states.specs.Runs.{param_sorts}
 use Rattle.civl_states.proofs.Picking.{same_some, action_wide}
 use Rattle.civl_states.proofs.items.input_items.Goals as goal

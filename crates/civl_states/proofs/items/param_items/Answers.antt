@@ -5,7 +5,7 @@ use Rattle.civl_terms.specs.Graphs.{sort_at}
 use Rattle.civl_terms.specs.Weights.{graph_weight}
 use Rattle.civl_actions.specs.Actions.{values_at}
 use Rattle.civl_meaning.specs.Permissions.{permissions_of_word}
-use Rattle.civl_formulas.proofs.Carrying.{carried_as}
+use Rattle.civl_states.proofs.formula_parts.Carrying.{carried_as}
 use Rattle.civl_states.specs.Items.{is_which, of_which, HasItems, items_weight}
 use Rattle.civl_states.proofs.Picking.{picked_sorted, kept_items, kept_long, of_which_is, params_sorted, permissions_few}
 use Rattle.civl_states.proofs.items.param_items.Goals as goal

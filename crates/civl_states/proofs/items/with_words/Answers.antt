@@ -6,8 +6,8 @@ use Rattle.civl_terms.specs.Weights.{graph_weight}
 use Rattle.civl_terms.proofs.Growing.{grows_trans, grows_same}
 use Rattle.civl_actions.specs.Actions.{values_at}
 use Rattle.civl_meaning.specs.Permissions.{permissions_of_word}
-use Rattle.civl_formulas.specs.Masks.{AreCarried}
-use Rattle.civl_formulas.proofs.Saying.{sort_stays}
+use Rattle.civl_states.specs.formula_parts.Masks.{AreCarried}
+use Rattle.civl_states.proofs.formula_parts.Saying.{sort_stays}
 use Rattle.civl_states.specs.Items.{HasItems, items_weight}
 use Rattle.civl_states.proofs.Picking.{items_step, items_begin, mask_next, weight_begin, weight_next}
 use Rattle.civl_states.proofs.items.with_words.Goals as goal

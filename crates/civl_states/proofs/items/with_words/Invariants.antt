@@ -3,8 +3,8 @@ use Rattle.civl_meaning.specs.Permissions.{permissions_of_word}
 use Rattle.civl_terms.specs.Building.{Grows}
 use Rattle.civl_terms.specs.Weights.{graph_weight}
 use Rattle.civl_actions.specs.Actions.{values_at}
-use Rattle.civl_formulas.specs.Said.{Env}
-use Rattle.civl_formulas.specs.Masks.{AreCarried, CanCarry}
+use Rattle.civl_states.specs.formula_parts.Said.{Env}
+use Rattle.civl_states.specs.formula_parts.Masks.{AreCarried, CanCarry}
 use Rattle.civl_states.specs.Items.{HasItems, items_weight}
 use Rattle.civl_states.proofs.items.with_words.Given as goal
 

@@ -1,7 +1,7 @@
 use Rattle.std.proofs.Common.{refl, false, arith}
 use Rattle.civl_tree.specs.rules.Scopes.{global_scope}
 use Rattle.civl_actions.specs.declared.scope.Scope.{Scope}
-use Rattle.civl_formulas.proofs.Saying.{constant_test}
+use Rattle.civl_states.proofs.formula_parts.Saying.{constant_test}
 use Rattle.civl_states.proofs.Noting.{global_fits, global_meant, said_of, test_of}
 use Rattle.civl_states.proofs.notes.global_note.Goals as goal
 

@@ -2,7 +2,7 @@ use Rattle.std.proofs.Common.{◌∙◌, refl, sym, subst, arith}
 use Rattle.std.specs.Prelude.{slice_index_or, IsTrue}
 use Rattle.std.proofs.lemmas.List.Elements.{All-get_or}
 use Rattle.civl_tree.specs.declared.program.Global.{Global}
-use Rattle.civl_values.specs.Values.{is_sort}
+use Rattle.civl_firing.specs.values.Values.{is_sort}
 use Rattle.civl_terms.proofs.Growing.{grows_trans, grows_same}
 use Rattle.civl_states.specs.Existing.{passes}
 use Rattle.civl_states.proofs.Spreading.{spread_zero, spread_given, spread_end, zero_sorted}

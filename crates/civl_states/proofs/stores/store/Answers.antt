@@ -2,12 +2,12 @@ use Rattle.std.specs.Prelude.{map, filter, All, IsTrue, length}
 use Rattle.std.proofs.Common.{◌∙◌, ℕ, List, sym, ap, subst, arith}
 use Rattle.std.proofs.lemmas.List.{length-map}
 use Rattle.civl_tree.specs.declared.program.Global.{Global}
-use Rattle.civl_values.specs.Values.{is_sort}
+use Rattle.civl_firing.specs.values.Values.{is_sort}
 use Rattle.civl_terms.proofs.Growing.{lengthens_trans, lengthened}
 use Rattle.civl_actions.specs.Scopes.{AreOf}
 use Rattle.civl_actions.specs.Actions.{values_at}
-use Rattle.civl_formulas.specs.Lists.{AreSaid}
-use Rattle.civl_formulas.specs.Given.{given, bits_of_sorts}
+use Rattle.civl_states.specs.formula_parts.Lists.{AreSaid}
+use Rattle.civl_states.specs.formula_parts.Given.{given, bits_of_sorts}
 use Rattle.civl_conditions.specs.Values.{spread}
 use Rattle.civl_states.specs.Existing.{passes, existing_sorts}
 use Rattle.civl_states.proofs.Given.{stand_within, stand_counted}

@@ -1,7 +1,7 @@
 use Rattle.std.proofs.Common.{arith, sym, ◌∙◌, [], filter}
 use Rattle.std.specs.Prelude.{if◌then◌else◌}
 use Rattle.civl_tree.specs.rules.StoreSize.{bits_of}
-use Rattle.civl_footprints.specs.Agreement.{exists_at}
+use Rattle.civl_conditions.specs.footprints.Agreement.{exists_at}
 use Rattle.civl_weighing.proofs.Capping.{weighs_same}
 use Rattle.civl_conditions.specs.Variables.{variable}
 use Rattle.civl_weighing.proofs.Summing.{one_more, kept, bits_mapped, whole}

@@ -3,7 +3,7 @@ use Rattle.civl_conditions.specs.Weights.{summed}
 use Rattle.civl_weighing.specs.Weighing.{Weighs}
 use Rattle.std.specs.Prelude.{if◌then◌else◌}
 use Rattle.civl_tree.specs.rules.StoreSize.{bits_of}
-use Rattle.civl_paths.specs.Seen.{exists_near}
+use Rattle.civl_conditions.specs.paths.Seen.{exists_near}
 use Rattle.civl_weighing.proofs.bits.globals_near.Given as goal
 
 abbrev pub invariant-loop-global : goal.invariant-loop-global

@@ -1,5 +1,5 @@
 use Rattle.std.proofs.Common.{◌≡◌, ℕ, ◌*◌, rules}
-use Rattle.civl_values.specs.Weights.{two_weight}
+use Rattle.civl_firing.specs.values.Weights.{two_weight}
 use Rattle.civl_weighing.proofs.Capping.{weighing, weighs_same}
 use Rattle.civl_weighing.proofs.exprs.two_own.Goals as goal
 

@@ -1,6 +1,6 @@
 use Rattle.std.proofs.Common.{arith}
 use Rattle.civl_types.specs.Views.{scope_of}
-use Rattle.civl_values.specs.Weights.{weight_of}
+use Rattle.civl_firing.specs.values.Weights.{weight_of}
 use Rattle.civl_weighing.proofs.Summing.{one_more}
 use Rattle.civl_weighing.proofs.exprs.weights_of.Goals as goal
 

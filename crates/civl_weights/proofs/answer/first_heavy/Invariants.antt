@@ -1,7 +1,7 @@
 use Rattle.std.proofs.Common.{◌≡◌, drop, nat_lt}
 use Rattle.std.specs.List.{find}
 use Rattle.civl_conditions.specs.Weights.{weight_limit, weight}
-use Rattle.civl_sums.specs.Sums.{OfStep}
+use Rattle.civl_weights.specs.sums.Sums.{OfStep}
 use Rattle.civl_weights.proofs.answer.first_heavy.Given as goal
 
 abbrev pub invariant-loop-condition : goal.invariant-loop-condition

@@ -2,9 +2,9 @@ use Rattle.std.proofs.Common.{◌+◌, ◌++◌, subst, Option}
 use Rattle.civl_tree.specs.declared.program.Program.{Program}
 use Rattle.civl_conditions.specs.Variables.{path_variables, other_variables}
 use Rattle.civl_conditions.specs.Weights.{bits_of_variables, block_weight}
-use Rattle.civl_sums.specs.declared.cuts.CutSums.{CutSums}
+use Rattle.civl_weights.specs.declared.sums.cuts.CutSums.{CutSums}
 use Rattle.civl_weights.specs.Kinds.{OfCutFound, IsBlock}
-use Rattle.civl_sums.specs.Tables.{OfTarget}
+use Rattle.civl_weights.specs.sums.Tables.{OfTarget}
 use Rattle.civl_weighing.proofs.Capping.{weighs_same}
 use Rattle.civl_weights.proofs.Finding.{found_cut, lost_cut, block_is}
 use Rattle.civl_weights.proofs.kinds.block.Goals as goal

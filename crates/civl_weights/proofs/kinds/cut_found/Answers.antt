@@ -1,9 +1,9 @@
 use Rattle.std.proofs.Common.{ℕ, Some, None, ap, sym, ◌∙◌, subst}
 use Rattle.civl_tree.specs.declared.program.Program.{Program}
 use Rattle.civl_layers.specs.Cuts.{proc_cuts}
-use Rattle.civl_sums.specs.Sums.{OfCuts}
-use Rattle.civl_sums.specs.Tables.{OfProc}
-use Rattle.civl_sums.proofs.Acting.{zip_none}
+use Rattle.civl_weights.specs.sums.Sums.{OfCuts}
+use Rattle.civl_weights.specs.sums.Tables.{OfProc}
+use Rattle.civl_weights.proofs.sums.Acting.{zip_none}
 use Rattle.civl_weighing.proofs.Listing.{got_of}
 use Rattle.civl_weights.proofs.Finding.{proc_sums_at, cut_there, no_proc}
 use Rattle.civl_weights.proofs.kinds.cut_found.Goals as goal

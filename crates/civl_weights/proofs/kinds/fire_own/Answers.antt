@@ -1,6 +1,6 @@
 use Rattle.std.proofs.Common.{Some, None, refl}
 use Rattle.std.proofs.Common.{◌+◌}
-use Rattle.civl_values.specs.ActionWeights.{gate_weight, guard_weight, offers_weight}
+use Rattle.civl_firing.specs.values.ActionWeights.{gate_weight, guard_weight, offers_weight}
 use Rattle.civl_weighing.proofs.Capping.{sum_weighs}
 use Rattle.civl_weighing.proofs.Listing.{got_of}
 use Rattle.civl_weights.proofs.Finding.{action_there, action_none}

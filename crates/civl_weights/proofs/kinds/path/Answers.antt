@@ -1,7 +1,7 @@
 use Rattle.std.proofs.Common.{◌+◌, subst, Option}
 use Rattle.civl_conditions.specs.Variables.{path_variables}
 use Rattle.civl_conditions.specs.Weights.{bits_of_variables, path_weight}
-use Rattle.civl_sums.specs.declared.cuts.CutSums.{CutSums}
+use Rattle.civl_weights.specs.declared.sums.cuts.CutSums.{CutSums}
 use Rattle.civl_weights.specs.Kinds.{OfCutFound}
 use Rattle.civl_weighing.proofs.Capping.{weighs_same}
 use Rattle.civl_weights.proofs.Finding.{found_cut, lost_cut, path_is}

@@ -1,5 +1,5 @@
 use Rattle.std.proofs.Common.{sym, ◌∙◌}
-use Rattle.civl_walks.proofs.Finding.{next_seen, none_seen, next_noted, none_noted}
+use Rattle.civl_names.proofs.walks.Finding.{next_seen, none_seen, next_noted, none_noted}
 use Rattle.civl_yields.proofs.Listings.{calls_next, calls_noteless, calls_none, call_added, none_added}
 use Rattle.civl_yields.proofs.listing.before_calls.Goals as goal
 use Rattle.civl_yields.proofs.listing.before_calls.Goals.{then-is_call+in_ok-push-in-Some, else-is_call}

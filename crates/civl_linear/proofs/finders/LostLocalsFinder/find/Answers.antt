@@ -1,6 +1,6 @@
 use Rattle.std.proofs.Common.{◌≡◌, map, length, Some, refl, ap, ap₂, sym, ◌∙◌}
 use Rattle.civl_tree.specs.Numbering.{statements_of, exit_number}
-use Rattle.civl_walks.specs.Walks.{numbers_with}
+use Rattle.civl_names.specs.walks.Walks.{numbers_with}
 use Rattle.civl_linear.specs.Held.{covers, exit_owed, traced_proc}
 use Rattle.civl_linear.specs.LinearRules.{is_lost}
 use Rattle.civl_linear.proofs.Judged.{noted_same, found_first, found_last, found_nothing}

@@ -1,4 +1,4 @@
-use Rattle.civl_walks.proofs.Placing.{body_counts}
+use Rattle.civl_names.proofs.walks.Placing.{body_counts}
 use Rattle.civl_names.proofs.procs.SetsFinder.find.Goals as goal
 
 pub first_in_body-requires : goal.first_in_body-requires

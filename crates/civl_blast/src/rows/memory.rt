@@ -1,0 +1,31 @@
+// Want of memory.
+
+use std::alloc::{AllocError, AllocFailed};
+
+/// Memory is wanting.
+#[derive(Clone, Copy, Debug, PartialEq, Eq)]
+pub struct Memory;
+
+impl From<AllocError> for Memory {
+    fn from(_error: AllocError) -> Memory {
+        Memory
+    }
+}
+
+impl<T: Drop> From<AllocFailed<T>> for Memory {
+    fn from(_error: AllocFailed<T>) -> Memory {
+        Memory
+    }
+}
+
+impl From<civl_terms::Memory> for Memory {
+    fn from(_error: civl_terms::Memory) -> Memory {
+        Memory
+    }
+}
+
+impl From<crate::reach::Memory> for Memory {
+    fn from(_error: crate::reach::Memory) -> Memory {
+        Memory
+    }
+}

@@ -1,0 +1,8 @@
+use Rattle.std.specs.Prelude.{slice_get}
+use Rattle.std.proofs.Common.{◌≡◌, ℕ, ◌<◌, Some}
+use Rattle.civl_tree.specs.declared.expr.Sort.{Sort}
+use Rattle.civl_terms.specs.declared.node.Node.TheVariants.{Variable}
+use Rattle.civl_clause_tests.proofs.measuring.is_free.Given as goal
+
+abbrev pub invariant-loop-at : goal.invariant-loop-at
+invariant-loop-at l = (i : ℕ) (t : Sort) → i < l.at → slice_get l.terms i ≡ Some (Variable l.number t) → t ≡ l.sort

@@ -1,0 +1,3 @@
+//! What an expression or an action doesn't name, it neither sees nor changes.
+
+pub mod laws;

@@ -1,5 +1,0 @@
-use Rattle.civl_decide.proofs.Rounds.{first_stays_over}
-use Rattle.civl_decide.proofs.laws.honest_first_stays_over_rounds.Goals as goal
-
-pub returns : goal.returns
-returns g c = first_stays_over _

@@ -1,5 +1,0 @@
-use Rattle.civl_findings.proofs.Surveying as surveying
-use Rattle.civl_findings.proofs.laws.each_program_has_a_survey.Goals as goal
-
-pub returns : goal.returns
-returns c = surveying.each_program_has_a_survey

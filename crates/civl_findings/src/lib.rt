@@ -1,4 +1,0 @@
-//! Laws on what is found of the conditions of a program.
-#![tactic(auto)]
-
-pub mod laws;

@@ -1,4 +1,0 @@
-//! What an expression or an action doesn't name, it neither sees nor changes.
-#![tactic(auto)]
-
-pub mod laws;

@@ -1,5 +1,0 @@
-use Rattle.civl_gathering.proofs.Counting.{split_length}
-use Rattle.civl_gathering.proofs.laws.moves_are_split.Goals as goal
-
-pub returns : goal.returns
-returns c t movers = split_length (λ n. n) t movers

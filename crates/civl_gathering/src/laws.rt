@@ -1,7 +1,0 @@
-//! The laws. Each function computes nothing; its clauses are theorems.
-ghost use Rattle.civl_gathering.specs.Laws.{MovesAreSplit};
-
-/// Each move is of the thread or of another one.
-pub fn moves_are_split()
-    ensures { MovesAreSplit }
-{}

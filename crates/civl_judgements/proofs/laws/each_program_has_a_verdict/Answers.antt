@@ -1,5 +1,0 @@
-use Rattle.civl_judgements.proofs.Judging as judging
-use Rattle.civl_judgements.proofs.laws.each_program_has_a_verdict.Goals as goal
-
-pub returns : goal.returns
-returns c = judging.each_program_has_a_verdict

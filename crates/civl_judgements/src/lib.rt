@@ -1,4 +1,0 @@
-//! Laws of verdicts: each program has one, and those on one program don't speak against each other.
-#![tactic(auto)]
-
-pub mod laws;

@@ -1,7 +1,0 @@
-use Rattle.std.specs.Fmt.{digits}
-use Rattle.std.proofs.Common.{refl}
-use Rattle.civl_models.proofs.laws.texts.Goals as goal
-
-pub returns : goal.returns
-unfolding digits
-returns c = record { yes = refl; not = refl; word = refl; nought = refl; pair = refl; four = refl }

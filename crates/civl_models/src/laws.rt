@@ -1,7 +1,0 @@
-// Laws of the definitions, each the contract of a function that does nothing.
-ghost use Rattle.civl_models.specs.Examples.{Texts};
-
-/// The texts of some values.
-pub fn texts()
-    ensures { Texts }
-{}

@@ -1,8 +1,0 @@
-use Rattle.civl_open_blocks.proofs.Ends.Concluding.{paths_do_not_fail, paths_conclude}
-use Rattle.civl_open_blocks.proofs.laws.block_ends.Goals as goal
-
-pub returns-clause-safe : goal.returns-clause-safe
-returns-clause-safe c = paths_do_not_fail
-
-pub returns-clause-conclude : goal.returns-clause-conclude
-returns-clause-conclude c = paths_conclude

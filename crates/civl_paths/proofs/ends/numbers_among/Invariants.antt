@@ -1,6 +1,0 @@
-use Rattle.std.proofs.Common.{◌≡◌, take, map}
-use Rattle.civl_paths.specs.EndsMet.{number_among}
-use Rattle.civl_paths.proofs.ends.numbers_among.Given as goal
-
-abbrev pub invariant-loop-statement : goal.invariant-loop-statement
-invariant-loop-statement l = l.numbers ≡ map (number_among l.fn.cuts) (take l.statement-index l.statement-items)

@@ -1,5 +1,0 @@
-use Rattle.civl_paths.proofs.Choosing.{rests_read_their_choices}
-use Rattle.civl_paths.proofs.laws.seen.rests_read_their_choices.Goals as goal
-
-pub returns : goal.returns
-returns c = rests_read_their_choices

@@ -1,0 +1,16 @@
+use Rattle.std.proofs.Common.{[], append-nil, arith}
+use Rattle.std.proofs.lemmas.Grind.{common_steps}
+use Rattle.civl_conditions.specs.declared.condition.Variable.{Variable}
+use Rattle.civl_verdicts.specs.reports.Values.{value_line}
+use Rattle.civl_verdicts.proofs.reports.Beside.{beside-drop, beside-past}
+use Rattle.civl_prove.proofs.outline_reports.reports.put_lines.Goals as goal
+
+pub loop-at-preserved : goal.loop-at-preserved
+loop-at-preserved c =
+    let next = beside-drop (λ (v : Variable). value_line [] v.name) c.args.variables.now c.args.values.now c.loop-at.at c.get.result.now c.get-in-loop-at.result.now (omega arith) (omega arith) c.get.ensures c.get-in-loop-at.ensures in
+    grind (arith, common_steps, next)
+
+pub returns : goal.returns
+returns c =
+    let done = beside-past (λ (v : Variable). value_line [] v.name) c.args.variables.now c.args.values.now c.loop-at.at (omega arith) in
+    grind (arith, common_steps, append-nil, done)

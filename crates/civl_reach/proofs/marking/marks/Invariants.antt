@@ -1,6 +1,0 @@
-use Rattle.std.proofs.Common.{◌+◌, ◌-◌}
-use Rattle.civl_reach.specs.Marks.{IsMarking}
-use Rattle.civl_reach.proofs.marking.marks.Given as goal
-
-abbrev pub invariant-loop-done : goal.invariant-loop-done
-invariant-loop-done l = IsMarking l.terms l.id (l.id + 1 - l.done) l.marks.items

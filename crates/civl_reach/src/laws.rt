@@ -1,7 +1,0 @@
-//! Laws of what a term reaches. Each function computes nothing; its clauses are theorems.
-ghost use Rattle.civl_reach.specs.Laws.{ReachedVariablesDecide};
-
-/// A term's value depends on no variable but those that it reaches.
-pub fn reached_variables_decide()
-    ensures { ReachedVariablesDecide }
-{}

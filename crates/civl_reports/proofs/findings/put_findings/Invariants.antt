@@ -1,6 +1,0 @@
-use Rattle.std.proofs.Common.{◌≡◌, ◌++◌, drop}
-use Rattle.civl_reports.specs.Findings.{findings_lines}
-use Rattle.civl_reports.proofs.findings.put_findings.Given as goal
-
-abbrev pub invariant-loop-at : goal.invariant-loop-at
-invariant-loop-at l = l.out.items ++ findings_lines l.src l.budget (drop l.at l.conditions) (drop l.at l.findings) ≡ l.initial.out.items ++ findings_lines l.src l.budget l.conditions l.findings

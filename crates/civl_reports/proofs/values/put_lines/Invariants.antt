@@ -1,6 +1,0 @@
-use Rattle.std.proofs.Common.{◌≡◌, ◌++◌, drop}
-use Rattle.civl_reports.specs.Values.{value_lines}
-use Rattle.civl_reports.proofs.values.put_lines.Given as goal
-
-abbrev pub invariant-loop-at : goal.invariant-loop-at
-invariant-loop-at l = l.out.items ++ value_lines l.indentation (drop l.at l.variables) (drop l.at l.values) ≡ l.initial.out.items ++ value_lines l.indentation l.variables l.values

@@ -1,7 +1,0 @@
-// Laws of reports, each the contract of a function that does nothing.
-ghost use Rattle.civl_reports.specs.Laws.{NeverAccepts};
-
-/// No report of a survey has a line that begins with `accepted`.
-pub fn surveys_never_accept()
-    ensures { NeverAccepts }
-{}

@@ -1,5 +1,0 @@
-use Rattle.civl_rows.specs.Expanding.{Expands}
-use Rattle.civl_rows.proofs.expand.expand.Given as goal
-
-abbrev pub invariant-loop-cell : goal.invariant-loop-cell
-invariant-loop-cell l = Expands l.fn.terms l.terms l.fn.cells.items l.cells.items l.variable l.index l.width l.cell l.ids.items

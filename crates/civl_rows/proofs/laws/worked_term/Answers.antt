@@ -1,5 +1,0 @@
-use Rattle.civl_rows.proofs.Worked.{worked_reaches, worked_rows, worked_entries}
-use Rattle.civl_rows.proofs.laws.worked_term.Goals as goal
-
-pub returns : goal.returns
-returns c = record { reaches = worked_reaches; rows = worked_rows; entries = worked_entries }

@@ -1,5 +1,0 @@
-use Rattle.civl_simulation.proofs.Preserved.Preserving.{programs_preserve}
-use Rattle.civl_simulation.proofs.laws.accepted_programs_preserve.Goals as goal
-
-pub returns : goal.returns
-returns c = programs_preserve c.accepted_preserve.ensures c.blocks_are_sound.ensures

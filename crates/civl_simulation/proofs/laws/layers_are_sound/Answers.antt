@@ -1,5 +1,0 @@
-use Rattle.civl_simulation.proofs.Followed.Simulating.{layers_sound}
-use Rattle.civl_simulation.proofs.laws.layers_are_sound.Goals as goal
-
-pub returns : goal.returns
-returns c = layers_sound c.checked.ensures.roots c.reduces.ensures

@@ -1,5 +1,0 @@
-use Rattle.civl_simulation.proofs.Preserved.Preserving.{layers_preserve}
-use Rattle.civl_simulation.proofs.laws.layers_preserve.Goals as goal
-
-pub returns : goal.returns
-returns c = layers_preserve c.layers_are_sound.ensures c.blocks_are_sound.ensures

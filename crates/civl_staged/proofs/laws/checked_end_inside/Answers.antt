@@ -1,5 +1,0 @@
-use Rattle.civl_staged.proofs.Reduced.Reducing.{checked_end_inside}
-use Rattle.civl_staged.proofs.laws.checked_end_inside.Goals as goal
-
-pub returns : goal.returns
-returns c = checked_end_inside c.inside.ensures.beside c.open_blocks_are_bounded.ensures

@@ -1,6 +1,0 @@
-use Rattle.std.proofs.Common.{take}
-use Rattle.civl_sums.specs.Sums.{OfCuts}
-use Rattle.civl_sums.proofs.cuts.path_sums.Given as goal
-
-abbrev pub invariant-loop-number : goal.invariant-loop-number
-invariant-loop-number l = OfCuts l.program l.step.step l.proc 0 (take l.number l.items) l.sums

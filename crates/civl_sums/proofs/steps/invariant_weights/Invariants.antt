@@ -1,9 +1,0 @@
-use Rattle.std.proofs.Common.{map, take}
-use Rattle.civl_types.specs.Views.{scope_of}
-use Rattle.civl_values.specs.Weights.{weight_of}
-use Rattle.civl_weighing.specs.Weighing.{AreWeights}
-use Rattle.civl_sums.specs.Sums.{exprs_at}
-use Rattle.civl_sums.proofs.steps.invariant_weights.Given as goal
-
-abbrev pub invariant-loop-invariant : goal.invariant-loop-invariant
-invariant-loop-invariant l = AreWeights l.weights (map (weight_of (scope_of l.view)) (exprs_at l.step (take l.invariant-index l.invariants)))

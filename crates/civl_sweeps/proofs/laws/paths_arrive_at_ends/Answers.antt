@@ -1,5 +1,0 @@
-use Rattle.civl_sweeps.proofs.Arriving.{paths_arrive_at_ends}
-use Rattle.civl_sweeps.proofs.laws.paths_arrive_at_ends.Goals as goal
-
-pub returns : goal.returns
-returns c = paths_arrive_at_ends

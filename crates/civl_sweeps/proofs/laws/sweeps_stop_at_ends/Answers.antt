@@ -1,5 +1,0 @@
-use Rattle.civl_sweeps.proofs.Stopping.{sweeps_stop_at_ends}
-use Rattle.civl_sweeps.proofs.laws.sweeps_stop_at_ends.Goals as goal
-
-pub returns : goal.returns
-returns c = sweeps_stop_at_ends

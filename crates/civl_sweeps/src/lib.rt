@@ -1,4 +1,0 @@
-//! Sweeps: one walk over all branches of a body at once, at values, and that it follows the path.
-#![tactic(auto)]
-
-pub mod laws;

@@ -1,0 +1,3 @@
+//! Laws on what is found of the conditions of a program.
+
+pub mod laws;

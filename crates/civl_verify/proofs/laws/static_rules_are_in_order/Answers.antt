@@ -1,5 +1,0 @@
-use Rattle.civl_verify.proofs.Admitting.{static_in_order}
-use Rattle.civl_verify.proofs.laws.static_rules_are_in_order.Goals as goal
-
-pub returns : goal.returns
-returns c = static_in_order

@@ -1,0 +1,10 @@
+use Rattle.std.proofs.Common.{map, take}
+use Rattle.civl_weighing.specs.Weighing.{AreWeights}
+use Rattle.civl_tree.specs.declared.stmt.Stmt.{out-Stmt}
+use Rattle.civl_meaning.specs.Layers.{program_at}
+use Rattle.civl_conditions.specs.Variables.{layer_choices}
+use Rattle.civl_weighing.specs.Bits.{choices_bits}
+use Rattle.civl_weights.proofs.sums.statements.all_choices.Given as goal
+
+abbrev pub invariant-loop-stmt : goal.invariant-loop-stmt
+invariant-loop-stmt l = AreWeights l.weights (map (λ s. choices_bits (layer_choices (program_at l.program l.layer) (out-Stmt s.now))) (take l.stmt-index l.flat))
