@@ -1,10 +1,10 @@
 -- Restoring division.
 use Rattle.std.specs.Prelude.{nat_eq, nat_le, if◌then◌else◌}
-use Rattle.std.proofs.Common.{◌≡◌, ℕ, zero, suc, ◌+◌, ◌*◌, ◌-◌, ◌/◌, ◌^◌, ◌%◌, ◌<◌, ◌≤◌, List, [], ◌∷◌, ◌++◌, length, get_or, take, drop, replicate, map, refl, sym, ◌∙◌, ap, ap₂, arith, inl, inr, Bool, true, false, cond, leb, add-one, length-drop}
+use Rattle.std.proofs.Common.{◌≡◌, ℕ, zero, suc, ◌+◌, ◌*◌, ◌-◌, ◌/◌, ◌^◌, ◌%◌, ◌<◌, ◌≤◌, List, [], ◌∷◌, ◌++◌, length, get_or, take, drop, replicate, map, refl, sym, ◌∙◌, ap, ap₂, arith, inl, inr, Bool, true, false, cond, leb, add-one, length-drop, length-append}
 use Rattle.std.proofs.Math.Nat.{pow-succ', mod-eq_of_lt, mod-add-div, zero-div, zero-mod, add-mul-mod_self_left}
 use Rattle.std.proofs.Math.Pow.{pow_mono}
 use Rattle.std.proofs.lemmas.Bool.{cases_eq, cases_lt, le-leb, lt-leb, leb-true, eq-eqb, ne_eqb, cond-true, cond-false}
-use Rattle.std.proofs.lemmas.List.{length-replicate, length-map, length-take-le, drop_all}
+use Rattle.std.proofs.lemmas.List.{length-replicate, length-map, length-take-le, drop_all, take_all}
 use Rattle.std.proofs.lemmas.List.Elements.{All-nil, All-cons, All-get_or}
 use Rattle.std.proofs.lemmas.Nat.{pow_pos, mod_below}
 use Rattle.civl_bits.specs.Word.{quotient_at, remainder_at}
@@ -13,8 +13,9 @@ use Rattle.civl_cnf.specs.ClauseSet.{ClauseSet, IsBelow, Satisfies}
 use Rattle.civl_cnf.specs.Gates.{Extends, bit}
 use Rattle.civl_cnf.proofs.Extending.{extends_same, extends_trans, extends_keeps}
 use Rattle.civl_circuits.specs.Circuits.{number, IsOne, MakesWord, MakesBit}
-use Rattle.civl_circuits.proofs.Numbers.{number-push, number-lt, number-low, number-take, number-top, number-drop, number-zeros, bit-small, number-complement}
-use Rattle.civl_circuits.proofs.Words.{IsBelow-more, IsBelow-replicate, zero_is}
+use Rattle.civl_circuits.proofs.Numbers.{number-push, number-lt, number-low, number-take, number-top, number-drop, number-zeros, bit-small, number-complement, number-split, number-next}
+use Rattle.civl_circuits.proofs.Words.{IsBelow-more, IsBelow-replicate, IsBelow-append, word_as, zero_is}
+use Rattle.civl_circuits.proofs.Wires.{widened}
 
 -- the carry tells whether there is enough, where p is 2 ^ n and the sum is of n + 1 bits
 enough_is : (t : Bool) (p low x b f : ℕ) → low < 2 * p → x < 2 * p → b < p → f ≡ (p - 1 - b) + p → low + 2 * p * bit t ≡ x + f + 1 → t ≡ leb b x
@@ -161,9 +162,10 @@ quotient_more n k x b d q r h eq er = elim (cases_eq b 0) [
   plain : (n : ℕ) → 0 + n ≡ n
   plain n = omega arith
 
-pub remainder_more : (n k x b d r : ℕ) → k < n → x < 2 ^ k → b < 2 ^ n → d ≤ 1 → r ≡ remainder_at n x b → (cond (leb b (d + 2 * r)) (d + 2 * r - b) (d + 2 * r)) % 2 ^ n ≡ remainder_at n (d + 2 * x) b
+pub remainder_more : (n k x b d r : ℕ) → (b ≡ 0 → k < n) → x < 2 ^ k → b < 2 ^ n → d ≤ 1 → r ≡ remainder_at n x b → (cond (leb b (d + 2 * r)) (d + 2 * r - b) (d + 2 * r)) % 2 ^ n ≡ remainder_at n (d + 2 * x) b
 remainder_more n k x b d r hk hx hb h er = elim (cases_eq b 0) [
   | inl none ↦
+      let inside : k < n = hk none in
       let room : 2 ^ (k + 1) ≤ 2 ^ n = pow_mono {i = k + 1} {j = n} (omega arith) in
       let same : r ≡ x = er ∙ remainder_none n x b none in
       let left : d + 2 * r - b ≡ d + 2 * x = omega arith in
@@ -212,8 +214,8 @@ dividing_none f a b one z o ez =
 step_costs : (c m at : ℕ) → at + 1 ≤ m → c * (m - (at + 1)) + c ≡ c * (m - at)
 step_costs c m at h = let e : m - at ≡ (m - (at + 1)) + 1 = omega arith in rw e (grind arith)
 
-pub dividing_more : {f g h : ClauseSet} (a b quotient remainder rest : List Literal) (from at : ℕ) (next enough : Literal) → from ≡ at + 1 → IsDividing f g a b from quotient remainder → length a ≡ length b → next ≡ get_or a at next → MakesBit g h enough (3 * length b + 2) (λ v. leb (number v b) (bit (truth_of v next) + 2 * number v remainder)) → MakesWord g h rest (length b) (3 * length b + 2) (λ v. (cond (leb (number v b) (bit (truth_of v next) + 2 * number v remainder)) (bit (truth_of v next) + 2 * number v remainder - number v b) (bit (truth_of v next) + 2 * number v remainder)) % 2 ^ length b) → IsDividing f h a b at (enough ∷ quotient) rest
-dividing_more {f} {g} {h} a b quotient remainder rest from at next enough ef i same en t w =
+pub dividing_more : {f g h : ClauseSet} (a b quotient remainder rest : List Literal) (from at : ℕ) (next enough : Literal) → from ≡ at + 1 → IsDividing f g a b from quotient remainder → length b ≤ length a → ((v : ℕ → Bool) → Satisfies v f.clauses → number v b ≡ 0 → length b ≡ length a) → next ≡ get_or a at next → MakesBit g h enough (3 * length b + 2) (λ v. leb (number v b) (bit (truth_of v next) + 2 * number v remainder)) → MakesWord g h rest (length b) (3 * length b + 2) (λ v. (cond (leb (number v b) (bit (truth_of v next) + 2 * number v remainder)) (bit (truth_of v next) + 2 * number v remainder - number v b) (bit (truth_of v next) + 2 * number v remainder)) % 2 ^ length b) → IsDividing f h a b at (enough ∷ quotient) rest
+dividing_more {f} {g} {h} a b quotient remainder rest from at next enough ef i narrow whole en t w =
     let place : at + 1 ≤ length a = omega (arith, i.place) in
     let more : (v : ℕ → Bool) → number v (drop at a) ≡ bit (truth_of v next) + 2 * number v (drop (at + 1) a) = λ v. number-drop v at a next (omega arith) en in
     let k : ℕ = length a - (at + 1) in
@@ -237,8 +239,7 @@ dividing_more {f} {g} {h} a b quotient remainder rest from at next enough ef i s
           let before = extends_keeps w.extends v y in
           let low : number v (drop (at + 1) a) < 2 ^ k = omega (arith, number-lt v (drop (at + 1) a), ap (λ m. 2 ^ m) (length-drop (at + 1) a)) in
           w.value v y
-          ∙ ap (λ m. (cond (leb (number v b) (bit (truth_of v next) + 2 * number v remainder)) (bit (truth_of v next) + 2 * number v remainder - number v b) (bit (truth_of v next) + 2 * number v remainder)) % 2 ^ m) (sym same)
-          ∙ remainder_more (length a) k (number v (drop (at + 1) a)) (number v b) (bit (truth_of v next)) (number v remainder) (omega arith) low (omega (arith, number-lt v b, ap (λ m. 2 ^ m) same)) (bit-small (truth_of v next))
+          ∙ remainder_more (length b) k (number v (drop (at + 1) a)) (number v b) (bit (truth_of v next)) (number v remainder) (λ none. omega (arith, whole v (extends_keeps i.extends v before) none)) low (number-lt v b) (bit-small (truth_of v next))
           (i.remainder_value v before ∙ ap (λ m. remainder_at (length a) (number v (drop m a)) (number v b)) ef)
           ∙ sym (ap (λ x. remainder_at (length a) x (number v b)) (more v));
     }
@@ -254,13 +255,13 @@ quotient_all {f} {g} {a} {b} {quotient} {remainder} {at} i e =
       value = λ v y. i.quotient_value v y ∙ ap₂ (λ n m. quotient_at n (number v (drop m a)) (number v b)) all e;
     }
 
-pub remainder_all : {f g : ClauseSet} {a b quotient remainder : List Literal} {at : ℕ} → IsDividing f g a b at quotient remainder → at ≡ 0 → length a ≡ length b → MakesWord f g remainder (length a) ((3 * length a + 2) * length a) (λ v. remainder_at (length a) (number v a) (number v b))
-remainder_all {f} {g} {a} {b} {quotient} {remainder} {at} i e same =
+pub remainder_all : {f g : ClauseSet} {a b quotient remainder : List Literal} {at : ℕ} → IsDividing f g a b at quotient remainder → at ≡ 0 → MakesWord f g remainder (length b) ((3 * length a + 2) * length a) (λ v. remainder_at (length a) (number v a) (number v b))
+remainder_all {f} {g} {a} {b} {quotient} {remainder} {at} i e =
     let all : length a - at ≡ length a = omega arith in
     record {
       extends = i.extends;
       variables = omega (arith, i.variables, ap (λ n. (3 * length a + 2) * n) all);
-      size = i.remainder_size ∙ sym same;
+      size = i.remainder_size;
       below = i.remainder_below;
       value = λ v y. i.remainder_value v y ∙ ap (λ m. remainder_at (length a) (number v (drop m a)) (number v b)) e;
     }
@@ -273,3 +274,43 @@ step_room s f c m from at e h es room =
   where
     grouped : (c n at : ℕ) → c * (n + (at + 1)) ≡ c * n + c * at + c
     grouped c n at = grind arith
+
+below_product : (p n : ℕ) → 0 < p → 0 < n → 0 < p * n
+below_product p n hp hn = grind arith
+
+-- a word with a bit that is true isn't 0
+pub number-has : (v : ℕ → Bool) (word : List Literal) (i : ℕ) (one : Literal) → i < length word → one ≡ get_or word i one → truth_of v one ≡ true → 0 < number v word
+number-has v word i one h is on =
+    let high : 0 < number v (drop i word) = omega (arith, number-drop v i word one h is, ap bit on) in
+    omega (arith, number-split v i word (omega arith), below_product (2 ^ i) (number v (drop i word)) (pow_pos i) high)
+
+-- the bits of a word from here on are the constant false
+pub record IsLow (word : List Literal) (z : Literal) (width : ℕ) : Type 0 where
+  pub place : width ≤ length word
+  pub value : (v : ℕ → Bool) → truth_of v z ≡ false → number v (take width word) ≡ number v word
+
+pub low_all : (word : List Literal) (z : Literal) → IsLow word z (length word)
+low_all word z = record { place = omega arith; value = λ v off. ap (number v) (take_all (length word) word (omega arith)) }
+
+pub low_less : (word : List Literal) (z : Literal) (from width : ℕ) → from ≡ width + 1 → IsLow word z from → z ≡ get_or word width z → IsLow word z width
+low_less word z from width e i is = record {
+  place = omega (arith, i.place);
+  value = λ v off. sym (number-next v word width z (omega (arith, i.place)) is ∙ ap (λ t. number v (take width word) + 2 ^ width * bit t) off ∙ plain (number v (take width word)) (2 ^ width)) ∙ ap (λ n. number v (take n word)) (sym e) ∙ i.value v off;
+} where
+  plain : (n p : ℕ) → n + p * 0 ≡ n
+  plain n p = omega arith
+
+-- the same quotient, of a divisor that is the same number
+pub quotient_as : {f g : ClauseSet} {quotient : List Literal} {one : Literal} {n cost : ℕ} (a low b : List Literal) → IsOne f one → ((v : ℕ → Bool) → truth_of v one ≡ true → number v low ≡ number v b) → MakesWord f g quotient n cost (λ v. quotient_at n (number v a) (number v low)) → MakesWord f g quotient n cost (λ v. quotient_at n (number v a) (number v b))
+quotient_as {f} {g} {quotient} {one} {n} {cost} a low b o same w =
+    word_as quotient n cost (λ v. quotient_at n (number v a) (number v b)) w w.size (omega arith) w.below (λ v y is. is ∙ ap (quotient_at n (number v a)) (same v (o.always v (extends_keeps w.extends v y))))
+
+-- the same remainder with zeros above it, of a divisor that is the same number
+pub remainder_as : {f g : ClauseSet} {narrow wide : List Literal} {one : Literal} {n m cost : ℕ} (a low b : List Literal) → IsOne f one → ((v : ℕ → Bool) → truth_of v one ≡ true → number v low ≡ number v b) → MakesWord f g narrow m cost (λ v. remainder_at n (number v a) (number v low)) → m ≤ n → wide ≡ narrow ++ replicate (n - length narrow) (opposite one) → MakesWord f g wide n cost (λ v. remainder_at n (number v a) (number v b))
+remainder_as {f} {g} {narrow} {wide} {one} {n} {m} {cost} a low b o same w short e =
+    let width : length wide ≡ n = ap length e ∙ length-append narrow (replicate (n - length narrow) (opposite one)) ∙ omega (arith, length-replicate (n - length narrow) (opposite one), w.size) in
+    let below : IsBelow g.variables wide = rw e (IsBelow-append g.variables narrow (replicate (n - length narrow) (opposite one)) w.below (IsBelow-replicate g.variables (n - length narrow) (opposite one) (omega (arith, o.below, w.extends.variables)))) in
+    word_as wide n cost (λ v. remainder_at n (number v a) (number v b)) w width (omega arith) below
+    (λ v y is.
+    let on : truth_of v one ≡ true = o.always v (extends_keeps w.extends v y) in
+    widened v narrow wide one (n - length narrow) e on ∙ is ∙ ap (remainder_at n (number v a)) (same v on))

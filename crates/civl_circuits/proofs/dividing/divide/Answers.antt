@@ -1,15 +1,13 @@
 use Rattle.std.proofs.Common.{arith}
-use Rattle.civl_circuits.proofs.Words.{one_later}
-use Rattle.civl_circuits.proofs.Divisions.{dividing_none, dividing_more}
+use Rattle.std.proofs.lemmas.List.{length-take-le}
+use Rattle.civl_circuits.proofs.Divisions.{quotient_as, remainder_as}
 use Rattle.civl_circuits.proofs.dividing.divide.Goals as goal
 
-pub loop-at-init : goal.loop-at-init
-loop-at-init c = rw (c.in_ok-remainder.ensures, c.new-quotient.ensures.items) (dividing_none _ _ _ _ _ c.requires.one c.negate.ensures)
+pub returns-clause-quotient : goal.returns-clause-quotient
+returns-clause-quotient c = quotient_as _ _ _ c.requires.one c.divisor_width-width.ensures.value c.in_ok-quotient.ensures.quotient
 
-pub divide_step-requires-clause-one : goal.divide_step-requires-clause-one
-divide_step-requires-clause-one c = one_later c.loop-at.invariant.extends c.requires.one
-
-pub loop-at-preserved : goal.loop-at-preserved
-loop-at-preserved c =
-    rw c.in_ok-insert.ensures.items
-    (dividing_more _ _ _ _ _ _ _ _ _ (omega arith) c.loop-at.invariant c.requires.size c.index-a-at.is (rw c.as_slice.ensures.value at c.in_ok-enough.ensures.enough) (rw c.as_slice.ensures.value at c.in_ok-enough.ensures.rest))
+pub returns-clause-remainder : goal.returns-clause-remainder
+returns-clause-remainder c =
+    remainder_as _ _ _ c.requires.one c.divisor_width-width.ensures.value c.in_ok-quotient.ensures.remainder
+    (omega (arith, length-take-le c.divisor_width-width.result c.args.b.now c.divisor_width-width.ensures.within, c.divisor_width-width.ensures.within, c.requires.size))
+    (rw c.as_slice.ensures.value at c.in_ok-remainder.ensures.word)

@@ -1,5 +1,5 @@
 use Rattle.civl_circuits.proofs.Divisions.{IsDividing}
-use Rattle.civl_circuits.proofs.dividing.divide.Given as goal
+use Rattle.civl_circuits.proofs.dividing.divide_by.Given as goal
 
 abbrev pub invariant-loop-at : goal.invariant-loop-at
 invariant-loop-at l = IsDividing l.initial.gates l.gates l.a l.b l.at l.quotient.items l.remainder.items
