@@ -9,16 +9,8 @@ ghost use Rattle.civl_cdcl.specs.Levels.{FirstSays, LastSays};
 ghost use Rattle.civl_cdcl.specs.Analysis.{AreFound, SeesOne, Sees, Analyses, HasOne, IsUnseen};
 
 use crate::Memory;
-use civl_cnf::{Clause, Lit};
-use civl_propagation::{Step, Trail};
-
-/// The literals of the clause with a number.
-pub fn lits_of(clauses: &[Clause], number: usize) -> &[Lit]
-    requires { number < length clauses.now }
-    ensures { result.now ≡ slice_index_or clauses.now number [] }
-{
-    clauses[number].lits()
-}
+use civl_cnf::Lit;
+use civl_propagation::{Clauses, Step, Trail};
 
 /// The place of a variable that has a value.
 pub fn place_in(places: &[usize], variable: u32) -> usize
@@ -94,7 +86,7 @@ fn any_seen(steps: &[Step], seen: &[bool], from: usize, to: usize) -> bool
 /// Goes from the end of the trail down, and sees the reason of each literal that is seen, until one literal of the level is left: the first unique implication point, which is answered.
 fn walk(
     trail: &Trail,
-    clauses: &[Clause],
+    clauses: &Clauses,
     start: usize,
     root: usize,
     seen: &mut [bool],
@@ -120,7 +112,7 @@ fn walk(
             }
             match step.reason {
                 None => return Ok(step.lit),
-                Some(reason) => see(seen, found, lits_of(clauses, reason), trail.places(), root)?,
+                Some(reason) => see(seen, found, clauses.lits(reason), trail.places(), root)?,
             }
         }
     }
@@ -129,7 +121,7 @@ fn walk(
 /// Sees what leads to a conflict, with one literal of the last level, which is answered.
 pub fn analyse(
     trail: &Trail,
-    clauses: &[Clause],
+    clauses: &Clauses,
     conflict: usize,
     start: usize,
     root: usize,
@@ -146,13 +138,7 @@ pub fn analyse(
     ensures one { IfOk result (λ one. HasOne trail.now.marks trail.now.places clauses.now start one seen.new) }
     ensures found { OnOk result (AreFound seen.new found.new.items) }
 {
-    see(
-        seen,
-        found,
-        lits_of(clauses, conflict),
-        trail.places(),
-        root,
-    )?;
+    see(seen, found, clauses.lits(conflict), trail.places(), root)?;
     let one = walk(trail, clauses, start, root, seen, found)?;
     Ok(one)
 }

@@ -3,6 +3,7 @@
 
 mod analysis;
 mod choice;
+mod hints;
 mod laws;
 mod levels;
 mod memory;

@@ -3,15 +3,17 @@ ghost use Rattle.std.specs.Prelude.{IfOk};
 ghost use Rattle.civl_cdcl.specs.Notes.{IsClear};
 
 use crate::Memory;
+use crate::hints::Hints;
 use crate::order::Order;
 use crate::restarts::Restarts;
 use std::alloc::Global;
 
-/// What a search keeps beside the engine: the order of decisions, when it begins anew, and, for the analysis of a conflict, which variables are seen, and a list of them. Between conflicts none is seen.
+/// What a search keeps beside the engine: the order of decisions, when it begins anew, hints for the log, and, for the analysis of a conflict, which variables are seen, and a list of them. Between conflicts none is seen.
 #[derive(Drop)]
 pub struct Notes {
     pub order: Order,
     pub restarts: Restarts,
+    pub hints: Hints,
     pub seen: Vec<bool>,
     pub found: Vec<u32>,
 }
@@ -26,6 +28,7 @@ impl Notes {
         Ok(Notes {
             order,
             restarts: Restarts::new(),
+            hints: Hints::new(alloc),
             seen,
             found: Vec::new(alloc),
         })

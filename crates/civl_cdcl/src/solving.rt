@@ -6,6 +6,7 @@ ghost use Rattle.civl_cdcl.specs.Notes.{IsClear};
 ghost use Rattle.civl_cdcl.specs.Turn.{AreBits};
 ghost use Rattle.civl_cdcl.specs.Outcome.{OutcomeSays, IsModel, RefutesWithin, SpendsWhole};
 
+use crate::hints::Hints;
 use crate::notes::Notes;
 use crate::turn::{Turn, take_turn};
 use crate::{Memory, Outcome};
@@ -25,24 +26,27 @@ pub fn bits_of(alloc: Global, marks: &[Option<bool>]) -> Result<Bits, Memory>
     Ok(bits)
 }
 
-/// Adds the empty clause at the end.
-fn push_empty(alloc: Global, log: &mut Log) -> Result<(), Memory>
+/// Adds the empty clause at the end, with hints.
+fn push_empty(alloc: Global, log: &mut Log, hints: &Hints) -> Result<(), Memory>
     ensures { OnOk result (log.new ≡ log.old ++ [] ∷ []) }
 {
     let empty = Clause::from_slice(alloc, &[])?;
-    log.push(empty)?;
+    log.push_hinted(empty, hints.numbers())?;
     Ok(())
 }
 
-/// Gives an engine the clauses of a set: whether propagation refutes them.
-fn load(engine: &mut Engine, cnf: &Cnf) -> Result<bool, Memory>
+/// Gives an engine the clauses of a set: whether propagation refutes them, with hints for that.
+fn load(engine: &mut Engine, hints: &mut Hints, cnf: &Cnf) -> Result<bool, Memory>
     requires { IsAtRoot engine.old cnf.now.variables [] }
     ensures { IfOk result (λ refuted. Stands engine.new cnf.now.variables cnf.now.clauses refuted) }
 {
     for at in 0..cnf.len() {
         let ended = engine.add(cnf.clause(at).lits())?;
         match ended {
-            Ended::Conflict(_) => return Ok(true),
+            Ended::Conflict(falsified) => {
+                hints.refute(engine.trail(), falsified)?;
+                return Ok(true);
+            }
             Ended::Quiet => {}
         }
     }
@@ -72,13 +76,13 @@ fn search(
                 return Ok(Outcome::Sat(bits));
             }
             Turn::Refuted => {
-                push_empty(alloc, &mut log)?;
+                push_empty(alloc, &mut log, &notes.hints)?;
                 return Ok(Outcome::Unsat(log));
             }
             Turn::Full => return Ok(Outcome::Spent(log)),
             Turn::Learns(clause) => {
                 let next = engine.add(clause.lits())?;
-                log.push(clause)?;
+                log.push_hinted(clause, notes.hints.numbers())?;
                 ended = next;
             }
         }
@@ -86,11 +90,11 @@ fn search(
 }
 
 /// The log of clauses that propagation refutes: the empty clause.
-fn empty_log(alloc: Global) -> Result<Log, Memory>
+fn empty_log(alloc: Global, hints: &Hints) -> Result<Log, Memory>
     ensures { IfOk result (λ log. log ≡ [] ∷ []) }
 {
     let mut log = Log::new(alloc);
-    push_empty(alloc, &mut log)?;
+    push_empty(alloc, &mut log, hints)?;
     Ok(log)
 }
 
@@ -100,12 +104,12 @@ fn run(alloc: Global, cnf: &Cnf, budget: u32) -> Result<Outcome, Memory>
 {
     let count = cnf.variables();
     let mut engine = Engine::new(alloc, count)?;
-    let refuted = load(&mut engine, cnf)?;
+    let mut notes = Notes::new(alloc, count)?;
+    let refuted = load(&mut engine, &mut notes.hints, cnf)?;
     if refuted {
-        let log = empty_log(alloc)?;
+        let log = empty_log(alloc, &notes.hints)?;
         return Ok(Outcome::Unsat(log));
     }
-    let mut notes = Notes::new(alloc, count)?;
     let outcome = search(alloc, &mut engine, &mut notes, cnf, budget)?;
     Ok(outcome)
 }

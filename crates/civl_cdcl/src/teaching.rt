@@ -9,10 +9,11 @@ ghost use Rattle.civl_cdcl.specs.Levels.{FirstSays, LastSays};
 ghost use Rattle.civl_cdcl.specs.Analysis.{sees, AreFound, HasOne, AreSeen, Follows, KeepSays, with_kept, Teaches, ReachSays, LearnSays};
 
 use crate::Memory;
-use crate::analysis::{analyse, lits_of, place_in};
+use crate::analysis::{analyse, place_in};
+use crate::hints::place_of;
 use crate::levels::{first_start, levels_below};
 use civl_cnf::{Clause, Lit};
-use civl_propagation::Trail;
+use civl_propagation::{Clauses, Trail};
 use std::alloc::Global;
 
 /// The value that a variable has.
@@ -54,13 +55,7 @@ fn all_seen(seen: &[bool], clause: &[Lit], places: &[usize], root: usize, beside
 }
 
 /// Whether a literal follows from those that are seen and were made true before it, by its reason alone (Sorensson and Biere, "Minimizing learned clauses", 2009).
-fn is_redundant(
-    trail: &Trail,
-    clauses: &[Clause],
-    variable: u32,
-    root: usize,
-    seen: &[bool],
-) -> bool
+fn is_redundant(trail: &Trail, clauses: &Clauses, variable: u32, root: usize, seen: &[bool]) -> bool
     requires below { AreBelow (length trail.now.marks) clauses.now }
     requires trail { IsTrailOver trail.now clauses.now }
     requires root { FirstSays trail.now.starts root }
@@ -75,20 +70,14 @@ fn is_redundant(
     let step = trail.step(place);
     match step.reason {
         None => false,
-        Some(reason) => all_seen(
-            seen,
-            lits_of(clauses, reason),
-            trail.places(),
-            root,
-            variable,
-        ),
+        Some(reason) => all_seen(seen, clauses.lits(reason), trail.places(), root, variable),
     }
 }
 
 /// The opposite of the literal of a variable that is seen, where it was made true before the level, and the others don't lead to it.
 fn keep(
     trail: &Trail,
-    clauses: &[Clause],
+    clauses: &Clauses,
     variable: u32,
     start: usize,
     root: usize,
@@ -134,7 +123,7 @@ fn push_kept(lits: &mut Vec<Lit>, kept: &Option<Lit>) -> Result<(), Memory>
 fn collect(
     alloc: Global,
     trail: &Trail,
-    clauses: &[Clause],
+    clauses: &Clauses,
     one: Lit,
     start: usize,
     root: usize,
@@ -158,17 +147,11 @@ fn collect(
     Ok(lits)
 }
 
-/// The place of a variable among the steps, or 0.
-fn place_or_first(places: &[usize], variable: u32) -> usize {
-    let at = variable as usize;
-    if at < places.len() { places[at] } else { 0 }
-}
-
 /// Puts literals into the order in which their variables got their values. Propagation looks through a clause from its front, so it finds those that were decided on low levels first, which stay longest.
 fn by_place(lits: &mut Vec<Lit>, places: &[usize])
     ensures { IsPermutation lits.old.items lits.new.items }
 {
-    lits.sort_unstable_by_key(|lit| place_or_first(places, lit.variable()));
+    lits.sort_unstable_by_key(|lit| place_of(places, lit.variable()));
 }
 
 /// Sees nothing any more.
@@ -208,7 +191,7 @@ pub struct Learned {
 fn teach(
     alloc: Global,
     trail: &Trail,
-    clauses: &[Clause],
+    clauses: &Clauses,
     one: Lit,
     start: usize,
     root: usize,
@@ -236,7 +219,7 @@ fn teach(
 pub fn learn(
     alloc: Global,
     trail: &Trail,
-    clauses: &[Clause],
+    clauses: &Clauses,
     conflict: usize,
     start: usize,
     seen: &mut [bool],

@@ -87,7 +87,10 @@ pub fn take_turn(
     match ended {
         Ended::Quiet => Ok(Turn::Marked),
         Ended::Conflict(conflict) => match last_start(engine.trail().starts()) {
-            None => Ok(Turn::Refuted),
+            None => {
+                notes.hints.refute(engine.trail(), conflict)?;
+                Ok(Turn::Refuted)
+            }
             Some(start) => {
                 let learned = learn(
                     alloc,
@@ -99,6 +102,12 @@ pub fn take_turn(
                     &mut notes.found,
                 )?;
                 if may_learn {
+                    notes.hints.learn(
+                        engine.trail(),
+                        notes.found.as_slice(),
+                        learned.clause.lits(),
+                        conflict,
+                    )?;
                     go_back(engine, notes, learned.levels)?;
                     return Ok(Turn::Learns(learned.clause));
                 }

@@ -196,7 +196,7 @@ none_watch n l = elim (below_or_not l.variable n) [
 ]
 
 -- a decision at the end changes nothing before it
-before_decide : (old new : TrailState) (l : Literal) (p : ℕ) → length old.places ≡ length old.marks → IsDecided old new l → l.variable < length old.marks → IsOpen old.marks l → p ≤ length old.steps → before new.marks new.places p ≡ before old.marks old.places p
+pub before_decide : (old new : TrailState) (l : Literal) (p : ℕ) → length old.places ≡ length old.marks → IsDecided old new l → l.variable < length old.marks → IsOpen old.marks l → p ≤ length old.steps → before new.marks new.places p ≡ before old.marks old.places p
 before_decide old new l p size is low free fits =
     ap (λ m. before m new.places p) is.marks
     ∙ ap (λ x. before (set old.marks l.variable (Some l.positive)) x p) is.places

@@ -5,3 +5,4 @@ pub mod Engines
 pub mod Watching
 pub mod Visiting
 pub mod Choosing
+pub mod Spans

@@ -9,19 +9,19 @@ ghost use Rattle.civl_propagation.specs.Propagation.{Grows};
 
 use crate::Memory;
 use crate::choice::{choose, is_free};
+use crate::clauses::Clauses;
 use crate::propagation::{Ended, propagate, serve};
 use crate::trail::Trail;
 use crate::watches::Watches;
-use civl_cnf::{Clause, Lit};
+use civl_cnf::Lit;
 use std::alloc::Global;
 use std::marker::Model;
 
 /// Clauses, given and learned, and the literals that were decided and those that unit propagation made true from there. Contracts see it as the record of its parts; `IsEngine` is what holds of it at all times, and `IsAtRest` that propagation is complete.
 #[derive(Drop)]
 pub struct Engine {
-    alloc: Global,
     trail: Trail,
-    clauses: Vec<Clause>,
+    clauses: Clauses,
     watches: Watches,
 }
 
@@ -30,7 +30,7 @@ impl Model for Engine {
 
     ghost Value = { EngineState };
 
-    ghost view = { λ e. record { trail = e.trail; clauses = e.clauses.items; watches = e.watches } };
+    ghost view = { λ e. record { trail = e.trail; clauses = e.clauses; watches = e.watches } };
 }
 
 impl Engine {
@@ -45,9 +45,8 @@ impl Engine {
         let trail = Trail::new(alloc, variables)?;
         let watches = Watches::new(alloc, variables)?;
         Ok(Engine {
-            alloc,
             trail,
-            clauses: Vec::new(alloc),
+            clauses: Clauses::new(alloc),
             watches,
         })
     }
@@ -60,13 +59,13 @@ impl Engine {
     }
 
     /// The clauses, in the order in which they were added.
-    pub fn clauses(&self) -> &[Clause]
+    pub fn clauses(&self) -> &Clauses
         ensures { result.now ≡ self.now.clauses }
     {
-        self.clauses.as_slice()
+        &self.clauses
     }
 
-    /// Adds a clause and propagates. Below the start of each level it must force nothing, and not be falsified. Memory is wanting too where there are 2^32 clauses.
+    /// Adds a clause and propagates. Below the start of each level it must force nothing, and not be falsified. Memory is wanting too where there are 2^32 clauses, or 2^32 literals in them.
     pub fn add(&mut self, clause: &[Lit]) -> Result<Ended, Memory>
         requires rest { IsAtRest self.old }
         requires below { IsBelow (length self.old.trail.marks) clause.now }
@@ -77,21 +76,15 @@ impl Engine {
     {
         let number = self.clauses.len();
         let from = self.trail.len();
-        let copy = Clause::from_slice(self.alloc, clause)?;
         let pair = choose(&self.trail, clause);
         let quiet = is_free(&self.trail, &pair);
         self.watches.watch(pair)?;
-        self.clauses.push(copy)?;
-        let ended = serve(&mut self.trail, self.clauses.as_slice(), number, quiet)?;
+        self.clauses.push(clause)?;
+        let ended = serve(&mut self.trail, &self.clauses, number, quiet)?;
         match ended {
             Ended::Conflict(falsified) => Ok(Ended::Conflict(falsified)),
             Ended::Quiet => {
-                let last = propagate(
-                    &mut self.trail,
-                    &mut self.watches,
-                    self.clauses.as_slice(),
-                    from,
-                )?;
+                let last = propagate(&mut self.trail, &mut self.watches, &self.clauses, from)?;
                 Ok(last)
             }
         }
@@ -111,12 +104,7 @@ impl Engine {
     {
         let from = self.trail.len();
         self.trail.decide(lit)?;
-        let ended = propagate(
-            &mut self.trail,
-            &mut self.watches,
-            self.clauses.as_slice(),
-            from,
-        )?;
+        let ended = propagate(&mut self.trail, &mut self.watches, &self.clauses, from)?;
         Ok(ended)
     }
 

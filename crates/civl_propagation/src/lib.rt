@@ -2,6 +2,7 @@
 #![tactic(auto)]
 
 mod choice;
+mod clauses;
 mod engine;
 mod memory;
 mod pairs;
@@ -10,6 +11,7 @@ mod trail;
 mod visits;
 mod watches;
 
+pub use clauses::Clauses;
 pub use engine::Engine;
 pub use memory::Memory;
 pub use propagation::Ended;

@@ -1,5 +1,6 @@
 // Memory was wanting.
 use std::alloc::{AllocError, AllocFailed};
+use std::num::TryFromIntError;
 
 /// Memory was wanting.
 #[derive(Clone, Copy, Debug, PartialEq, Eq)]
@@ -19,6 +20,12 @@ impl<T: Drop> From<AllocFailed<T>> for Memory {
 
 impl From<civl_cnf::Memory> for Memory {
     fn from(_wanting: civl_cnf::Memory) -> Memory {
+        Memory
+    }
+}
+
+impl From<TryFromIntError> for Memory {
+    fn from(_error: TryFromIntError) -> Memory {
         Memory
     }
 }

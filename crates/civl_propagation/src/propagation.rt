@@ -7,10 +7,10 @@ ghost use Rattle.civl_propagation.specs.Propagation.{ServeSays};
 ghost use Rattle.civl_propagation.specs.Watches.{AllKeepUp, IsHeld, PropagationSays};
 
 use crate::Memory;
+use crate::clauses::Clauses;
 use crate::trail::Trail;
-use crate::visits::{lits_of, visit_watchers};
+use crate::visits::visit_watchers;
 use crate::watches::Watches;
-use civl_cnf::Clause;
 use civl_units::{Rule, rule_of};
 
 /// How propagation ends: the clause with this number is falsified, or nothing more is forced.
@@ -23,7 +23,7 @@ pub enum Ended {
 /// Makes true what one clause forces, unless the caller knows that it forces nothing.
 pub fn serve(
     trail: &mut Trail,
-    clauses: &[Clause],
+    clauses: &Clauses,
     number: usize,
     quiet: bool,
 ) -> Result<Ended, Memory>
@@ -36,7 +36,7 @@ pub fn serve(
     if quiet {
         return Ok(Ended::Quiet);
     }
-    match rule_of(trail.marks(), lits_of(clauses, number)) {
+    match rule_of(trail.marks(), clauses.lits(number)) {
         Rule::Falsified => Ok(Ended::Conflict(number)),
         Rule::Quiet => Ok(Ended::Quiet),
         Rule::Forces(lit) => {
@@ -50,7 +50,7 @@ pub fn serve(
 pub fn propagate(
     trail: &mut Trail,
     watches: &mut Watches,
-    clauses: &[Clause],
+    clauses: &Clauses,
     from: usize,
 ) -> Result<Ended, Memory>
     requires below { AreBelow (length trail.old.marks) clauses.now }

@@ -7,18 +7,11 @@ ghost use Rattle.civl_propagation.specs.Trail.{before};
 ghost use Rattle.civl_propagation.specs.Watches.{watchers, AllKeepUp, IsHeld, IsVisiting, VisitSays, ReplacementSays, ForceSays, StepSays};
 
 use crate::Memory;
+use crate::clauses::Clauses;
 use crate::propagation::Ended;
 use crate::trail::Trail;
 use crate::watches::{Pair, Visit, Watches};
-use civl_cnf::{Clause, Lit};
-
-/// The literals of the clause with a number.
-pub fn lits_of(clauses: &[Clause], number: usize) -> &[Lit]
-    requires { number < length clauses.now }
-    ensures { result.now ≡ slice_index_or clauses.now number [] }
-{
-    clauses[number].lits()
-}
+use civl_cnf::Lit;
 
 /// Whether the literal is true.
 fn is_true(marks: &[Option<bool>], lit: Lit) -> bool
@@ -64,7 +57,7 @@ fn force(trail: &mut Trail, lit: Lit, number: usize) -> Result<Visit, Memory>
 fn visit(
     trail: &mut Trail,
     watches: &mut Watches,
-    clauses: &[Clause],
+    clauses: &Clauses,
     falsified: Lit,
     at: usize,
 ) -> Result<Visit, Memory>
@@ -81,7 +74,7 @@ fn visit(
             if is_true(trail.marks(), other) {
                 return Ok(Visit::Stays);
             }
-            match replacement(trail.marks(), lits_of(clauses, number as usize), other) {
+            match replacement(trail.marks(), clauses.lits(number as usize), other) {
                 Some(next) => {
                     let pair = Pair {
                         first: next,
@@ -103,7 +96,7 @@ fn visit(
 pub fn visit_watchers(
     trail: &mut Trail,
     watches: &mut Watches,
-    clauses: &[Clause],
+    clauses: &Clauses,
     step: usize,
 ) -> Result<Ended, Memory>
     requires below { AreBelow (length trail.old.marks) clauses.now }

@@ -1,3 +1,4 @@
 pub mod Rup
 pub mod Laws
 pub mod Standing
+pub mod Following

@@ -3,6 +3,7 @@
 
 mod answer;
 mod conflicts;
+mod following;
 mod laws;
 mod memory;
 mod replaying;

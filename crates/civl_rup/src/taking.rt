@@ -12,7 +12,7 @@ use civl_propagation::Engine;
 use civl_units::{Marks, assume};
 
 /// Whether all variables of the clause are known, and none stands twice. There is a mark for each variable, and what the marks were doesn't matter.
-fn is_fit(marks: &mut Marks, clause: &[Lit]) -> Result<bool, Memory>
+pub fn is_fit(marks: &mut Marks, clause: &[Lit]) -> Result<bool, Memory>
     ensures fit { IfOk result (λ fit. IsTrue fit ↔ (IsBelow (length marks.old.values) clause.now × HasEachOnce clause.now)) }
     ensures size { OnOk result (length marks.new.values ≡ length marks.old.values) }
 {

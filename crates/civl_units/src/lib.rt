@@ -13,5 +13,5 @@ pub use laws::complete_run_decides;
 pub use marks::Marks;
 pub use memory::Memory;
 pub use occurrences::{Occurrences, occurrences_of};
-pub use propagation::{assume, propagate};
+pub use propagation::{assume, clause_at, propagate};
 pub use rule::{Rule, rule_of};

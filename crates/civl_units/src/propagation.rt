@@ -10,8 +10,12 @@ use crate::marks::Marks;
 use crate::occurrences::Occurrences;
 use civl_cnf::{Clause, Lit};
 
-/// The clause with a number, where the formula's clauses come first.
-fn clause_at<'a>(formula: &'a [Clause], earlier: &'a [Clause], number: usize) -> Option<&'a Clause>
+/// The clause with a number, from 0, where the formula's clauses come first.
+pub fn clause_at<'a>(
+    formula: &'a [Clause],
+    earlier: &'a [Clause],
+    number: usize,
+) -> Option<&'a Clause>
     ensures within { IfSome result (λ clause. number < length (formula.now ++ earlier.now)) }
     ensures is { IfSome result (λ clause. clause.now ≡ slice_index_or (formula.now ++ earlier.now) number []) }
     ensures past { IfNone result (length (formula.now ++ earlier.now) ≤ number) }

@@ -5,7 +5,7 @@ use Rattle.civl_cdcl.proofs.analysis.analyse.Goals as goal
 
 pub see-requires-clause-clause : goal.see-requires-clause-clause
 see-requires-clause-clause c =
-    clause_within (length c.args.seen.now) (length c.args.trail.now.marks) c.args.clauses.now c.args.conflict c.lits_of.result.now c.requires.seen c.requires.below c.requires.conflict.0 c.lits_of.ensures
+    clause_within (length c.args.seen.now) (length c.args.trail.now.marks) c.args.clauses.now c.args.conflict c.lits.result.now c.requires.seen c.requires.below c.requires.conflict.0 c.lits.ensures
 
 pub see-requires-clause-places : goal.see-requires-clause-places
 see-requires-clause-places c =
@@ -14,5 +14,5 @@ see-requires-clause-places c =
 pub walk-requires-clause-seen : goal.walk-requires-clause-seen
 walk-requires-clause-seen c =
     let t = c.args.trail.now in
-    let sees = subst (λ (p : List ℕ). Sees p c.args.root c.args.seen.now c.see.new.seen c.lits_of.result.now) c.places.ensures c.in_ok-see.ensures.sees in
-    analyses_first t c.args.clauses.now c.args.root c.args.conflict c.lits_of.result.now c.args.seen.now c.see.new.seen c.requires.trail c.requires.root c.requires.seen c.lits_of.ensures c.requires.conflict sees
+    let sees = subst (λ (p : List ℕ). Sees p c.args.root c.args.seen.now c.see.new.seen c.lits.result.now) c.places.ensures c.in_ok-see.ensures.sees in
+    analyses_first t c.args.clauses.now c.args.root c.args.conflict c.lits.result.now c.args.seen.now c.see.new.seen c.requires.trail c.requires.root c.requires.seen c.lits.ensures c.requires.conflict sees

@@ -70,8 +70,8 @@ returns-in-None-clause-one c =
     let unseen : IsUnseen t.steps c.loop-seen.seen c.args.start at = λ k d a b. absurd (omega arith) in
     one_left t clauses c.args.start at c.step-step.result.lit c.loop-seen.seen c.requires.trail step level unseen w.1
 
-pub lits_of-requires : goal.lits_of-requires
-lits_of-requires c =
+pub lits-requires : goal.lits-requires
+lits-requires c =
     let t = c.args.trail.now in
     let clauses = c.args.clauses.now in
     let at = c.loop-seen.at - 1 in
@@ -90,7 +90,7 @@ see-requires-clause-clause c =
     let low : at < length t.steps = omega (arith, w.0) in
     let says = reason_at t clauses at c.step-step.result c.requires.trail low c.step-step.ensures in
     let reason = subst (ReasonSays (before t.marks t.places at) clauses t.starts at c.step-step.result.lit) c.in-Some.is says in
-    clause_within (length c.loop-seen.seen) (length t.marks) clauses c.in-Some.reason c.lits_of.result.now c.loop-seen.invariant.seen.size c.requires.below reason.0 c.lits_of.ensures
+    clause_within (length c.loop-seen.seen) (length t.marks) clauses c.in-Some.reason c.lits.result.now c.loop-seen.invariant.seen.size c.requires.below reason.0 c.lits.ensures
 
 pub see-requires-clause-places : goal.see-requires-clause-places
 see-requires-clause-places c =
@@ -107,10 +107,10 @@ loop-seen-preserved-in-Continue-1 c =
     let says = reason_at t clauses at c.step-step.result c.requires.trail low c.step-step.ensures in
     let reason = subst (ReasonSays (before t.marks t.places at) clauses t.starts at c.step-step.result.lit) c.in-Some.is says in
     let step = step_at t clauses at c.step-step.result c.requires.trail low c.step-step.ensures in
-    let sees = subst (λ (p : List ℕ). Sees p c.args.root c.loop-seen.seen c.see.new.seen c.lits_of.result.now) c.places.ensures c.in_ok-see-in-Some.ensures.sees in
+    let sees = subst (λ (p : List ℕ). Sees p c.args.root c.loop-seen.seen c.see.new.seen c.lits.result.now) c.places.ensures c.in_ok-see-in-Some.ensures.sees in
     record {
       top = omega arith;
-      seen = analyses_resolve t clauses c.args.root at c.in-Some.reason c.step-step.result.lit c.lits_of.result.now c.loop-seen.seen c.see.new.seen c.requires.trail c.requires.root step reason c.lits_of.ensures sees w.1;
+      seen = analyses_resolve t clauses c.args.root at c.in-Some.reason c.step-step.result.lit c.lits.result.now c.loop-seen.seen c.see.new.seen c.requires.trail c.requires.root step reason c.lits.ensures sees w.1;
       found = c.in_ok-see-in-Some.ensures.found;
     }
 

@@ -87,7 +87,7 @@ turns-smaller c =
     let clause = c.in-Learns.clause in
     let says = turned_as _ c.turns.engine c.take_turn.new.engine c.in_ok-turned.turned (Learns clause) c.in-Learns.is c.in_ok-turned.ensures.says in
     let less : c.len.result < c.args.budget = ltb-true c.len.result c.args.budget says.limit in
-    let longer : length c.push.new.self ≡ length c.turns.log + 1 = ap length c.in_ok-push-in-Learns.ensures.ok ∙ length_push c.turns.log clause in
+    let longer : length c.push_hinted.new.self ≡ length c.turns.log + 1 = ap length c.in_ok-push_hinted-in-Learns.ensures.ok ∙ length_push c.turns.log clause in
     omega (arith, c.len.ensures)
 
 pub turns-preserved : goal.turns-preserved
@@ -97,11 +97,11 @@ turns-preserved c =
     let log = c.turns.log in
     let old = c.turns.engine in
     let clause = c.in-Learns.clause in
-    let more = c.push.new.self in
+    let more = c.push_hinted.new.self in
     let says = turned_as _ old c.take_turn.new.engine c.in_ok-turned.turned (Learns clause) c.in-Learns.is c.in_ok-turned.ensures.says in
     let added = c.in_ok-next-in-Learns.ensures in
     let less : c.len.result < c.args.budget = ltb-true c.len.result c.args.budget says.limit in
-    let more_is : more ≡ log ++ clause ∷ [] = c.in_ok-push-in-Learns.ensures.ok in
+    let more_is : more ≡ log ++ clause ∷ [] = c.in_ok-push_hinted-in-Learns.ensures.ok in
     let longer : length more ≡ length log + 1 = ap length more_is ∙ length_push log clause in
     record {
       size = added.grows.size ∙ says.size ∙ inv.size;

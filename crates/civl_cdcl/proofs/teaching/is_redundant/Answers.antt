@@ -8,8 +8,8 @@ use Rattle.civl_cdcl.proofs.teaching.is_redundant.Goals as goal
 pub place_in-place-requires : goal.place_in-place-requires
 place_in-place-requires c = subst (λ (p : List ℕ). c.args.variable < length p) (sym c.places.ensures) (omega (arith, c.requires.trail.size))
 
-pub lits_of-requires : goal.lits_of-requires
-lits_of-requires c =
+pub lits-requires : goal.lits-requires
+lits-requires c =
     let t = c.args.trail.now in
     let clauses = c.args.clauses.now in
     let at = c.place_in-place.result in
@@ -26,7 +26,7 @@ all_seen-requires-clause-clause c =
     let low : at < length t.steps = omega (arith, c.len.ensures) in
     let says = reason_at t clauses at c.step-step.result c.requires.trail low c.step-step.ensures in
     let reason = subst (ReasonSays (before t.marks t.places at) clauses t.starts at c.step-step.result.lit) c.in-Some.is says in
-    clause_within (length c.args.seen.now) (length t.marks) clauses c.in-Some.reason c.lits_of.result.now c.requires.seen c.requires.below reason.0 c.lits_of.ensures
+    clause_within (length c.args.seen.now) (length t.marks) clauses c.in-Some.reason c.lits.result.now c.requires.seen c.requires.below reason.0 c.lits.ensures
 
 pub all_seen-requires-clause-places : goal.all_seen-requires-clause-places
 all_seen-requires-clause-places c =
@@ -39,5 +39,5 @@ returns-in-Some c h =
     let at = c.place_in-place.result in
     let low : at < length t.steps = omega (arith, c.len.ensures) in
     let place : at ≡ get_or t.places c.args.variable 0 = c.place_in-place.ensures ∙ ap (λ (p : List ℕ). get_or p c.args.variable 0) c.places.ensures in
-    let all = subst (λ (p : List ℕ). AreSeen p c.args.root c.args.seen.now c.args.variable c.lits_of.result.now) c.places-in-Some.ensures (c.all_seen.ensures h) in
-    follows_by t clauses c.args.root c.args.variable at c.in-Some.reason c.step-step.result c.lits_of.result.now c.args.seen.now c.requires.trail c.requires.root place low c.step-step.ensures c.in-Some.is c.lits_of.ensures all
+    let all = subst (λ (p : List ℕ). AreSeen p c.args.root c.args.seen.now c.args.variable c.lits.result.now) c.places-in-Some.ensures (c.all_seen.ensures h) in
+    follows_by t clauses c.args.root c.args.variable at c.in-Some.reason c.step-step.result c.lits.result.now c.args.seen.now c.requires.trail c.requires.root place low c.step-step.ensures c.in-Some.is c.lits.ensures all

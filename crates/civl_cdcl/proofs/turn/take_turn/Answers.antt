@@ -22,8 +22,8 @@ returns-in-Quiet-clause-says c =
       whole = found.1;
     }
 
-pub returns-in-None-clause-says : goal.returns-in-None-clause-says
-returns-in-None-clause-says c =
+pub returns-in_ok-refute-in-None-clause-says : goal.returns-in_ok-refute-in-None-clause-says
+returns-in_ok-refute-in-None-clause-says c =
     let n = length c.args.engine.now.trail.marks in
     let e = c.descend.new.engine in
     let says = c.in_ok-ended.ensures in

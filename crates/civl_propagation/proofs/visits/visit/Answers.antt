@@ -21,7 +21,7 @@ rewatch-requires-clause-other c =
     let t = c.args.trail.now in
     let other = c.in-Some.other in
     let next = c.in-Some-replacement.next in
-    let found = subst (λ (m : List (Option Bool)). ReplacementSays m c.lits_of.result.now other (Some next)) c.marks-in-Some.ensures c.in-Some-replacement.ensures in
+    let found = subst (λ (m : List (Option Bool)). ReplacementSays m c.lits.result.now other (Some next)) c.marks-in-Some.ensures c.in-Some-replacement.ensures in
     never_falsified t c.args.clauses.now c.args.watches.now c.args.falsified next c.requires.visiting.0 c.args.at c.requires.visiting.1 found.2
 
 pub returns-in_ok-rewatch-in-Some-replacement : goal.returns-in_ok-rewatch-in-Some-replacement
@@ -29,14 +29,14 @@ returns-in_ok-rewatch-in-Some-replacement c step v =
     let t = c.args.trail.now in
     let other = c.in-Some.other in
     let next = c.in-Some-replacement.next in
-    let found = subst (λ (m : List (Option Bool)). ReplacementSays m c.lits_of.result.now other (Some next)) c.marks-in-Some.ensures c.in-Some-replacement.ensures in
-    let says = subst (λ (x : List Literal). ReplacementSays t.marks x other (Some next)) c.lits_of.ensures found in
+    let found = subst (λ (m : List (Option Bool)). ReplacementSays m c.lits.result.now other (Some next)) c.marks-in-Some.ensures c.in-Some-replacement.ensures in
+    let says = subst (λ (x : List Literal). ReplacementSays t.marks x other (Some next)) c.lits.ensures found in
     visit_moved t c.args.clauses.now c.args.watches.now c.rewatch.new.self c.args.falsified other next step c.args.at c.at-number.result (get_or c.args.watches.now.pairs c.at-number.result None) v c.requires.place c.at-number.ensures refl c.in-Some.ensures says c.in_ok-rewatch-in-Some-replacement.ensures
 
 pub returns-in_ok-did-in-None-replacement : goal.returns-in_ok-did-in-None-replacement
 returns-in_ok-did-in-None-replacement c step v =
     let t = c.args.trail.now in
     let other = c.in-Some.other in
-    let found = subst (λ (m : List (Option Bool)). ReplacementSays m c.lits_of.result.now other None) c.marks-in-Some.ensures c.in-None-replacement.ensures in
-    let says = subst (λ (x : List Literal). ReplacementSays t.marks x other None) c.lits_of.ensures found in
+    let found = subst (λ (m : List (Option Bool)). ReplacementSays m c.lits.result.now other None) c.marks-in-Some.ensures c.in-None-replacement.ensures in
+    let says = subst (λ (x : List Literal). ReplacementSays t.marks x other None) c.lits.ensures found in
     visit_forced t c.force.new.trail c.args.clauses.now c.args.watches.now c.args.falsified other step c.args.at c.at-number.result (get_or c.args.watches.now.pairs c.at-number.result None) c.in_ok-did-in-None-replacement.did v c.requires.below c.requires.place c.at-number.ensures refl c.in-Some.ensures says c.in_ok-did-in-None-replacement.ensures

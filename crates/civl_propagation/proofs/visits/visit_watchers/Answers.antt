@@ -1,5 +1,5 @@
 use Rattle.std.proofs.Common.{arith, ◌∙◌, sym, ap, subst}
-use Rattle.civl_cnf.specs.Literal.{opposite}
+use Rattle.civl_cnf.specs.Literal.{Literal, opposite}
 use Rattle.civl_propagation.specs.Watches.{VisitSays}
 use Rattle.civl_propagation.specs.declared.trail.Step.{Step}
 use Rattle.civl_propagation.proofs.Serving.{grows_self, grows_trans}
@@ -48,3 +48,10 @@ pub returns : goal.returns
 returns c =
     let inv = c.loop-at.invariant in
     (inv.grows, inv.visiting.held, visiting_ends c.loop-at.trail c.args.clauses.now c.loop-at.watches c.negate-falsified.result c.args.step c.loop-at.at inv.visiting (omega (arith, c.count.ensures)))
+
+pub count-requires : goal.count-requires
+count-requires c =
+    let v = c.loop-at.invariant.visiting in
+    let within = (v.held.trail.steps_are c.args.step c.step.result v.here).within in
+    let same = ap (λ (l : Literal). l.variable) (v.falsity c.step.result) in
+    omega (arith, v.held.watched.lists, within, same)

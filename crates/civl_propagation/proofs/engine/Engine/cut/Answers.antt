@@ -8,11 +8,11 @@ use Rattle.civl_propagation.proofs.engine.Engine.cut.Goals as goal
 pub cut-requires-clause-standing : goal.cut-requires-clause-standing
 cut-requires-clause-standing c =
     let e = subst IsEngine (sym c.self.view_is) c.requires.engine in
-    (c.self.inside.clauses.items, e.trail)
+    (c.self.inside.clauses, e.trail)
 
 pub returns-clause-rest : goal.returns-clause-rest
 returns-clause-rest c =
-    let old : EngineState = record { trail = c.self.inside.trail; clauses = c.self.inside.clauses.items; watches = c.self.inside.watches } in
+    let old : EngineState = record { trail = c.self.inside.trail; clauses = c.self.inside.clauses; watches = c.self.inside.watches } in
     engine_cut old c.cut.new.self c.args.levels (subst IsEngine (sym c.self.view_is) c.requires.engine)
     (subst (λ (x : EngineState). c.args.levels < length x.trail.starts) (sym c.self.view_is) c.requires.levels) c.cut.ensures
 

@@ -1,9 +1,6 @@
-use Rattle.std.proofs.Common.{◌++◌, ◌∷◌, [], ◌<◌, List, length, sym, subst, arith}
-use Rattle.civl_cnf.specs.Literal.{Literal}
-use Rattle.civl_units.specs.Marks.{marked}
+use Rattle.std.proofs.Common.{◌++◌, ◌∷◌, [], ◌<◌, length, sym, subst, arith}
 use Rattle.civl_units.specs.Trail.{IsOpen, open_count}
-use Rattle.civl_propagation.specs.Trail.{AreDecided, Deepens, before}
-use Rattle.civl_propagation.specs.Watches.{AllKeepUp, IsHeld, PropagationSays}
+use Rattle.civl_propagation.specs.Trail.{AreDecided, Deepens}
 use Rattle.civl_propagation.specs.Engine.{EngineState, IsAtRest}
 use Rattle.civl_propagation.proofs.Serving.{fewer_decide}
 use Rattle.civl_propagation.proofs.Engines.{decided_grows, decided_more, deepens_by, grows_of, held_of, engine_decides, ends_by}
@@ -11,28 +8,28 @@ use Rattle.civl_propagation.proofs.engine.Engine.decide.Goals as goal
 
 pub propagate-requires-clause-held : goal.propagate-requires-clause-held
 propagate-requires-clause-held c =
-    let e : EngineState = record { trail = c.self.inside.trail; clauses = c.self.inside.clauses.items; watches = c.self.inside.watches } in
+    let e : EngineState = record { trail = c.self.inside.trail; clauses = c.self.inside.clauses; watches = c.self.inside.watches } in
     let rest = subst IsAtRest (sym c.self.view_is) c.requires.rest in
     let low = subst (λ (x : EngineState). c.args.lit.variable < length x.trail.marks) (sym c.self.view_is) c.requires.below in
     let free = subst (λ (x : EngineState). IsOpen x.trail.marks c.args.lit) (sym c.self.view_is) c.requires.open in
     let t = c.decide.new.self in
     let d = engine_decides e t c.args.lit c.len-from.result rest c.in_ok-decide.ensures low free c.len-from.ensures in
-    subst (λ (cs : List (List Literal)). IsHeld t cs e.watches) (sym c.as_slice.ensures.value) (held_of (record { trail = t; clauses = e.clauses; watches = e.watches }) d.engine)
+    (held_of (record { trail = t; clauses = e.clauses; watches = e.watches }) d.engine)
 
 pub propagate-requires-clause-keeps : goal.propagate-requires-clause-keeps
 propagate-requires-clause-keeps c =
-    let e : EngineState = record { trail = c.self.inside.trail; clauses = c.self.inside.clauses.items; watches = c.self.inside.watches } in
+    let e : EngineState = record { trail = c.self.inside.trail; clauses = c.self.inside.clauses; watches = c.self.inside.watches } in
     let rest = subst IsAtRest (sym c.self.view_is) c.requires.rest in
     let low = subst (λ (x : EngineState). c.args.lit.variable < length x.trail.marks) (sym c.self.view_is) c.requires.below in
     let free = subst (λ (x : EngineState). IsOpen x.trail.marks c.args.lit) (sym c.self.view_is) c.requires.open in
     let t = c.decide.new.self in
     let d = engine_decides e t c.args.lit c.len-from.result rest c.in_ok-decide.ensures low free c.len-from.ensures in
-    subst (λ (cs : List (List Literal)). AllKeepUp (before t.marks t.places c.len-from.result) (marked t.marks) cs e.watches.pairs) (sym c.as_slice.ensures.value) d.keeps
+    d.keeps
 
 pub returns-clause-decided : goal.returns-clause-decided
 returns-clause-decided c decisions d =
     let t = c.decide.new.self in
-    let grows = grows_of t c.propagate.new.trail c.as_slice.result.now c.propagate.new.watches c.in_ok-ended.ended c.in_ok-ended.ensures in
+    let grows = grows_of t c.propagate.new.trail c.self.inside.clauses c.propagate.new.watches c.in_ok-ended.ended c.in_ok-ended.ensures in
     decided_grows t c.propagate.new.trail (decisions ++ c.args.lit ∷ []) grows (decided_more c.self.inside.trail t decisions c.args.lit c.in_ok-decide.ensures
     (subst (λ (x : EngineState). AreDecided x.trail decisions) (sym c.self.view_is) d))
 
@@ -42,7 +39,7 @@ returns-clause-deeper c =
     let low = subst (λ (x : EngineState). c.args.lit.variable < length x.trail.marks) (sym c.self.view_is) c.requires.below in
     let free = subst (λ (x : EngineState). IsOpen x.trail.marks c.args.lit) (sym c.self.view_is) c.requires.open in
     let t = c.decide.new.self in
-    let grows = grows_of t c.propagate.new.trail c.as_slice.result.now c.propagate.new.watches c.in_ok-ended.ended c.in_ok-ended.ensures in
+    let grows = grows_of t c.propagate.new.trail c.self.inside.clauses c.propagate.new.watches c.in_ok-ended.ended c.in_ok-ended.ensures in
     subst (λ (x : EngineState). Deepens x.trail c.propagate.new.trail) c.self.view_is
     (deepens_by c.self.inside.trail t c.propagate.new.trail c.args.lit rest.engine.trail.size c.in_ok-decide.ensures low free grows)
 
@@ -51,7 +48,7 @@ returns-clause-fewer c =
     let low = subst (λ (x : EngineState). c.args.lit.variable < length x.trail.marks) (sym c.self.view_is) c.requires.below in
     let free = subst (λ (x : EngineState). IsOpen x.trail.marks c.args.lit) (sym c.self.view_is) c.requires.open in
     let t = c.decide.new.self in
-    let grows = grows_of t c.propagate.new.trail c.as_slice.result.now c.propagate.new.watches c.in_ok-ended.ended c.in_ok-ended.ensures in
+    let grows = grows_of t c.propagate.new.trail c.self.inside.clauses c.propagate.new.watches c.in_ok-ended.ended c.in_ok-ended.ensures in
     let less = fewer_decide c.self.inside.trail t c.args.lit c.in_ok-decide.ensures low free in
     let total = grows.total in
     let longer = grows.longer in
@@ -60,7 +57,7 @@ returns-clause-fewer c =
 
 pub returns-clause-ended : goal.returns-clause-ended
 returns-clause-ended c =
-    let e : EngineState = record { trail = c.self.inside.trail; clauses = c.self.inside.clauses.items; watches = c.self.inside.watches } in
+    let e : EngineState = record { trail = c.self.inside.trail; clauses = c.self.inside.clauses; watches = c.self.inside.watches } in
     let rest = subst IsAtRest (sym c.self.view_is) c.requires.rest in
     let low = subst (λ (x : EngineState). c.args.lit.variable < length x.trail.marks) (sym c.self.view_is) c.requires.below in
     let free = subst (λ (x : EngineState). IsOpen x.trail.marks c.args.lit) (sym c.self.view_is) c.requires.open in
@@ -68,4 +65,4 @@ returns-clause-ended c =
     let d = engine_decides e t c.args.lit c.len-from.result rest c.in_ok-decide.ensures low free c.len-from.ensures in
     let mid : EngineState = record { trail = t; clauses = e.clauses; watches = e.watches } in
     ends_by mid c.propagate.new.trail c.propagate.new.watches c.in_ok-ended.ended d.engine
-    (subst (λ (cs : List (List Literal)). PropagationSays t c.propagate.new.trail cs c.propagate.new.watches c.in_ok-ended.ended) c.as_slice.ensures.value c.in_ok-ended.ensures)
+    (c.in_ok-ended.ensures)
