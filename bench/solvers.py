@@ -3,7 +3,7 @@
 
 Usage: solvers.py FOLDER [CNF ..]        (a scratch folder, in which a program over the libraries is proved and built, once; files of DIMACS)
 
-The clause sets are those of search.py, greater ones of the same kinds, and the files. Each line that is printed: what the clause set is, its variables and clauses, and seconds of the processor, the least of three runs where one is short: of the search, with its outcome and the clauses of its log; of the replay of that log; of minisat, where it is installed; and how often those of minisat the search and the replay together take. With files the provers that stand before the search are timed too: the probe, whose one try is that all bits are false, and the splitter of depth 8. The last lines give the mean of the ratios, and of the files the sums. A run is stopped after 60 seconds.
+The clause sets are those of search.py, greater ones of the same kinds, those of conditions that clauses.py makes, and the files. Each line that is printed: what the clause set is, its variables and clauses, and seconds of the processor, the least of three runs where one is short: of the search, with its outcome and the clauses of its log; of the replay of that log; of minisat, where it is installed; and how often those of minisat the search and the replay together take. With files the provers that stand before the search are timed too: the probe, whose one try is that all bits are false, and the splitter of depth 8. The last lines give the mean of the ratios, and of the files the sums. A run is stopped after 60 seconds.
 """
 import math
 import os
@@ -14,6 +14,7 @@ import subprocess
 import sys
 import time
 
+import clauses
 import program
 import search
 
@@ -106,16 +107,14 @@ FILES = {
 }
 
 
-def sets():
+def sets(folder):
     for places in (6, 7, 8):
         yield f"{places + 1} pigeons in {places} holes", *search.pigeons(places)
     for width in (5, 6, 7, 8):
         yield f"a product of {width} bits commutes", *search.commutes(width)
-    for width in (16, 32):
-        yield f"ten times a word of {width} bits is two shifts", *search.times_ten(width)
-        yield f"a shift of {width} bits and back", *search.shift_and_back(width)
-        yield f"a shift of a sum of {width} bits", *search.shift_of_sum(width)
-        yield f"a division of {width} bits by 10", *search.division_by(width, 10)
+    for kind, widths in clauses.KINDS.items():
+        for width in widths:
+            yield f"{kind.replace('_', ' ')}, {width} bits", *clauses.made(folder, kind, width)
     for variables in (100, 150, 200):
         for seed in (1, 2, 3):
             yield f"3-SAT of {variables} variables, seed {seed}", *search.random_clauses(variables, seed)
@@ -223,7 +222,7 @@ def main():
         print("no minisat here")
     if len(sys.argv) > 2:
         boxes(binary, sys.argv[2:])
-    ratios = [measured(binary, folder, *it, has_minisat) for it in sets()]
+    ratios = [measured(binary, folder, *it, has_minisat) for it in sets(folder)]
     found = [it for it in ratios if it]
     if found:
         print(f"mean of the ratios {math.exp(sum(map(math.log, found)) / len(found)):.2f} over {len(found)} sets, greatest {max(found):.2f}")
