@@ -16,13 +16,16 @@ const FIXED: u64 = 1_000;
 /// After each so many conflicts it is looked whether the fixed order is worth keeping.
 const ROUND: u64 = 100;
 
+/// So many literals may be taken back in all before decisions go by activity: where trails are long, the fixed order costs more than it gains.
+const WORK: u64 = 30_000;
+
 /// The activity that the first conflict gives.
 const FIRST: u64 = 1_024;
 
 /// Where a conflict would give more, all activities are made smaller.
 const LIMIT: u64 = 72_057_594_037_927_936;
 
-/// The order in which variables are decided. For the first conflicts the first variable without a value is made false, as long as what is learned takes the search far back. From then on it is the variable of the greatest activity, the sum of what conflicts gave it that it played a part in, each a twentieth more than the one before (Moskewicz and others, "Chaff: engineering an efficient SAT solver", 2001; Een and Sorensson, "An extensible SAT-solver", 2003), and it gets the value that it had last (Pipatsrisawat and Darwiche, "A lightweight component caching scheme for satisfiability solvers", 2007). All of this are hints: a variable is taken only where it has no value.
+/// The order in which variables are decided. For the first conflicts the first variable without a value is made false, as long as what is learned takes the search far back and few literals in all. From then on it is the variable of the greatest activity, the sum of what conflicts gave it that it played a part in, each a twentieth more than the one before (Moskewicz and others, "Chaff: engineering an efficient SAT solver", 2001; Een and Sorensson, "An extensible SAT-solver", 2003), and it gets the value that it had last (Pipatsrisawat and Darwiche, "A lightweight component caching scheme for satisfiability solvers", 2007). All of this are hints: a variable is taken only where it has no value.
 #[derive(Drop)]
 pub struct Order {
     variables: u32,
@@ -40,6 +43,8 @@ pub struct Order {
     conflicts: u64,
     /// How many levels were taken back in all.
     taken: u64,
+    /// How many literals were taken back in all.
+    freed: u64,
     /// Whether decisions go by the fixed order still.
     fixed: bool,
     /// No variable before this one had no value, in the fixed order.
@@ -123,6 +128,7 @@ impl Order {
             increment: FIRST,
             conflicts: 0,
             taken: 0,
+            freed: 0,
             fixed: true,
             lowest: 0,
         })
@@ -155,12 +161,15 @@ impl Order {
         self.fixed
     }
 
-    /// Whether the fixed order is to be given up: conflicts take back less than five levels in three. Where each takes back about one, what is learned only rules out one case after the other.
+    /// Whether the fixed order is to be given up: much was taken back in all, or conflicts take back less than five levels in three. Where each takes back about one, what is learned only rules out one case after the other.
     fn is_poor(&self) -> bool {
         if self.conflicts >= FIXED {
             return true;
         }
-        self.conflicts % ROUND == 0 && self.taken.saturating_mul(3) < self.conflicts * 5
+        if self.conflicts % ROUND != 0 {
+            return false;
+        }
+        WORK < self.freed || self.taken.saturating_mul(3) < self.conflicts * 5
     }
 
     /// Notes a conflict, in which these variables play a part.
@@ -184,6 +193,7 @@ impl Order {
     fn free(&mut self, lit: Lit) -> Result<(), Memory> {
         let place = lit.variable() as usize;
         self.lowest = self.lowest.min(place);
+        self.freed = self.freed.saturating_add(1);
         if self.fixed {
             return Ok(());
         }
