@@ -1,4 +1,4 @@
--- Clauses whose literals stand in one list.
+-- For the view of `Clauses` alone: clauses whose literals stand in one list.
 use Rattle.std.specs.Prelude.{◌≤◌, ◌+◌, ℕ, List, All, take, drop, map}
 use Rattle.civl_cnf.specs.Literal.{Literal}
 use Rattle.civl_propagation.specs.declared.clauses.Span.{Span}

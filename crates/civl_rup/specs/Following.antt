@@ -1,4 +1,4 @@
--- What the hints of a log lead to.
+-- Serves private functions: what the hints of a log lead to (reverse unit propagation with hints: Cruz-Filipe, Heule, Hunt, Kaufmann and Schneider-Kamp, "Efficient certified RAT verification", 2017).
 use Rattle.std.specs.Prelude.{◌≡◌, ◌<◌, ◌≤◌, ℕ, List, [], Bool, IsTrue, All, Contains, length, slice_index_or}
 use Rattle.civl_cnf.specs.Literal.{Literal}
 use Rattle.civl_units.specs.Propagation.{Fails, IsClosed, GivesConflict}
