@@ -16,9 +16,9 @@ use Rattle.civl_reduction.specs.gathering.Gathered.{own, others, blocks}
 use Rattle.civl_reduction.proofs.gathering.Gathering.{all_join, own_all, others_all}
 use Rattle.civl_reduction.proofs.gathering.Counting.{split_length, counted_few, blocks_more, blocks_opens, blocks_step}
 use Rattle.civl_reduction.proofs.gathering.Standing.{staged_joined}
-use Rattle.civl_reduction.specs.gathered.Laws.{IsReached, PlacesAreInside, OthersLeave}
+use Rattle.civl_reduction.specs.gathered.Laws.{IsReached, PlacesAreInside, OthersLeave, by_thread}
 use Rattle.civl_blocked.specs.declared.ground.Ground.{Ground}
-use Rattle.civl_blocked.specs.Segments.{IsGround, over, place_on, program_of, mover, FailsTo, Gathered}
+use Rattle.civl_blocked.specs.Segments.{IsGround, over, place_on, program_of, FailsTo, Gathered}
 use Rattle.civl_blocked.specs.declared.segment.Segment.{Segment}
 use Rattle.civl_blocked.specs.declared.turning.Turning.{Turning}
 use Rattle.civl_blocked.specs.Turning.{Standing, Going, Bounded, Room, OnlyMay, IsBeside, IsGathering, measure_of, ended}
@@ -43,24 +43,24 @@ pub record IsJoined (g : Ground) (done done2 : List Move) (o : Option ℕ) (besi
   pub rest_moves : All IsMove rest
   pub fails : FailsTo (over g) rest e
   pub middle : Config
-  pub opens : Opens (over g) u (own mover u ms) beside.config middle
+  pub opens : Opens (over g) u (own by_thread u ms) beside.config middle
   pub step : (over g).step middle m ≡ Some new.config
-  pub run : RunsTo (over g).steps (others mover u ms) new.config e
-  pub done_is : done2 ≡ (done ++ own mover u ms) ++ m ∷ []
+  pub run : RunsTo (over g).steps (others by_thread u ms) new.config e
+  pub done_is : done2 ≡ (done ++ own by_thread u ms) ++ m ∷ []
   pub beside_it : IsBeside g done2 new
-  pub rest_is : rest2 ≡ others mover u ms ++ rest
+  pub rest_is : rest2 ≡ others by_thread u ms ++ rest
 
 -- as the code finds it
 module _ (g : Ground) (t : Turning) (u : ℕ) (s : Segment) (slice d1 : List Move) (mid : kept.Shadowed) (r : IsGathering g t u s t.rest.items) (gathered : Gathered g t.beside.config u s) (slice_is : slice ≡ s.moves.items)
-    (opens : Opens (over g) u (own mover u slice) t.beside.config mid.config) where
-  opens_so : Opens (over g) u (own mover u s.moves.items) t.beside.config mid.config
-  opens_so = subst (λ l. Opens (over g) u (own mover u l) t.beside.config mid.config) slice_is opens
+    (opens : Opens (over g) u (own by_thread u slice) t.beside.config mid.config) where
+  opens_so : Opens (over g) u (own by_thread u s.moves.items) t.beside.config mid.config
+  opens_so = subst (λ l. Opens (over g) u (own by_thread u l) t.beside.config mid.config) slice_is opens
 
   pub last_runs : (x : Config) × ((over g).step mid.config s.last ≡ Some x)
-  last_runs = (gathered.after, subst (λ z. (over g).step z s.last ≡ Some gathered.after) (one_opened (over g) u (own mover u s.moves.items) t.beside.config gathered.middle mid.config gathered.opens opens_so) gathered.last)
+  last_runs = (gathered.after, subst (λ z. (over g).step z s.last ≡ Some gathered.after) (one_opened (over g) u (own by_thread u s.moves.items) t.beside.config gathered.middle mid.config gathered.opens opens_so) gathered.last)
 
-  pub taken : (done2 : List Move) (new : kept.Shadowed) (rest2 : List Move) → d1 ≡ t.done.items ++ own mover u slice → done2 ≡ d1 ++ s.last ∷ [] → (over g).step mid.config s.last ≡ Some new.config → IsBeside g done2 new
-      → rest2 ≡ others mover u slice ++ t.rest.items → IsJoined g t.done.items done2 t.open t.beside new u s.moves.items s.last s.end t.rest.items rest2
+  pub taken : (done2 : List Move) (new : kept.Shadowed) (rest2 : List Move) → d1 ≡ t.done.items ++ own by_thread u slice → done2 ≡ d1 ++ s.last ∷ [] → (over g).step mid.config s.last ≡ Some new.config → IsBeside g done2 new
+      → rest2 ≡ others by_thread u slice ++ t.rest.items → IsJoined g t.done.items done2 t.open t.beside new u s.moves.items s.last s.end t.rest.items rest2
   unfolding last_runs
   taken done2 new rest2 e1 e2 step besides e3 = record {
     standing = r.standing;
@@ -73,10 +73,10 @@ module _ (g : Ground) (t : Turning) (u : ℕ) (s : Segment) (slice d1 : List Mov
     middle = mid.config;
     opens = opens_so;
     step = step;
-    run = subst (λ z. RunsTo (over g).steps (others mover u s.moves.items) z s.end) (same_end (over g) mid.config gathered.after new.config s.last last_runs.1 step) gathered.rest;
-    done_is = e2 ∙ ap (λ l. l ++ s.last ∷ []) (e1 ∙ ap (λ l. t.done.items ++ own mover u l) slice_is);
+    run = subst (λ z. RunsTo (over g).steps (others by_thread u s.moves.items) z s.end) (same_end (over g) mid.config gathered.after new.config s.last last_runs.1 step) gathered.rest;
+    done_is = e2 ∙ ap (λ l. l ++ s.last ∷ []) (e1 ∙ ap (λ l. t.done.items ++ own by_thread u l) slice_is);
     beside_it = besides;
-    rest_is = e3 ∙ ap (λ l. others mover u l ++ t.rest.items) slice_is;
+    rest_is = e3 ∙ ap (λ l. others by_thread u l ++ t.rest.items) slice_is;
   }
 
 pub between_late : Between ≡ Late → ⊥
@@ -87,17 +87,17 @@ module _ (g : Ground) (ground : IsGround g) (inside_law : PlacesAreInside) (leav
   abbrev S : System Config Move
   S = over g
 
-  joined : (q : Option ℕ) × MayStep q u × Staged S (done ++ own mover u ms) q j.middle
-  joined = staged_joined S done (own mover u ms) o u beside.config j.middle j.standing.staged (may_step o u j.may) j.opens
+  joined : (q : Option ℕ) × MayStep q u × Staged S (done ++ own by_thread u ms) q j.middle
+  joined = staged_joined S done (own by_thread u ms) o u beside.config j.middle j.standing.staged (may_step o u j.may) j.opens
 
-  middle_run : RunsTo S.steps (done ++ own mover u ms) S.start j.middle
-  middle_run = blocks_run S (done ++ own mover u ms) None joined.0 S.start j.middle (staged_runs S joined.2)
+  middle_run : RunsTo S.steps (done ++ own by_thread u ms) S.start j.middle
+  middle_run = blocks_run S (done ++ own by_thread u ms) None joined.0 S.start j.middle (staged_runs S joined.2)
 
   all_done : All IsMove done2
-  all_done = subst (All IsMove) (sym j.done_is) (all_join IsMove (done ++ own mover u ms) (m ∷ []) (all_join IsMove done (own mover u ms) j.standing.done_moves (own_all IsMove mover u ms j.moves)) (All-cons IsMove m [] j.last (All-nil IsMove)))
+  all_done = subst (All IsMove) (sym j.done_is) (all_join IsMove (done ++ own by_thread u ms) (m ∷ []) (all_join IsMove done (own by_thread u ms) j.standing.done_moves (own_all IsMove by_thread u ms j.moves)) (All-cons IsMove m [] j.last (All-nil IsMove)))
 
   reached : IsReached (program_of g) g.layer g.store.now new.config
-  reached = record { moves = done2; are_moves = all_done; runs = subst (λ l. RunsTo S.steps l S.start new.config) (sym j.done_is) (run_more S (done ++ own mover u ms) m S.start j.middle new.config middle_run j.step) }
+  reached = record { moves = done2; are_moves = all_done; runs = subst (λ l. RunsTo S.steps l S.start new.config) (sym j.done_is) (run_more S (done ++ own by_thread u ms) m S.start j.middle new.config middle_run j.step) }
 
   -- the thread stands where it stood at the segment's end
   pub same_place : place_on g new.config u ≡ place_on g e u
@@ -107,10 +107,10 @@ module _ (g : Ground) (ground : IsGround g) (inside_law : PlacesAreInside) (leav
   inside_is = inside_law (program_of g) g.layer g.store.now new.config u ground.checked
 
   rest_fails : FailsTo S rest2 new.config
-  rest_fails = subst (λ l. FailsTo S l new.config) (sym j.rest_is) (j.fails.0, runs_join S (others mover u ms) rest new.config e j.fails.0 j.run j.fails.1, j.fails.2)
+  rest_fails = subst (λ l. FailsTo S l new.config) (sym j.rest_is) (j.fails.0, runs_join S (others by_thread u ms) rest new.config e j.fails.0 j.run j.fails.1, j.fails.2)
 
   rest_all : All IsMove rest2
-  rest_all = subst (All IsMove) (sym j.rest_is) (all_join IsMove (others mover u ms) rest (others_all IsMove mover u ms j.moves) j.rest_moves)
+  rest_all = subst (All IsMove) (sym j.rest_is) (all_join IsMove (others by_thread u ms) rest (others_all IsMove by_thread u ms j.moves) j.rest_moves)
 
   -- how many blocks
   before_runs : RunsTo S.steps done S.start beside.config
@@ -122,15 +122,15 @@ module _ (g : Ground) (ground : IsGround g) (inside_law : PlacesAreInside) (leav
   ended_by : (b : Bool) → S.inside new.config u ≡ b → ended g done2 ≡ ended g done + one_block b
   ended_by b i =
       let e1 = ap (λ l. blocks S l S.start) j.done_is in
-      let e2 = blocks_more S (done ++ own mover u ms) (m ∷ []) S.start j.middle middle_run in
-      let e3 = blocks_more S done (own mover u ms) S.start beside.config before_runs in
-      let e4 = blocks_opens S u (own mover u ms) beside.config j.middle j.opens in
+      let e2 = blocks_more S (done ++ own by_thread u ms) (m ∷ []) S.start j.middle middle_run in
+      let e3 = blocks_more S done (own by_thread u ms) S.start beside.config before_runs in
+      let e4 = blocks_opens S u (own by_thread u ms) beside.config j.middle j.opens in
       let e5 = blocks_step S m [] j.middle new.config j.step in
       let e6 = ap one_block (subst (λ t. S.inside new.config t ≡ b) (sym j.mine) i) in
       omega (arith, e1, e2, e3, e4, e5, e6)
 
-  rest_long : length rest2 ≡ length (others mover u ms) + length rest
-  rest_long = ap length j.rest_is ∙ length-append (others mover u ms) rest
+  rest_long : length rest2 ≡ length (others by_thread u ms) + length rest
+  rest_long = ap length j.rest_is ∙ length-append (others by_thread u ms) rest
 
   -- ---- a block that is open behind it
 
@@ -141,7 +141,7 @@ module _ (g : Ground) (ground : IsGround g) (inside_law : PlacesAreInside) (leav
     pub late_goes : Going g done2 (Some u) new rest2
     late_goes = record {
       standing = record {
-        staged = subst (λ k. Staged S k (Some u) new.config) (sym j.done_is) (inside_more S (done ++ own mover u ms) joined.0 u j.middle new.config m joined.2 joined.1 j.mine j.step stays_inside);
+        staged = subst (λ k. Staged S k (Some u) new.config) (sym j.done_is) (inside_more S (done ++ own by_thread u ms) joined.0 u j.middle new.config m joined.2 joined.1 j.mine j.step stays_inside);
         done_moves = all_done;
         beside_it = j.beside_it;
         late = λ v q. subst (λ w. place_on g new.config w ≡ Late) (same_Some u v q) (same_place ∙ l);
@@ -150,13 +150,13 @@ module _ (g : Ground) (ground : IsGround g) (inside_law : PlacesAreInside) (leav
       fails = rest_fails;
     }
 
-    pub late_bounded : o ≡ None → (bound before : ℕ) → Room g bound before done o (length ms + 1 + length rest) (length (others mover u ms) + length rest) → Bounded g bound done2 (Some u) new rest2 × (measure_of g (Some u) rest2 new.config < before)
+    pub late_bounded : o ≡ None → (bound before : ℕ) → Room g bound before done o (length ms + 1 + length rest) (length (others by_thread u ms) + length rest) → Bounded g bound done2 (Some u) new rest2 × (measure_of g (Some u) rest2 new.config < before)
     late_bounded none bound before room =
         let r = room.none none in
         let a = r.0 in
         let b = r.1 in
         let n = rest_long in
-        let q = split_length mover u ms in
+        let q = split_length by_thread u ms in
         let z = ended_by true stays_inside in
         let k = counted_few S u rest2 new.config in
         (omega (arith, a, n, q, z, k), omega (arith, b, n, q, k))
@@ -170,7 +170,7 @@ module _ (g : Ground) (ground : IsGround g) (inside_law : PlacesAreInside) (leav
     pub between_goes : challenged (program_of g) g.layer g.store.now done2 ≡ false → Going g done2 None new rest2
     between_goes calm = record {
       standing = record {
-        staged = subst (λ k. Staged S k None new.config) (sym j.done_is) (ends_staged S (done ++ own mover u ms) joined.0 u j.middle new.config m joined.2 joined.1 j.mine j.step is_out (ap (challenged (program_of g) g.layer g.store.now) (sym j.done_is) ∙ calm));
+        staged = subst (λ k. Staged S k None new.config) (sym j.done_is) (ends_staged S (done ++ own by_thread u ms) joined.0 u j.middle new.config m joined.2 joined.1 j.mine j.step is_out (ap (challenged (program_of g) g.layer g.store.now) (sym j.done_is) ∙ calm));
         done_moves = all_done;
         beside_it = j.beside_it;
         late = λ v q. absurd (none-some v q);
@@ -179,14 +179,14 @@ module _ (g : Ground) (ground : IsGround g) (inside_law : PlacesAreInside) (leav
       fails = rest_fails;
     }
 
-    pub between_bounded : (bound before : ℕ) → Room g bound before done o (length ms + 1 + length rest) (length (others mover u ms) + length rest) → Bounded g bound done2 None new rest2 × (measure_of g None rest2 new.config < before)
+    pub between_bounded : (bound before : ℕ) → Room g bound before done o (length ms + 1 + length rest) (length (others by_thread u ms) + length rest) → Bounded g bound done2 None new rest2 × (measure_of g None rest2 new.config < before)
     between_bounded bound before room = go o refl
       where
-        n : length rest2 ≡ length (others mover u ms) + length rest
+        n : length rest2 ≡ length (others by_thread u ms) + length rest
         n = rest_long
 
-        k : length (own mover u ms) + length (others mover u ms) ≡ length ms
-        k = split_length mover u ms
+        k : length (own by_thread u ms) + length (others by_thread u ms) ≡ length ms
+        k = split_length by_thread u ms
 
         z : ended g done2 ≡ ended g done + 1
         z = ended_by false is_out
@@ -195,12 +195,12 @@ module _ (g : Ground) (ground : IsGround g) (inside_law : PlacesAreInside) (leav
         go None e = let r = room.none e in let a = r.0 in let b = r.1 in (omega (arith, a, n, k, z), omega (arith, b, n, k))
         go (Some v) e = let r = room.some v e in let a = r.0 in let b = r.1 in (omega (arith, a, n, z), omega (arith, b, n))
 
-    pub between_done : challenged (program_of g) g.layer g.store.now done2 ≡ true → (bound before : ℕ) → Room g bound before done o (length ms + 1 + length rest) (length (others mover u ms) + length rest)
+    pub between_done : challenged (program_of g) g.layer g.store.now done2 ≡ true → (bound before : ℕ) → Room g bound before done o (length ms + 1 + length rest) (length (others by_thread u ms) + length rest)
         → (given : List Move) → bound ≤ length given → IsTurned (program_of g) g.layer g.store.now given done2
     between_done hard bound before room given small = record {
       end = new.config;
       are_moves = all_done;
-      runs = subst (λ k. IsBlockRun S k new.config) (sym j.done_is) (ends_run S (done ++ own mover u ms) joined.0 u j.middle new.config m joined.2 joined.1 j.mine j.step is_out);
+      runs = subst (λ k. IsBlockRun S k new.config) (sym j.done_is) (ends_run S (done ++ own by_thread u ms) joined.0 u j.middle new.config m joined.2 joined.1 j.mine j.step is_out);
       fails = inr hard;
       few = (let x = between_bounded bound before room in let y = x.0 in omega (arith, y, small));
     }

@@ -2,8 +2,8 @@
 use Rattle.std.proofs.Common.{◌≡◌, refl, Option, None, Some}
 use Rattle.civl_tree.specs.declared.action.Action.{Action}
 use Rattle.civl_meaning.specs.Meaning.{meaning_of_action}
-use Rattle.civl_blocked.specs.Offering.{action_in}
+use Rattle.civl_conditions.specs.paths.Choices.{action_meant}
 
-pub action_is : (o : Option Action) → o ≡ action_in (meaning_of_action o)
+pub action_is : (o : Option Action) → o ≡ action_meant (meaning_of_action o)
 action_is None = refl
 action_is (Some action) = refl

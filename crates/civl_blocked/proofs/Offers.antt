@@ -16,17 +16,19 @@ use Rattle.civl_meaning.proofs.Rests.{spot_of_rest}
 use Rattle.civl_meaning.specs.Meaning.{Meaning, Does, Runs, Missing}
 use Rattle.civl_reduction.specs.exchanges.Doing.{call_doing, layer_doing, leaving, spot_doing, proc_doing}
 use Rattle.civl_reduction.specs.gathered.Offered.{offers_of}
-use Rattle.civl_blocked.specs.Offering.{action_in, offers_in, stmt_in}
+use Rattle.civl_meaning.specs.Left.{stmt_of}
+use Rattle.civl_conditions.specs.paths.Choices.{action_meant}
+use Rattle.civl_blocked.specs.Offering.{offers_in}
 
 pub call_so : (plain : Plain) (store : Store) (names : List Name) (locals : List Value) (results : List Name) (at next : ℕ) (m : Meaning) (args : List Value)
-    → offers_in plain.program.globals store (action_in m) args ≡ offers_of plain.program.globals store (call_doing names locals results at next m args)
+    → offers_in plain.program.globals store (action_meant m) args ≡ offers_of plain.program.globals store (call_doing names locals results at next m args)
 call_so plain store names locals results at next (Does action) args = refl
 call_so plain store names locals results at next (Runs number proc) args = refl
 call_so plain store names locals results at next Missing args = refl
 
 -- the statement at a place is the first one of what is still to run
-pub head_at : (proc : Proc) (place : ℕ) (k : Rest) (o : Option Stmt) → k ≡ rest_at proc.body place → ((end : ℕ) → o ≡ stmt_in (head_of end k)) → stmt_in (spot_at proc.body place) ≡ o
-head_at proc place k o e h = ap stmt_in (spot_of_rest proc.body place) ∙ (ap (λ (r : Rest). stmt_in (head_of (sizes_of proc.body) r)) (sym e) ∙ sym (h (sizes_of proc.body)))
+pub head_at : (proc : Proc) (place : ℕ) (k : Rest) (o : Option Stmt) → k ≡ rest_at proc.body place → ((end : ℕ) → o ≡ stmt_of (head_of end k)) → stmt_of (spot_at proc.body place) ≡ o
+head_at proc place k o e h = ap stmt_of (spot_of_rest proc.body place) ∙ (ap (λ (r : Rest). stmt_of (head_of (sizes_of proc.body) r)) (sym e) ∙ sym (h (sizes_of proc.body)))
 
 module _ (plain : Plain) (store : Store) (frame : Activation) (proc : Proc) (there : slice_get plain.program.procs frame.procedure ≡ Some proc) where
   abbrev Does_so : Option Activation → List Value
@@ -37,22 +39,22 @@ module _ (plain : Plain) (store : Store) (frame : Activation) (proc : Proc) (the
       ap (λ (p : Option Proc). offers_of plain.program.globals store (proc_doing plain caller frame p)) there
       ∙ ap (λ (x : Option Spot). offers_of plain.program.globals store (spot_doing plain caller frame proc x)) e
 
-  pub frame_none : (caller : Option Activation) → stmt_in (spot_at proc.body frame.place) ≡ None → [] ≡ Does_so caller
+  pub frame_none : (caller : Option Activation) → stmt_of (spot_at proc.body frame.place) ≡ None → [] ≡ Does_so caller
   frame_none caller = go (spot_at proc.body frame.place) refl
     where
       by_caller : (c : Option Activation) → offers_of plain.program.globals store (leaving plain (outs_in proc frame.locals) c) ≡ []
       by_caller None = refl
       by_caller (Some f) = refl
 
-      go : (o : Option Spot) → spot_at proc.body frame.place ≡ o → stmt_in o ≡ None → [] ≡ Does_so caller
+      go : (o : Option Spot) → spot_at proc.body frame.place ≡ o → stmt_of o ≡ None → [] ≡ Does_so caller
       go None e h = sym (at_spot caller None e ∙ by_caller caller)
       go (Some s) e h = absurd (none-some s.stmt (sym h))
 
-  pub frame_some : (caller : Option Activation) (st : Stmt) (vs : List Value) → stmt_in (spot_at proc.body frame.place) ≡ Some st
+  pub frame_some : (caller : Option Activation) (st : Stmt) (vs : List Value) → stmt_of (spot_at proc.body frame.place) ≡ Some st
       → ((at next : ℕ) → vs ≡ offers_of plain.program.globals store (layer_doing plain proc frame.locals at next (out-Stmt st))) → vs ≡ Does_so caller
   frame_some caller st vs h says = go (spot_at proc.body frame.place) refl h
     where
-      go : (o : Option Spot) → spot_at proc.body frame.place ≡ o → stmt_in o ≡ Some st → vs ≡ Does_so caller
+      go : (o : Option Spot) → spot_at proc.body frame.place ≡ o → stmt_of o ≡ Some st → vs ≡ Does_so caller
       go None e q = absurd (none-some st q)
       go (Some s) e q =
           says s.number s.next

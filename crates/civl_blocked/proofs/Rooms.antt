@@ -22,9 +22,9 @@ use Rattle.civl_reduction.specs.gathering.Gathered.{others, counted, AllPass}
 use Rattle.civl_reduction.proofs.gathering.Gathering.{others_mine, all_join}
 use Rattle.civl_reduction.proofs.gathering.Counting.{others_more, counted_behind, counted_last}
 use Rattle.civl_reduction.specs.gathered.System.{made, there_fails}
-use Rattle.civl_reduction.specs.gathered.Laws.{IsReached, PlacesAreInside}
+use Rattle.civl_reduction.specs.gathered.Laws.{IsReached, PlacesAreInside, by_thread}
 use Rattle.civl_blocked.specs.declared.ground.Ground.{Ground}
-use Rattle.civl_blocked.specs.Segments.{IsGround, over, place_on, program_of, mover}
+use Rattle.civl_blocked.specs.Segments.{IsGround, over, place_on, program_of}
 use Rattle.civl_blocked.specs.Turning.{Standing, Room, ended, left_of, measure_of}
 use Rattle.civl_blocked.specs.Completed.{OfferedOn}
 use Rattle.civl_blocked.proofs.Strides.{runs_join}
@@ -34,8 +34,8 @@ pub ok_map : {A E : Type 0} (P Q : A → Type 0) (r : Result A E) → ((x : A) �
 ok_map P Q (Ok x) f h = f x h
 ok_map P Q (Err e) f h = tt
 
-pub others_last : (u : ℕ) (ms : List Move) (m : Move) → m.thread ≡ u → others mover u (ms ++ m ∷ []) ≡ others mover u ms
-others_last u ms m e = others_more mover u ms (m ∷ []) ∙ (ap (λ l. others mover u ms ++ l) (others_mine mover u m [] e) ∙ append-nil (others mover u ms))
+pub others_last : (u : ℕ) (ms : List Move) (m : Move) → m.thread ≡ u → others by_thread u (ms ++ m ∷ []) ≡ others by_thread u ms
+others_last u ms m e = others_more by_thread u ms (m ∷ []) ∙ (ap (λ l. others by_thread u ms ++ l) (others_mine by_thread u m [] e) ∙ append-nil (others by_thread u ms))
 
 module _ (g : Ground) (bound before : ℕ) (done : List Move) (o : Option ℕ) where
   pub room_less : (whole part less fewer : ℕ) → Room g bound before done o whole part → less ≤ whole → fewer ≤ part → Room g bound before done o less fewer
@@ -52,11 +52,11 @@ module _ (g : Ground) (bound before : ℕ) (done : List Move) (o : Option ℕ) w
   }
 
   pub room_of : (u : ℕ) (ms : List Move) (m : Move) (rest items : List Move) → items ≡ ms ++ m ∷ [] → m.thread ≡ u
-      → Room g bound before done o (length ms + 1 + length rest) (length (others mover u ms) + length rest) → Room g bound before done o (length items) (length (others mover u items))
+      → Room g bound before done o (length ms + 1 + length rest) (length (others by_thread u ms) + length rest) → Room g bound before done o (length items) (length (others by_thread u items))
   room_of u ms m rest items e mine r =
       let a = ap length e ∙ length-append ms (m ∷ []) in
-      let b = ap length (ap (others mover u) e ∙ others_last u ms m mine) in
-      room_less (length ms + 1 + length rest) (length (others mover u ms) + length rest) (length items) (length (others mover u items)) r (omega (arith, a)) (omega (arith, b))
+      let b = ap length (ap (others by_thread u) e ∙ others_last u ms m mine) in
+      room_less (length ms + 1 + length rest) (length (others by_thread u ms) + length rest) (length items) (length (others by_thread u items)) r (omega (arith, a)) (omega (arith, b))
 
 -- ---- runs
 
@@ -73,12 +73,12 @@ module _ (g : Ground) where
   offered_passes t [] c d a = a
   offered_passes t (m ∷ os) c d a = (a.0, (a.2, λ w. a.3), offered_passes t os a.0 d a.4)
 
-  pub offered_others : (t : ℕ) (os : List Move) (c d : Config) → OfferedOn g t os c d → others mover t os ≡ []
+  pub offered_others : (t : ℕ) (os : List Move) (c d : Config) → OfferedOn g t os c d → others by_thread t os ≡ []
   offered_others t [] c d a = refl
-  offered_others t (m ∷ os) c d a = others_mine mover t m os (ap (λ (x : Move). x.thread) a.1) ∙ offered_others t os a.0 d a.4
+  offered_others t (m ∷ os) c d a = others_mine by_thread t m os (ap (λ (x : Move). x.thread) a.1) ∙ offered_others t os a.0 d a.4
 
-  pub others_same : (t : ℕ) (ms os : List Move) (c d : Config) → OfferedOn g t os c d → others mover t (ms ++ os) ≡ others mover t ms
-  others_same t ms os c d a = others_more mover t ms os ∙ (ap (λ l. others mover t ms ++ l) (offered_others t os c d a) ∙ append-nil (others mover t ms))
+  pub others_same : (t : ℕ) (ms os : List Move) (c d : Config) → OfferedOn g t os c d → others by_thread t (ms ++ os) ≡ others by_thread t ms
+  others_same t ms os c d a = others_more by_thread t ms os ∙ (ap (λ l. others by_thread t ms ++ l) (offered_others t os c d a) ∙ append-nil (others by_thread t ms))
 
   pub standing_reached : (done : List Move) (o : Option ℕ) (beside : kept.Shadowed) → Standing g done o beside → IsReached (program_of g) g.layer g.store.now beside.config
   standing_reached done o beside s = record { moves = done; are_moves = s.done_moves; runs = blocks_run (over g) done None o (over g).start beside.config (staged_runs (over g) s.staged) }
@@ -139,14 +139,14 @@ module _ (g : Ground) where
   -- ---- counting
 
   pub counted_end : (t : ℕ) (all ms rest : List Move) (m : Move) (c d e : Config) → all ≡ ms ++ m ∷ rest → AllPass (over g) t ms c d → m.thread ≡ t → (over g).step d m ≡ Some e → (over g).inside e t ≡ false
-      → counted (over g) t all c ≡ length (others mover t ms) + length rest
+      → counted (over g) t all c ≡ length (others by_thread t ms) + length rest
   counted_end t all ms rest m c d e is a w s i =
       let x = ap (λ l. counted (over g) t l c) is in
       let y = counted_behind (over g) t ms (m ∷ rest) c d a in
       let z = counted_last (over g) t m rest d e s w i in
       omega (arith, x, y, z)
 
-  pub counted_whole : (t : ℕ) (all ms : List Move) (c d : Config) → all ≡ ms → AllPass (over g) t ms c d → counted (over g) t all c ≡ length (others mover t ms)
+  pub counted_whole : (t : ℕ) (all ms : List Move) (c d : Config) → all ≡ ms → AllPass (over g) t ms c d → counted (over g) t all c ≡ length (others by_thread t ms)
   counted_whole t all ms c d is a =
       let x = ap (λ l. counted (over g) t l c) (is ∙ sym (append-nil ms)) in
       let y = counted_behind (over g) t ms [] c d a in

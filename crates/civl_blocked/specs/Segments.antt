@@ -13,6 +13,7 @@ use Rattle.civl_shadows.specs.Shadows.{IsLayerOf}
 use Rattle.civl_reduction.specs.gathering.Gathered.{others, FailsSooner, IsGathered, counted}
 use Rattle.civl_blocked.specs.declared.ground.Ground.{Ground}
 use Rattle.civl_blocked.specs.declared.segment.Segment.{Segment}
+use Rattle.civl_reduction.specs.gathered.Laws.{by_thread}
 use Rattle.civl_reduction.specs.gathered.System.{layer_run, place_at}
 
 -- ---- the ground
@@ -40,9 +41,6 @@ FailsTo {C} S ms c = (e : C) × RunsTo S.steps ms c e × Failing S.steps e
 
 -- ---- segments
 
-abbrev pub mover : Move → ℕ
-mover m = m.thread
-
 -- the moves of this thread among a segment's are gathered at its front
 abbrev pub Gathered : Ground → Config → ℕ → Segment → Type 0
 Gathered g from t s = IsGathered Config Move (over g) t s.moves.items s.last from s.end
@@ -55,5 +53,5 @@ MayGather g from t s = Gathered g from t s ⊎ FailsSooner (over g) t (s.moves.i
 pub record IsShortened (S : System Config Move) (t : ℕ) (ms : List Move) (from : Config) (shorter : List Move) : Type 0 where
   pub fails : FailsTo S shorter from
   pub fewer : length shorter < length ms
-  pub fewer_others : counted S t shorter from < length (others mover t ms)
+  pub fewer_others : counted S t shorter from < length (others by_thread t ms)
   pub are_moves : All IsMove ms → All IsMove shorter

@@ -10,13 +10,14 @@ use Rattle.civl_reduction.specs.blocks.Shadow.{shadowed}
 use Rattle.civl_shadows.specs.Shadows.{Shows}
 use Rattle.civl_shadows.specs.declared.shadow.Shadowed as kept
 use Rattle.civl_reduction.specs.gathering.Gathered.{counted, blocks, others, FailsSooner, AllPass}
+use Rattle.civl_reduction.specs.gathered.Laws.{by_thread}
 use Rattle.civl_blocked.specs.declared.ground.Ground.{Ground}
 use Rattle.civl_blocked.specs.declared.segment.Segment.{Segment}
 use Rattle.civl_blocked.specs.declared.turning.Turning.{Turning}
 use Rattle.civl_blocked.specs.declared.turning.Next.{Next}
 use Rattle.civl_blocked.specs.declared.turning.Next.TheVariants.{Goes, Done, Spent}
 use Rattle.civl_blocked.specs.Blocked.{IsTurned, IsUnended}
-use Rattle.civl_blocked.specs.Segments.{over, place_on, program_of, mover, FailsTo, MayGather}
+use Rattle.civl_blocked.specs.Segments.{over, place_on, program_of, FailsTo, MayGather}
 
 -- how many blocks can still come of these moves: none that is open has ended yet
 abbrev pub left_of : Ground → Option ℕ → List Move → Config → ℕ
@@ -81,7 +82,7 @@ abbrev pub whole_of : Segment → List Move → ℕ
 whole_of s rest = length s.moves.items + 1 + length rest
 
 abbrev pub part_of : ℕ → Segment → List Move → ℕ
-part_of u s rest = length (others mover u s.moves.items) + length rest
+part_of u s rest = length (others by_thread u s.moves.items) + length rest
 
 -- a segment was taken off the rest, which fails behind it
 pub record IsGathering (g : Ground) (t : Turning) (u : ℕ) (s : Segment) (rest : List Move) : Type 0 where

@@ -3,7 +3,8 @@ ghost use Rattle.std.specs.Prelude.{ℕ, ◌≡◌, ◌↔◌, true, false, IfOk
 ghost use Rattle.civl_meaning.specs.declared.config.Config.{Config as There};
 ghost use Rattle.civl_reduction.specs.interleavings.Runs.{RunsTo, Opens};
 ghost use Rattle.civl_reduction.specs.gathering.Gathered.{own, others};
-ghost use Rattle.civl_blocked.specs.Segments.{IsGround, over, mover, Gathered};
+ghost use Rattle.civl_reduction.specs.gathered.Laws.{by_thread};
+ghost use Rattle.civl_blocked.specs.Segments.{IsGround, over, Gathered};
 
 use crate::ground::Ground;
 use crate::place::is_inside;
@@ -22,8 +23,8 @@ fn runs_own(
     moves: &[Move],
 ) -> Result<bool, Memory>
     requires { IsGround ground.now }
-    ensures made { IfOk result (λ b. IsTrue b → Opens (over ground.now) thread (own mover thread moves.now) config.old config.new) }
-    ensures not { IfOk result (λ b. (IsTrue b → ⊥) → (x : There) → Opens (over ground.now) thread (own mover thread moves.now) config.old x → ⊥) }
+    ensures made { IfOk result (λ b. IsTrue b → Opens (over ground.now) thread (own by_thread thread moves.now) config.old config.new) }
+    ensures not { IfOk result (λ b. (IsTrue b → ⊥) → (x : There) → Opens (over ground.now) thread (own by_thread thread moves.now) config.old x → ⊥) }
 {
     civl_reduction::gathered::laws::places_stay();
     for chosen in moves {
@@ -49,8 +50,8 @@ fn runs_others(
     moves: &[Move],
 ) -> Result<bool, Memory>
     requires { IsGround ground.now }
-    ensures made { IfOk result (λ b. IsTrue b → RunsTo (over ground.now).steps (others mover thread moves.now) config.old config.new) }
-    ensures not { IfOk result (λ b. (IsTrue b → ⊥) → (x : There) → RunsTo (over ground.now).steps (others mover thread moves.now) config.old x → ⊥) }
+    ensures made { IfOk result (λ b. IsTrue b → RunsTo (over ground.now).steps (others by_thread thread moves.now) config.old config.new) }
+    ensures not { IfOk result (λ b. (IsTrue b → ⊥) → (x : There) → RunsTo (over ground.now).steps (others by_thread thread moves.now) config.old x → ⊥) }
 {
     for chosen in moves {
         if chosen.thread == thread {

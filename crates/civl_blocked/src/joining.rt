@@ -5,9 +5,10 @@ ghost use Rattle.civl_meaning.specs.declared.config.Move.{Move as Given};
 ghost use Rattle.civl_meaning.specs.Failing.{IsMove};
 ghost use Rattle.civl_reduction.specs.interleavings.Runs.{BlocksTo, Opens};
 ghost use Rattle.civl_reduction.specs.gathering.Gathered.{own};
+ghost use Rattle.civl_reduction.specs.gathered.Laws.{by_thread};
 ghost use Rattle.civl_blocked.specs.Arranged.{IsLonger, IsCalm, IsHard};
 ghost use Rattle.civl_blocked.specs.Blocked.{IsTurned};
-ghost use Rattle.civl_blocked.specs.Segments.{IsGround, over, program_of, mover};
+ghost use Rattle.civl_blocked.specs.Segments.{IsGround, over, program_of};
 ghost use Rattle.civl_blocked.specs.Turning.{IsBeside, Standing, ended};
 
 use crate::copying::copied;
@@ -56,10 +57,10 @@ pub fn join_own(
     moves: &[Move],
 ) -> Result<(), Memory>
     requires ground { IsGround ground.now }
-    requires runs { (x : There) × Opens (over ground.now) thread (own mover thread moves.now) beside.old.config x }
+    requires runs { (x : There) × Opens (over ground.now) thread (own by_thread thread moves.now) beside.old.config x }
     requires beside { IsBeside ground.now done.old.items beside.old }
-    ensures done { OnOk result (done.new.items ≡ done.old.items ++ own mover thread moves.now) }
-    ensures opens { OnOk result (Opens (over ground.now) thread (own mover thread moves.now) beside.old.config beside.new.config) }
+    ensures done { OnOk result (done.new.items ≡ done.old.items ++ own by_thread thread moves.now) }
+    ensures opens { OnOk result (Opens (over ground.now) thread (own by_thread thread moves.now) beside.old.config beside.new.config) }
     ensures beside { OnOk result (IsBeside ground.now done.new.items beside.new) }
 {
     for chosen in moves {

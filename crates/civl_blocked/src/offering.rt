@@ -13,7 +13,9 @@ ghost use Rattle.civl_firing.specs.Settings.{scope_in};
 ghost use Rattle.civl_reduction.specs.exchanges.Doing.{doing, layer_doing, proc_doing};
 ghost use Rattle.civl_shadows.specs.Rests.{rest_of};
 ghost use Rattle.civl_reduction.specs.gathered.Offered.{offers_of, offered};
-ghost use Rattle.civl_blocked.specs.Offering.{action_in, offers_in, stmt_in};
+ghost use Rattle.civl_meaning.specs.Left.{stmt_of};
+ghost use Rattle.civl_conditions.specs.paths.Choices.{action_meant};
+ghost use Rattle.civl_blocked.specs.Offering.{offers_in};
 
 use civl_bits::Value;
 use civl_firing::Store;
@@ -29,7 +31,7 @@ use std::alloc::Global;
 /// The action that a procedure refines.
 #[tactic(auto, using(crate::proofs::Meanings::action_is))]
 fn refined<'a>(program: &'a Program, proc: &Proc) -> Option<&'a Action>
-    ensures { option_copied result ≡ action_in (refined program.now proc.now.refines) }
+    ensures { option_copied result ≡ action_meant (refined program.now proc.now.refines) }
 {
     match &proc.refines {
         None => None,
@@ -39,7 +41,7 @@ fn refined<'a>(program: &'a Program, proc: &Proc) -> Option<&'a Action>
 
 /// The action that a call of the procedure with this number means, if it means one.
 fn action_of(plain: &Plain, number: usize) -> Option<&Action>
-    ensures { option_copied result ≡ action_in (meaning_of plain.now number) }
+    ensures { option_copied result ≡ action_meant (meaning_of plain.now number) }
 {
     let procs = plain.program.procs.as_slice();
     let bodies = plain.bodies.as_slice();
@@ -57,7 +59,7 @@ fn action_of(plain: &Plain, number: usize) -> Option<&Action>
 
 /// The action that a call of this name means, if it means one.
 fn action_called<'a>(plain: &'a Plain, name: &Name) -> Option<&'a Action>
-    ensures { option_copied result ≡ action_in (called plain.now name.now) }
+    ensures { option_copied result ≡ action_meant (called plain.now name.now) }
 {
     match action_named(&plain.program, name) {
         Some(action) => Some(action),
@@ -161,7 +163,7 @@ fn statement_offers(
 
 /// The first statement of a plain program in what is still to run.
 fn head<'a>(rest: &[Numbered<'a>]) -> Option<&'a Stmt>
-    ensures { (end : ℕ) → option_copied result ≡ stmt_in (head_of end (rest_of rest.now)) }
+    ensures { (end : ℕ) → option_copied result ≡ stmt_of (head_of end (rest_of rest.now)) }
 {
     for item in rest {
         match item.stmt {

@@ -1,7 +1,8 @@
 // Shorter lists of moves that fail.
 ghost use Rattle.std.specs.Prelude.{◌<◌, length, IfOk, IfSome, IfNone};
 ghost use Rattle.civl_reduction.specs.gathering.Gathered.{own, FailsAlong, FailsSooner};
-ghost use Rattle.civl_blocked.specs.Segments.{IsGround, over, mover, IsShortened};
+ghost use Rattle.civl_reduction.specs.gathered.Laws.{by_thread};
+ghost use Rattle.civl_blocked.specs.Segments.{IsGround, over, IsShortened};
 ghost use Rattle.civl_blocked.specs.Shortened.{IsFront, IsFrontBehind, FailsBehindOther};
 
 use crate::copying::copied;
@@ -23,7 +24,7 @@ fn failing_front(
 ) -> Result<Option<Vec<Move>>, Memory>
     requires { IsGround ground.now }
     ensures some { IfOk result (λ o. IfSome o (λ front. IsFront (over ground.now) thread moves.now from.now front.items)) }
-    ensures none { IfOk result (λ o. IfNone o (FailsAlong (over ground.now) thread (own mover thread moves.now) from.now → ⊥)) }
+    ensures none { IfOk result (λ o. IfNone o (FailsAlong (over ground.now) thread (own by_thread thread moves.now) from.now → ⊥)) }
 {
     civl_reduction::gathered::laws::places_stay();
     let mut config = copy_config(alloc, from)?;

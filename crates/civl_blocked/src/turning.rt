@@ -1,12 +1,13 @@
 // A failing run is turned into a block run, block by block.
 ghost use Rattle.std.specs.Prelude.{ℕ, ◌≡◌, ◌+◌, ◌<◌, ◌≤◌, ◌∷◌, [], ◌++◌, List, Some, None, length, drop, IfOk, OnOk, IsTrue};
 ghost use Rattle.std.specs.VecDeque.{deque_len};
+ghost use Rattle.civl_reduction.specs.gathered.Laws.{by_thread};
 ghost use Rattle.civl_blocked.specs.Arranged.{IsArranged};
 ghost use Rattle.civl_meaning.specs.declared.config.Config.{Config as There};
 ghost use Rattle.civl_meaning.specs.declared.config.Move.{Move as Given};
 ghost use Rattle.civl_reduction.specs.interleavings.Runs.{Opens};
 ghost use Rattle.civl_reduction.specs.gathering.Gathered.{own, others};
-ghost use Rattle.civl_blocked.specs.Segments.{IsGround, over, program_of, mover, Gathered};
+ghost use Rattle.civl_blocked.specs.Segments.{IsGround, over, program_of, Gathered};
 ghost use Rattle.civl_blocked.specs.declared.turning.Next.TheVariants.{Goes, Done};
 ghost use Rattle.civl_blocked.specs.Blocked.{IsBlocked};
 ghost use Rattle.civl_blocked.specs.Turning.{IsBeside, IsTurning, IsGoing, IsNext, IsGathering, IsShortening, IsFinishing, HasRoom, whole_of, part_of, measure};
@@ -66,7 +67,7 @@ fn put_back(
     thread: u32,
     moves: &[Move],
 ) -> Result<(), Memory>
-    ensures { OnOk result (rest.new.items ≡ others mover thread moves.now ++ rest.old.items) }
+    ensures { OnOk result (rest.new.items ≡ others by_thread thread moves.now ++ rest.old.items) }
 {
     for at in (0..moves.len()).rev() {
         let chosen = &moves[at];
@@ -131,7 +132,7 @@ fn shorten(
 ) -> Result<Next, Memory>
     requires ground { IsGround ground.now }
     requires shortening { IsShortening ground.now turning.old thread moves.now }
-    ensures { IfOk result (λ next. (bound before : ℕ) → HasRoom ground.now bound before turning.old (length moves.now) (length (others mover thread moves.now)) → IsNext ground.now bound before turning.new next) }
+    ensures { IfOk result (λ next. (bound before : ℕ) → HasRoom ground.now bound before turning.old (length moves.now) (length (others by_thread thread moves.now)) → IsNext ground.now bound before turning.new next) }
 {
     let config = &turning.beside.config;
     let shorter = shortened(alloc, ground, config, thread, moves)?;
@@ -179,7 +180,7 @@ fn finish(
 ) -> Result<Next, Memory>
     requires ground { IsGround ground.now }
     requires finishing { IsFinishing ground.now turning.old thread moves.items end }
-    ensures { IfOk result (λ next. (bound before : ℕ) → HasRoom ground.now bound before turning.old (length moves.items) (length (others mover thread moves.items)) → IsNext ground.now bound before turning.new next) }
+    ensures { IfOk result (λ next. (bound before : ℕ) → HasRoom ground.now bound before turning.old (length moves.items) (length (others by_thread thread moves.items)) → IsNext ground.now bound before turning.new next) }
 {
     civl_reduction::gathered::laws::places_stay();
     civl_reduction::gathered::laws::moves_gather();

@@ -23,11 +23,11 @@ use Rattle.civl_actions.specs.Actions.{values_at}
 use Rattle.civl_actions.proofs.Staying.{values_stay}
 use Rattle.civl_conditions.specs.paths.Choices.{action_meant}
 use Rattle.civl_conditions.specs.paths.Paths.{Course}
+use Rattle.civl_states.specs.Notes.{IsProcIn}
 use Rattle.civl_moves.specs.sweeps.Sweeps.{Swept, halted, with_action, with_meaning, with_call}
 use Rattle.civl_states.specs.formula_parts.Said.{Env}
 use Rattle.civl_moves.specs.declared.sweep.Sweep.{Sweep}
 use Rattle.civl_moves.specs.Calls.{AreBodyTerms, ResultsSuit}
-use Rattle.civl_moves.specs.Expressions.{IsProcIn}
 use Rattle.civl_moves.specs.States.{swept_at, CanSweep, Moves, body_of}
 use Rattle.civl_moves.proofs.States.{swept_same}
 use Rattle.civl_states.specs.declared.choices.Chosen.{Chosen}

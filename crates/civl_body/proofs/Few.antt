@@ -10,7 +10,7 @@ use Rattle.civl_tree.proofs.Kept.{proc_kept, count_among}
 use Rattle.civl_layers.specs.Cuts.{proc_cuts}
 use Rattle.civl_layers.specs.Layered.{IsLayered}
 use Rattle.civl_layers.proofs.Few.{cuts_are_few}
-use Rattle.civl_moves.specs.Expressions.{IsProcIn}
+use Rattle.civl_states.specs.Notes.{IsProcIn}
 
 within_all : (procs : List Proc) (number : ℕ) (proc : Proc) → slice_get procs number ≡ Some proc → length (proc_cuts proc) ≤ length (flat_map proc_cuts procs)
 within_all [] number proc e = absurd (none-some proc e)

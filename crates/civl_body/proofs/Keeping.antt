@@ -24,9 +24,9 @@ use Rattle.civl_actions.specs.Scopes.{AreOf}
 use Rattle.civl_actions.specs.Actions.{LeavesOthers}
 use Rattle.civl_actions.proofs.Rules.{bytes_same, has_same}
 use Rattle.civl_conditions.specs.Weights.{layer_written}
+use Rattle.civl_states.specs.Notes.{IsProcIn}
 use Rattle.civl_moves.specs.declared.sweep.Sweep.{Sweep}
 use Rattle.civl_moves.specs.Branches.{KeepsSame}
-use Rattle.civl_moves.specs.Expressions.{IsProcIn}
 use Rattle.civl_moves.proofs.Picking.{are_length}
 use Rattle.civl_body.specs.Weights.{written, may_change, Leaves}
 use Rattle.civl_body.proofs.Calling.{some_at}

@@ -18,6 +18,7 @@ use Rattle.civl_actions.proofs.Building.{truth_value}
 use Rattle.civl_actions.proofs.Staying.{are_stay, values_stay}
 use Rattle.civl_conditions.specs.paths.Paths.{Course, Progress}
 use Rattle.civl_conditions.specs.paths.Flows.{flow_from}
+use Rattle.civl_states.specs.Notes.{IsProcIn}
 use Rattle.civl_moves.specs.sweeps.Sweeps.{Swept, sweep_from, sweep_begins}
 use Rattle.civl_moves.specs.sweeps.Draws.{Draws}
 use Rattle.civl_moves.specs.sweeps.Flowing.{numbers_of}
@@ -28,7 +29,6 @@ use Rattle.civl_conditions.specs.Values.{Begun}
 use Rattle.civl_states.specs.formula_parts.Said.{Env, IsTest}
 use Rattle.civl_states.proofs.formula_parts.Saying.{sort_stays, test_stays}
 use Rattle.civl_moves.specs.declared.sweep.Sweep.{Sweep}
-use Rattle.civl_moves.specs.Expressions.{IsProcIn}
 use Rattle.civl_moves.specs.States.{bool_at, IsBool, swept_at, CanStop, CanSweep}
 use Rattle.civl_moves.proofs.States.{test_value, test_bool}
 use Rattle.civl_states.specs.declared.beginning.Beginning.{Beginning}

@@ -29,7 +29,7 @@ use Rattle.civl_tree.specs.rules.Typing.{typing_rules, sort_rule, width_rule, in
 use Rattle.civl_tree.proofs.Kept.{statement_kept, sort_among, width_among, index_among, unknown_among, arity_among}
 use Rattle.civl_firing.proofs.values.Sorting.{same_sort-true}
 use Rattle.civl_actions.specs.Scopes.{IsTyped}
-use Rattle.civl_moves.specs.Expressions.{IsProcIn}
+use Rattle.civl_states.specs.Notes.{IsProcIn}
 use Rattle.civl_moves.specs.States.{Suits}
 use Rattle.civl_moves.specs.Calls.{ResultsSuit}
 

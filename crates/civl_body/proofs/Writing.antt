@@ -28,10 +28,10 @@ use Rattle.civl_actions.specs.Actions.{LeavesOthers}
 use Rattle.civl_actions.proofs.Leaving.{leaves_none}
 use Rattle.civl_conditions.specs.paths.Choices.{action_meant}
 use Rattle.civl_conditions.specs.Weights.{layer_written, written_bits}
+use Rattle.civl_states.specs.Notes.{IsProcIn}
 use Rattle.civl_moves.specs.declared.branches.Front.{Front}
 use Rattle.civl_moves.specs.declared.sweep.Sweep.{Sweep}
 use Rattle.civl_moves.specs.Branches.{KeepsSame, front_of, with_front, differing}
-use Rattle.civl_moves.specs.Expressions.{IsProcIn}
 use Rattle.civl_moves.specs.States.{CanSweep}
 use Rattle.civl_moves.proofs.Bindings.{names_bound, sorts_bound, proc_names, proc_sorts}
 use Rattle.civl_body.specs.Passing.{StandsCall}

@@ -26,10 +26,10 @@ use Rattle.civl_actions.specs.Actions.{values_at}
 use Rattle.civl_conditions.specs.paths.Paths.{Course, tested}
 use Rattle.civl_conditions.specs.paths.Choices.{layer_action}
 use Rattle.civl_conditions.specs.Weights.{layer_weight, body_weight}
+use Rattle.civl_states.specs.Notes.{IsProcIn}
 use Rattle.civl_moves.specs.sweeps.Sweeps.{Swept, sweep_all, sweep_loop, sweep_layer, sweep_rest, sweep_from, standing, first_begins, second_begins}
 use Rattle.civl_states.specs.formula_parts.Said.{Env}
 use Rattle.civl_moves.specs.declared.sweep.Sweep.{Sweep}
-use Rattle.civl_moves.specs.Expressions.{IsProcIn}
 use Rattle.civl_moves.specs.States.{swept_at, CanSweep, Moves, Suits}
 use Rattle.civl_tree.specs.rules.Scopes.{body_scope}
 use Rattle.civl_tree.specs.declared.expr.Sort.TheVariants.{Bool as Truth}

@@ -42,7 +42,8 @@ use Rattle.civl_actions.proofs.Building.{truth_value}
 use Rattle.civl_actions.proofs.Staying.{are_within, are_stay, values_stay}
 use Rattle.civl_conditions.specs.paths.NoteValues.{note_names}
 use Rattle.civl_states.specs.formula_parts.Said.{Env}
-use Rattle.civl_moves.specs.Expressions.{AreZeros, IsTermOf, IsProcIn}
+use Rattle.civl_states.specs.Notes.{IsProcIn}
+use Rattle.civl_moves.specs.Expressions.{AreZeros, IsTermOf}
 use Rattle.civl_moves.proofs.Bindings.{names_of, sorts_of, in_front, in_back, in_either, not_in_first, Declared, not_declared, names_bound, sorts_bound, joined, proc_names, proc_sorts}
 
 -- ---- the zeros of globals

@@ -1,5 +1,5 @@
 -- The terms of the expressions of a body: what they say, at terms for its frame and for the store.
-use Rattle.std.specs.Prelude.{◌≡◌, ◌≤◌, ℕ, Bool, true, false, ◌||◌, List, Some, map, slice_get}
+use Rattle.std.specs.Prelude.{◌≡◌, ◌≤◌, ℕ, Bool, true, false, ◌||◌, List, Some, map}
 use Rattle.civl_tree.specs.declared.expr.Expr.{Expr}
 use Rattle.civl_tree.specs.declared.expr.Expr.TheFolds.{fold-Expr}
 use Rattle.civl_tree.specs.declared.expr.Expr.TheOpen as expr
@@ -20,10 +20,6 @@ use Rattle.civl_actions.specs.Scopes.{AreOf}
 use Rattle.civl_actions.specs.Actions.{values_at, store_at}
 use Rattle.civl_conditions.specs.paths.NoteValues.{plain_note_values}
 use Rattle.civl_states.specs.formula_parts.Said.{Env, IsTest}
-
--- the procedure is one of the program
-abbrev pub IsProcIn : Program → Proc → Type 0
-IsProcIn program proc = (number : ℕ) × (slice_get program.procs number ≡ Some proc)
 
 -- one layer of an expression: whether `old(..)` of a name stands there, or in a part
 abbrev pub old_step : expr.Expr-F Bool → Bool

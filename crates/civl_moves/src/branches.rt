@@ -13,12 +13,12 @@ ghost use Rattle.civl_terms.specs.Building.{Grows};
 ghost use Rattle.civl_terms.specs.Graphs.{sort_at};
 ghost use Rattle.civl_terms.specs.Weights.{graph_weight};
 ghost use Rattle.civl_actions.specs.Scopes.{AreOf};
+ghost use Rattle.civl_states.specs.Notes.{IsProcIn};
 ghost use Rattle.civl_moves.specs.sweeps.Sweeps.{joined};
 ghost use Rattle.civl_conditions.specs.Weights.{body_weight};
 ghost use Rattle.civl_states.specs.formula_parts.Lists.{AreAlike};
 ghost use Rattle.civl_states.specs.formula_parts.Said.{Env, IsTest, IsSaid};
 ghost use Rattle.civl_moves.specs.Branches.{ArePicked, CanEnd, KeepsSame, ended_at, front_of, with_front, differing};
-ghost use Rattle.civl_moves.specs.Expressions.{IsProcIn};
 ghost use Rattle.civl_moves.specs.States.{CanSweep, IsBool, Moves, Suits, bool_at, holds_at, swept_at};
 
 use crate::expressions::body_term;

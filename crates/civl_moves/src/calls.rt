@@ -13,10 +13,10 @@ ghost use Rattle.civl_terms.specs.Graphs.{sort_at};
 ghost use Rattle.civl_terms.specs.Weights.{graph_weight};
 ghost use Rattle.civl_actions.specs.Actions.{LeavesOthers, values_at};
 ghost use Rattle.civl_actions.specs.Scopes.{AreOf, IsTyped};
+ghost use Rattle.civl_states.specs.Notes.{IsProcIn};
 ghost use Rattle.civl_moves.specs.sweeps.Sweeps.{with_action};
 ghost use Rattle.civl_conditions.specs.Weights.{body_weight, weights_of};
 ghost use Rattle.civl_moves.specs.Calls.{AreBodyTerms, HasRun, ResultsSuit, with_out_of, with_outs_of};
-ghost use Rattle.civl_moves.specs.Expressions.{IsProcIn};
 ghost use Rattle.civl_moves.specs.States.{CanSweep, Moves, body_of};
 
 use crate::expressions::body_term;

@@ -12,7 +12,8 @@ ghost use Rattle.civl_actions.specs.Scopes.{AreOf, IsTyped, names_in};
 ghost use Rattle.civl_conditions.specs.paths.NoteValues.{note_names};
 ghost use Rattle.civl_conditions.specs.Weights.{body_weight, note_weight};
 ghost use Rattle.civl_states.specs.formula_parts.Said.{IsTest};
-ghost use Rattle.civl_moves.specs.Expressions.{AreZeros, IsBodyTerm, IsNoteTerm, IsProcIn, has_old};
+ghost use Rattle.civl_states.specs.Notes.{IsProcIn};
+ghost use Rattle.civl_moves.specs.Expressions.{AreZeros, IsBodyTerm, IsNoteTerm, has_old};
 
 use civl_actions::{Scope, term};
 use civl_bits::Value;

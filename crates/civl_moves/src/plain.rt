@@ -17,10 +17,10 @@ ghost use Rattle.civl_terms.specs.Building.{Grows};
 ghost use Rattle.civl_terms.specs.Graphs.{sort_at};
 ghost use Rattle.civl_terms.specs.Weights.{graph_weight};
 ghost use Rattle.civl_actions.specs.Actions.{LeavesOthers};
+ghost use Rattle.civl_states.specs.Notes.{IsProcIn};
 ghost use Rattle.civl_moves.specs.sweeps.Sweeps.{gated, set_locals, with_commit};
 ghost use Rattle.civl_conditions.specs.Weights.{body_weight, note_weight};
 ghost use Rattle.civl_states.specs.formula_parts.Said.{Env, IsTest};
-ghost use Rattle.civl_moves.specs.Expressions.{IsProcIn};
 ghost use Rattle.civl_moves.specs.States.{CanSweep, Moves, Suits, holds_at};
 
 use crate::expressions::{body_term, note_term};

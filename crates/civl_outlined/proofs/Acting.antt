@@ -17,7 +17,7 @@ use Rattle.civl_weights.specs.declared.sums.actions.ActionSums.{ActionSums}
 use Rattle.civl_weights.specs.sums.Sums.{OfAction}
 use Rattle.civl_weights.proofs.sums.Acting.{zip_found, zip_none}
 use Rattle.civl_weights.proofs.sums.Groups.{params_bits_are, choices_bits_are}
-use Rattle.civl_outlined.specs.Sums.{instance_bits}
+use Rattle.civl_weights.specs.Kinds.{instance_bits}
 
 module _ (program : Program) (sums : List ActionSums) (x : ℕ) (f : Action → ℕ) {w : Weight} (all : AllZip (OfAction program) program.actions sums) where
   pub action_there : (s : ActionSums) → slice_get sums x ≡ Some s → ((a : Action) → OfAction program a s → Weighs w (f a)) → Weighs w (of_action program x 0 f)

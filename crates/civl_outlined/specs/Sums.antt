@@ -2,7 +2,6 @@
 use Rattle.std.specs.Prelude.{ℕ, ◌≡◌, ◌+◌, ◌*◌, ◌<◌, true, List, [], length, Option, None, Some, slice_get, ⊤}
 use Rattle.std.specs.List.{AllZip}
 use Rattle.civl_tree.specs.declared.stmt.Stmt.{Stmt, out-Stmt}
-use Rattle.civl_tree.specs.declared.action.Action.{Action}
 use Rattle.civl_tree.specs.declared.program.Proc.{Proc}
 use Rattle.civl_tree.specs.declared.program.Program.{Program}
 use Rattle.civl_tree.specs.Numbering.{sizes_of, statement_at}
@@ -10,7 +9,7 @@ use Rattle.civl_outlines.specs.declared.outline.Outline.{Outline}
 use Rattle.civl_meaning.specs.Layers.{topmost}
 use Rattle.civl_meaning.specs.Places.{Spot, spot_at}
 use Rattle.civl_conditions.specs.Variables.{of_globals, layer_choices}
-use Rattle.civl_conditions.specs.Weights.{bits_of_variables, outs_bits, globals_bits, linear_globals, initial_own, keep_weight, lin}
+use Rattle.civl_conditions.specs.Weights.{bits_of_variables, globals_bits, linear_globals, initial_own, lin}
 use Rattle.civl_goals.specs.declared.goal.Goal.{Goal}
 use Rattle.civl_goals.specs.declared.goal.Goal.TheVariants as goal
 use Rattle.civl_goals.specs.Listed.{is_root}
@@ -20,23 +19,12 @@ use Rattle.civl_goals.specs.Weights.{invariant_weight, note_before_weight, form_
 use Rattle.civl_weighing.specs.declared.weight.Weight.{Weight}
 use Rattle.civl_weighing.specs.Bits.{choices_bits}
 use Rattle.civl_weighing.specs.Weighing.{Weighs}
-use Rattle.civl_weights.specs.declared.sums.actions.ActionSums.{ActionSums}
 use Rattle.civl_weights.specs.sums.Sums.{OfAction}
 use Rattle.civl_outlined.specs.declared.statements.StatementSums.{StatementSums}
 use Rattle.civl_outlined.specs.declared.roots.ProcSums.{ProcSums}
 use Rattle.civl_outlined.specs.declared.weights.Sums.{Sums}
 use Rattle.civl_outlined.specs.declared.weights.Found.{Found}
 use Rattle.civl_outlined.specs.Said.{IsSaid}
-
--- ---- actions
-
--- the bits of an action's parameters and choices
-abbrev pub instance_bits : Action → ℕ
-instance_bits a = outs_bits a.params + choices_bits a.choices
-
--- what K2 weighs of an action of these sums
-pub record IsKeep (program : Program) (sums : ActionSums) (w : Weight) : Type 0 where
-  pub is : (a : Action) → OfAction program a sums → Weighs w (keep_weight program a)
 
 -- ---- statements
 

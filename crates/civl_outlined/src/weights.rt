@@ -11,8 +11,9 @@ ghost use Rattle.civl_goals.specs.declared.goal.Goal.TheVariants as goal;
 ghost use Rattle.civl_goals.specs.Weights.{weight, first_note_weight};
 ghost use Rattle.civl_weighing.specs.Weighing.{Weighs};
 ghost use Rattle.civl_weights.specs.sums.Sums.{OfAction};
+ghost use Rattle.civl_weights.specs.Kinds.{instance_bits, IsKeep};
 ghost use Rattle.civl_outlined.specs.Said.{IsSaid, IsOf};
-ghost use Rattle.civl_outlined.specs.Sums.{instance_bits, IsKeep, OfSums, IsOfRoot, NamesRoots, IsFound, AreTogether, IsVariables, IsStatementGoal, IsOther};
+ghost use Rattle.civl_outlined.specs.Sums.{OfSums, IsOfRoot, NamesRoots, IsFound, AreTogether, IsVariables, IsStatementGoal, IsOther};
 
 use crate::roots::{ProcSums, all_procs};
 use crate::said::{Said, first_note, weighed_outline};

@@ -6,3 +6,4 @@ pub mod Only
 pub mod Deciding
 pub mod Counting
 pub mod Working
+pub mod Fitting

@@ -20,7 +20,7 @@ use Rattle.civl_conditions.specs.Steps.{has_layer}
 use Rattle.civl_reduction.specs.exchanges.Doing.{call_doing, layer_doing, leaving, spot_doing, proc_doing}
 use Rattle.civl_reduction.specs.blocks.Blocks.{framed_in}
 use Rattle.civl_reduction.specs.blocks.Challenged.{allows, refuses, call_challenged}
-use Rattle.civl_shadows.specs.Challenging.{head_stmt}
+use Rattle.civl_meaning.specs.Left.{stmt_of}
 use Rattle.std.proofs.lemmas.Option.{none-some, same_Some}
 
 -- of what is called, whatever stands around the call
@@ -63,22 +63,22 @@ module _ (plain : Plain) (layer : ℕ) (store : Store) (frame : Activation) (pro
       ap (λ (p : Option Proc). call_challenged plain.program layer store (proc_doing plain caller frame p)) there
       ∙ ap (λ (x : Option Spot). call_challenged plain.program layer store (spot_doing plain caller frame proc x)) e
 
-  pub frame_none : (caller : Option Activation) → head_stmt (spot_at proc.body frame.place) ≡ None → false ≡ Does caller
+  pub frame_none : (caller : Option Activation) → stmt_of (spot_at proc.body frame.place) ≡ None → false ≡ Does caller
   frame_none caller = go (spot_at proc.body frame.place) refl
     where
       by_caller : (c : Option Activation) → call_challenged plain.program layer store (leaving plain (outs_in proc frame.locals) c) ≡ false
       by_caller None = refl
       by_caller (Some f) = refl
 
-      go : (o : Option Spot) → spot_at proc.body frame.place ≡ o → head_stmt o ≡ None → false ≡ Does caller
+      go : (o : Option Spot) → spot_at proc.body frame.place ≡ o → stmt_of o ≡ None → false ≡ Does caller
       go None e h = sym (at_spot caller None e ∙ by_caller caller)
       go (Some s) e h = absurd (none-some s.stmt (sym h))
 
-  pub frame_some : (caller : Option Activation) (st : Stmt) (b : Bool) → head_stmt (spot_at proc.body frame.place) ≡ Some st
+  pub frame_some : (caller : Option Activation) (st : Stmt) (b : Bool) → stmt_of (spot_at proc.body frame.place) ≡ Some st
       → ((at next : ℕ) → b ≡ call_challenged plain.program layer store (layer_doing plain proc frame.locals at next (out-Stmt st))) → b ≡ Does caller
   frame_some caller st b h says = go (spot_at proc.body frame.place) refl h
     where
-      go : (o : Option Spot) → spot_at proc.body frame.place ≡ o → head_stmt o ≡ Some st → b ≡ Does caller
+      go : (o : Option Spot) → spot_at proc.body frame.place ≡ o → stmt_of o ≡ Some st → b ≡ Does caller
       go None e q = absurd (none-some st q)
       go (Some s) e q =
           says s.number s.next
@@ -86,5 +86,5 @@ module _ (plain : Plain) (layer : ℕ) (store : Store) (frame : Activation) (pro
           ∙ sym (at_spot caller (Some s) e))
 
 -- the statement at a place is the first one of what is still to run
-pub head_at : (proc : Proc) (place : ℕ) (k : Rest) (o : Option Stmt) → k ≡ rest_at proc.body place → ((end : ℕ) → o ≡ head_stmt (head_of end k)) → head_stmt (spot_at proc.body place) ≡ o
-head_at proc place k o e h = ap head_stmt (spot_of_rest proc.body place) ∙ (ap (λ (r : Rest). head_stmt (head_of (sizes_of proc.body) r)) (sym e) ∙ sym (h (sizes_of proc.body)))
+pub head_at : (proc : Proc) (place : ℕ) (k : Rest) (o : Option Stmt) → k ≡ rest_at proc.body place → ((end : ℕ) → o ≡ stmt_of (head_of end k)) → stmt_of (spot_at proc.body place) ≡ o
+head_at proc place k o e h = ap stmt_of (spot_of_rest proc.body place) ∙ (ap (λ (r : Rest). stmt_of (head_of (sizes_of proc.body) r)) (sym e) ∙ sym (h (sizes_of proc.body)))

@@ -11,11 +11,11 @@ use Rattle.civl_conditions.specs.paths.Runs.{layer_led, led}
 use Rattle.civl_reduction.specs.blocks.Blocks.{layer_at_yield, at_yield}
 use Rattle.civl_reduction.specs.blocks.Cuts.{settled_layer, settled}
 use Rattle.civl_reduction.specs.blocks.Shadow.{glided_layer, glided}
+use Rattle.civl_meaning.specs.Left.{stmt_of}
 use Rattle.civl_shadows.specs.declared.notes.Noting.{Noting}
 use Rattle.civl_shadows.specs.declared.rests.Numbered.{Numbered}
 use Rattle.civl_shadows.specs.Notes.{noted}
 use Rattle.civl_shadows.specs.Rests.{rest_of}
-use Rattle.civl_shadows.specs.Challenging.{head_stmt}
 use Rattle.civl_shadows.proofs.Dropping.{drop_more}
 
 abbrev entry : Numbered → ℕ × Stmt
@@ -57,16 +57,16 @@ module _ (items : List Numbered) (at : ℕ) (q : Numbered) (h : at < length item
 
   -- ---- the first statement of a plain program
 
-  head_as : (end : ℕ) (b : Bool) → is_skipped q.stmt.now ≡ b → head_stmt (head_of end (rest_of (drop at items)))
-      ≡ head_stmt (if◌then◌else◌ {A = Option Spot} b (head_of end (rest_of (drop (at + 1) items))) (Some (record { number = q.number; stmt = q.stmt.now; next = place_in end (rest_of (drop (at + 1) items)) })))
+  head_as : (end : ℕ) (b : Bool) → is_skipped q.stmt.now ≡ b → stmt_of (head_of end (rest_of (drop at items)))
+      ≡ stmt_of (if◌then◌else◌ {A = Option Spot} b (head_of end (rest_of (drop (at + 1) items))) (Some (record { number = q.number; stmt = q.stmt.now; next = place_in end (rest_of (drop (at + 1) items)) })))
   head_as end b s =
-      ap (λ (r : Rest). head_stmt (head_of end r)) (rest_more items at q h e)
-      ∙ ap (λ (x : Bool). head_stmt (if◌then◌else◌ {A = Option Spot} x (head_of end (rest_of (drop (at + 1) items))) (Some (record { number = q.number; stmt = q.stmt.now; next = place_in end (rest_of (drop (at + 1) items)) })))) s
+      ap (λ (r : Rest). stmt_of (head_of end r)) (rest_more items at q h e)
+      ∙ ap (λ (x : Bool). stmt_of (if◌then◌else◌ {A = Option Spot} x (head_of end (rest_of (drop (at + 1) items))) (Some (record { number = q.number; stmt = q.stmt.now; next = place_in end (rest_of (drop (at + 1) items)) })))) s
 
-  pub head_more : (end : ℕ) → is_skipped q.stmt.now ≡ true → head_stmt (head_of end (rest_of (drop at items))) ≡ head_stmt (head_of end (rest_of (drop (at + 1) items)))
+  pub head_more : (end : ℕ) → is_skipped q.stmt.now ≡ true → stmt_of (head_of end (rest_of (drop at items))) ≡ stmt_of (head_of end (rest_of (drop (at + 1) items)))
   head_more end s = head_as end true s
 
-  pub head_stops : (end : ℕ) → is_skipped q.stmt.now ≡ false → head_stmt (head_of end (rest_of (drop at items))) ≡ Some q.stmt.now
+  pub head_stops : (end : ℕ) → is_skipped q.stmt.now ≡ false → stmt_of (head_of end (rest_of (drop at items))) ≡ Some q.stmt.now
   head_stops end s = head_as end false s
 
 -- ---- at the end
@@ -83,5 +83,5 @@ settled_end items at h = ap settled (rest_end items at h) ∙ sym (rest_end item
 pub yield_end : (items : List Numbered) (at : ℕ) → length items ≤ at → at_yield (rest_of (drop at items)) ≡ false
 yield_end items at h = ap at_yield (rest_end items at h)
 
-pub head_end : (end : ℕ) (items : List Numbered) (at : ℕ) → length items ≤ at → head_stmt (head_of end (rest_of (drop at items))) ≡ None
-head_end end items at h = ap (λ (r : Rest). head_stmt (head_of end r)) (rest_end items at h)
+pub head_end : (end : ℕ) (items : List Numbered) (at : ℕ) → length items ≤ at → stmt_of (head_of end (rest_of (drop at items))) ≡ None
+head_end end items at h = ap (λ (r : Rest). stmt_of (head_of end r)) (rest_end items at h)

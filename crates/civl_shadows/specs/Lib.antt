@@ -3,5 +3,4 @@ pub mod Frames
 pub mod Notes
 pub mod Merging
 pub mod Shadows
-pub mod Challenging
 pub mod Stepping

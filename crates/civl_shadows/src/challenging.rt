@@ -15,10 +15,10 @@ ghost use Rattle.civl_reduction.specs.exchanges.Doing.{doing, call_doing, layer_
 ghost use Rattle.civl_tree.specs.declared.stmt.Stmt.{out-Stmt};
 ghost use Rattle.civl_reduction.specs.blocks.Challenged.{allows, refuses, call_challenged, frame_challenged, thread_challenged, some_challenged, is_challenged};
 ghost use Rattle.civl_reduction.specs.blocks.Shadow.{Shadowed as Beside};
+ghost use Rattle.civl_meaning.specs.Left.{stmt_of};
 ghost use Rattle.civl_shadows.specs.Frames.{framed_of};
 ghost use Rattle.civl_shadows.specs.Rests.{rest_of};
 ghost use Rattle.civl_shadows.specs.Shadows.{IsLayerOf, Shows, done_in};
-ghost use Rattle.civl_shadows.specs.Challenging.{head_stmt};
 
 use crate::frames::{Framed, frame_of_layer, has_layer, inputs};
 use crate::merging::merged;
@@ -82,7 +82,7 @@ fn is_skipped(stmt: &Stmt) -> bool
 
 /// The first statement of a plain program in what is still to run.
 fn head<'a>(rest: &[Numbered<'a>]) -> Option<&'a Stmt>
-    ensures { (end : ℕ) → option_copied result ≡ head_stmt (head_of end (rest_of rest.now)) }
+    ensures { (end : ℕ) → option_copied result ≡ stmt_of (head_of end (rest_of rest.now)) }
 {
     for at in 0..rest.len() {
         if !is_skipped(rest[at].stmt) {

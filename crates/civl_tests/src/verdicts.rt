@@ -29,18 +29,23 @@ init true @ init false @@
 @@ refused E70 at item 1
 ";
 
-/// The first of these with enough to spend.
+/// The first of these with enough to spend, with words of 4 and of 6 bits.
 const WITH: &str = "
 global f : bool layers 0 to 1; @
 global x : word(4) layers 0 to 1; global y : word(4) layers 0 to 1; global r : word(4) layers 0 to 1;
 @and f := true; @ r := (x * (y + 1:4)); @and f := true; @ r := ((x * y) + x); @@
+@@ accepted 6 conditions
+
+global f : bool layers 0 to 1; @
+global x : word(6) layers 0 to 1; global y : word(6) layers 0 to 1; global r : word(6) layers 0 to 1;
+@and f := true; @ r := (x * (y + 1:6)); @and f := true; @ r := ((x * y) + x); @@
 @@ accepted 6 conditions
 ";
 
 #[test]
 fn budgets_of_verdicts(rt: HostRuntime) -> Result<(), Fail> {
     assert_eq!(rt; holding(rt.alloc(), NONE, FLAG, WITHOUT)?, 4);
-    assert_eq!(rt; holding(rt.alloc(), CHECK, FLAG, WITH)?, 1);
-    assert_eq!(rt; holding(rt.alloc(), MOST, FLAG, WITH)?, 1);
+    assert_eq!(rt; holding(rt.alloc(), CHECK, FLAG, WITH)?, 2);
+    assert_eq!(rt; holding(rt.alloc(), MOST, FLAG, WITH)?, 2);
     Ok(())
 }

@@ -21,7 +21,7 @@ use Rattle.civl_conditions.proofs.footprints.Keeping.{agree_back, agree_then, ag
 use Rattle.civl_conditions.proofs.footprints.Existing.{uses_what_exists}
 use Rattle.civl_conditions.specs.Values.{Invoked, same_in, same_stores, same_values}
 use Rattle.civl_conditions.specs.Movers.{on_some, gate_of, fires_of, apart, clashes, spoils, reveals}
-use Rattle.civl_reduction.specs.mover_laws.Movers.{IsInvoked, gate_in, MaySwap, RightMoversMove, LeftMoversMove, LeftMoversFire}
+use Rattle.civl_reduction.specs.mover_laws.Movers.{IsInvoked, MaySwap, RightMoversMove, LeftMoversMove, LeftMoversFire}
 use Rattle.civl_reduction.proofs.mover_laws.Meeting.{and_cases, meeting, met_at}
 
 -- ---- equality
@@ -154,7 +154,7 @@ right_movers_move program layer store x y src h m right =
     let spoil = so (apart program store x y) (spoils program store x y) m.disjoint (h.right_keeps step i j store x y met.3 m.sorted m.first.invoked m.second.invoked right met.0) in
     record {
       swaps = swaps program src step i j store x y m.sorted m.first.invoked m.second.invoked met.1 met.2 clash;
-      keeps = λ after outs gx gy fires_so. not-false (gate_in program after y) (on_made (fires_of program store x) (λ a. not (gate_of program a.0 y)) after outs fires_so (so (gate_of program store y) _ gy (so (gate_of program store x) _ gx spoil)));
+      keeps = λ after outs gx gy fires_so. not-false (gate_of program after y) (on_made (fires_of program store x) (λ a. not (gate_of program a.0 y)) after outs fires_so (so (gate_of program store y) _ gy (so (gate_of program store x) _ gx spoil)));
     }
 
 pub left_movers_move : LeftMoversMove
@@ -168,7 +168,7 @@ left_movers_move program layer store x y src h m left =
     let reveal = so (apart program store x y) (reveals program store x y) m.disjoint (h.left_breaks step i j store x y met.3 m.sorted m.first.invoked m.second.invoked left met.0) in
     record {
       swaps = swaps program src step j i store y x m.sorted m.second.invoked m.first.invoked met.2 met.1 clash;
-      kept = λ after outs gy gx fires_so. not-false (gate_in program after x) (on_made (fires_of program store y) (λ a. not (gate_of program a.0 x)) after outs fires_so (so (gate_of program store x) _ gx (so (gate_of program store y) _ gy spoil)));
+      kept = λ after outs gy gx fires_so. not-false (gate_of program after x) (on_made (fires_of program store y) (λ a. not (gate_of program a.0 x)) after outs fires_so (so (gate_of program store x) _ gx (so (gate_of program store y) _ gy spoil)));
       breaks = λ after outs gx gy fires_so. on_made (fires_of program store x) (λ a. gate_of program a.0 y) after outs fires_so (so (not (gate_of program store y)) _ (ap not gy) (so (gate_of program store x) _ gx reveal));
     }
 

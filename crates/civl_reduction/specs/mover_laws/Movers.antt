@@ -9,13 +9,13 @@ use Rattle.civl_tree.specs.declared.program.Program.{Program}
 use Rattle.civl_tree.specs.rules.Uses.{param_sorts}
 use Rattle.civl_firing.specs.declared.store.Store.{Store}
 use Rattle.civl_firing.specs.Stores.{IsStore}
-use Rattle.civl_firing.specs.Fired.{gate_holds, choices_fit, fires, offers}
+use Rattle.civl_firing.specs.Fired.{choices_fit, fires, offers}
 use Rattle.civl_layers.specs.Ranges.{exists_in}
 use Rattle.civl_layers.specs.Names.{action_range}
 use Rattle.civl_layers.specs.Layered.{IsLayered}
 use Rattle.civl_conditions.specs.Steps.{is_right, is_left, begins_below, meet_below}
 use Rattle.civl_conditions.specs.Values.{Invoked}
-use Rattle.civl_conditions.specs.Movers.{apart, pair_fails, waits}
+use Rattle.civl_conditions.specs.Movers.{apart, gate_of, pair_fails, waits}
 use Rattle.civl_reduction.specs.exchanges.Exchange.{ActionsSwap}
 
 -- ---- what is asked
@@ -59,9 +59,6 @@ pub record Meet (program : Program) (layer : ℕ) (store : Store) (x y : Invoked
   pub second : IsAt program layer y
   pub disjoint : IsTrue (apart program store x y)
 
-abbrev pub gate_in : Program → Store → Invoked → Bool
-gate_in program store x = gate_holds program.globals store x.action x.inputs
-
 abbrev pub FiresTo : Program → Store → Invoked → Store → List Value → Type 0
 FiresTo program store x after outs = fires program.globals store x.action x.inputs x.chosen ≡ Some (after, outs)
 
@@ -71,13 +68,13 @@ MaySwap program store x y = ActionsSwap program.globals store x.action x.inputs 
 -- a right mover goes behind another action, whose true gate it leaves true
 pub record RightMoves (program : Program) (store : Store) (x y : Invoked) : Type 0 where
   pub swaps : MaySwap program store x y
-  pub keeps : (after : Store) (outs : List Value) → gate_in program store x ≡ true → gate_in program store y ≡ true → FiresTo program store x after outs → gate_in program after y ≡ true
+  pub keeps : (after : Store) (outs : List Value) → gate_of program store x ≡ true → gate_of program store y ≡ true → FiresTo program store x after outs → gate_of program after y ≡ true
 
 -- a left mover goes before another action, which leaves its true gate true, and whose false gate it leaves false
 pub record LeftMoves (program : Program) (store : Store) (x y : Invoked) : Type 0 where
   pub swaps : MaySwap program store y x
-  pub kept : (after : Store) (outs : List Value) → gate_in program store y ≡ true → gate_in program store x ≡ true → FiresTo program store y after outs → gate_in program after x ≡ true
-  pub breaks : (after : Store) (outs : List Value) → gate_in program store x ≡ true → gate_in program store y ≡ false → FiresTo program store x after outs → gate_in program after y ≡ false
+  pub kept : (after : Store) (outs : List Value) → gate_of program store y ≡ true → gate_of program store x ≡ true → FiresTo program store y after outs → gate_of program after x ≡ true
+  pub breaks : (after : Store) (outs : List Value) → gate_of program store x ≡ true → gate_of program store y ≡ false → FiresTo program store x after outs → gate_of program after y ≡ false
 
 abbrev pub RightMoversMove : Type 0
 RightMoversMove =
@@ -93,6 +90,6 @@ LeftMoversMove =
 abbrev pub LeftMoversFire : Type 0
 LeftMoversFire =
     (program : Program) (layer : ℕ) (store : Store) (x : Invoked) → IsLayered program → MoversHold program layer → IsStore program.globals store → IsAt program layer x
-    → IsTrue (is_left x.action.mover) → gate_in program store x ≡ true
+    → IsTrue (is_left x.action.mover) → gate_of program store x ≡ true
     → IsTrue (choices_fit x.action (offers program.globals store x.action x.inputs))
     × (after : Store) × (outs : List Value) × (fires program.globals store x.action x.inputs (offers program.globals store x.action x.inputs) ≡ Some (after, outs))

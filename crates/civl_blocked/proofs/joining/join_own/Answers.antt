@@ -1,6 +1,7 @@
 use Rattle.std.proofs.Common.{◌<◌, ◌≡◌, ◌∙◌, ◌∷◌, [], ◌++◌, take, true, length, arith, sym, ap, subst, append_assoc}
 use Rattle.civl_reduction.specs.gathering.Gathered.{own}
-use Rattle.civl_blocked.specs.Segments.{over, mover}
+use Rattle.civl_reduction.specs.gathered.Laws.{by_thread}
+use Rattle.civl_blocked.specs.Segments.{over}
 use Rattle.civl_blocked.proofs.Strides.{same_end}
 use Rattle.civl_blocked.proofs.Picking.{skips_made, skips_left, goes_made, goes_left, goes_at, own_done_on, own_done_stays}
 use Rattle.civl_blocked.proofs.joining.join_own.Goals as goal
@@ -39,6 +40,6 @@ loop-chosen-preserved c =
       end = v.end;
       left = goes_left S c.args.thread c.args.moves.now i c.chosen-item.result h c.chosen-item.is w c.loop-chosen.beside.config c.join.new.beside.config v.end step v.left;
       opens = goes_made S c.args.thread c.args.moves.now i c.chosen-item.result h c.chosen-item.is w c.args.beside.now.config c.loop-chosen.beside.config c.join.new.beside.config v.opens step inside;
-      done = c.in_ok-join.ensures.done ∙ (ap (λ l. l ++ c.chosen-item.result ∷ []) v.done ∙ (append_assoc c.args.done.now.items (own mover c.args.thread (take i c.args.moves.now)) (c.chosen-item.result ∷ []) ∙ ap (λ l. c.args.done.now.items ++ l) (sym (own_done_on S c.args.thread c.args.moves.now i c.chosen-item.result h c.chosen-item.is w))));
+      done = c.in_ok-join.ensures.done ∙ (ap (λ l. l ++ c.chosen-item.result ∷ []) v.done ∙ (append_assoc c.args.done.now.items (own by_thread c.args.thread (take i c.args.moves.now)) (c.chosen-item.result ∷ []) ∙ ap (λ l. c.args.done.now.items ++ l) (sym (own_done_on S c.args.thread c.args.moves.now i c.chosen-item.result h c.chosen-item.is w))));
       beside = c.in_ok-join.ensures.beside;
     }

@@ -1,8 +1,8 @@
 use Rattle.std.proofs.Common.{◌≡◌, ℕ, drop}
 use Rattle.civl_meaning.specs.Rest.{head_of}
 use Rattle.civl_shadows.specs.Rests.{rest_of}
-use Rattle.civl_blocked.specs.Offering.{stmt_in}
+use Rattle.civl_meaning.specs.Left.{stmt_of}
 use Rattle.civl_blocked.proofs.offering.head.Given as goal
 
 abbrev pub invariant-loop-item : goal.invariant-loop-item
-invariant-loop-item l = (end : ℕ) → stmt_in (head_of end (rest_of (drop l.item-index l.rest))) ≡ stmt_in (head_of end (rest_of l.fn.rest))
+invariant-loop-item l = (end : ℕ) → stmt_of (head_of end (rest_of (drop l.item-index l.rest))) ≡ stmt_of (head_of end (rest_of l.fn.rest))

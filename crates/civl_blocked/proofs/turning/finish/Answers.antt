@@ -9,7 +9,8 @@ use Rattle.civl_reduction.specs.interleavings.Runs.{RunsTo, Staged}
 use Rattle.civl_reduction.proofs.interleavings.Staging.{staged_runs}
 use Rattle.civl_reduction.specs.gathering.Gathered.{others, IsGathered, FailsSooner}
 use Rattle.civl_reduction.proofs.gathering.Gathering.{all_join}
-use Rattle.civl_blocked.specs.Segments.{over, mover, program_of, FailsTo}
+use Rattle.civl_reduction.specs.gathered.Laws.{by_thread}
+use Rattle.civl_blocked.specs.Segments.{over, program_of, FailsTo}
 use Rattle.civl_blocked.specs.Completed.{IsCompleted}
 use Rattle.civl_blocked.proofs.Strides.{runs_join}
 use Rattle.civl_blocked.proofs.Picking.{if_some}
@@ -87,10 +88,10 @@ returns-in-Whole c =
     let f = c.requires.finishing in
     let ms = c.args.moves.items in
     let w = subst (IsCompleted g u 1000000 ms c.args.end) c.in-Whole.is c.in_ok-segment.ensures in
-    let a = ap length (ap (others mover u) w.moves_are ∙ others_same g u ms w.steps c.args.end w.middle w.offered) in
+    let a = ap length (ap (others by_thread u) w.moves_are ∙ others_same g u ms w.steps c.args.end w.middle w.offered) in
     let b = ap length f.none in
-    let same : length (others mover u c.in-Whole.segment.moves.items) + length t.rest.items ≡ length (others mover u ms) = omega (arith, a, b) in
-    ok_map _ _ c.gather.result (λ next h bound before room. h bound before (room_open g bound before t.done.items t.open u (length ms) (length (others mover u ms)) _ _ f.open_is room same)) c.gather.ensures
+    let same : length (others by_thread u c.in-Whole.segment.moves.items) + length t.rest.items ≡ length (others by_thread u ms) = omega (arith, a, b) in
+    ok_map _ _ c.gather.result (λ next h bound before room. h bound before (room_open g bound before t.done.items t.open u (length ms) (length (others by_thread u ms)) _ _ f.open_is room same)) c.gather.ensures
 
 pub returns-in-Stopped : goal.returns-in-Stopped
 returns-in-Stopped c =
@@ -100,8 +101,8 @@ returns-in-Stopped c =
     let f = c.requires.finishing in
     let ms = c.args.moves.items in
     let w = subst (IsCompleted g u 1000000 ms c.args.end) c.in-Stopped.is c.in_ok-segment.ensures in
-    let same = ap length (ap (others mover u) (c.deref-in-Stopped.ensures.value ∙ w.moves_are) ∙ others_same g u ms w.steps c.args.end w.after w.offered) in
-    ok_map _ _ c.shorten-in-Stopped.result (λ next h bound before room. h bound before (room_open g bound before t.done.items t.open u (length ms) (length (others mover u ms)) _ _ f.open_is room same)) c.shorten-in-Stopped.ensures
+    let same = ap length (ap (others by_thread u) (c.deref-in-Stopped.ensures.value ∙ w.moves_are) ∙ others_same g u ms w.steps c.args.end w.after w.offered) in
+    ok_map _ _ c.shorten-in-Stopped.result (λ next h bound before room. h bound before (room_open g bound before t.done.items t.open u (length ms) (length (others by_thread u ms)) _ _ f.open_is room same)) c.shorten-in-Stopped.ensures
 
 pub returns-in-Spent : goal.returns-in-Spent
 returns-in-Spent c bound before room =

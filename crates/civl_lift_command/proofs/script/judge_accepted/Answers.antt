@@ -1,7 +1,7 @@
 use Rattle.civl_script.specs.declared.schedule.Schedule.TheVariants.{Fits, Wrong}
 use Rattle.civl_frontend.proofs.Telling.{of_one}
 use Rattle.civl_lift_command.specs.Outcome.{Misfit, Lifts, telling}
-use Rattle.civl_lift_command.proofs.Starting.{entries_fit, moves_are}
+use Rattle.civl_script.proofs.Fitting.{entries_fit, moves_are}
 use Rattle.civl_lift_command.proofs.Raising.{few_given, schedule_of}
 use Rattle.civl_lift_command.proofs.Judging.{raised_in}
 use Rattle.civl_lift_command.proofs.script.judge_accepted.Goals as goal

@@ -1,8 +1,8 @@
 use Rattle.std.proofs.Common.{◌≡◌, ℕ, drop}
 use Rattle.civl_meaning.specs.Rest.{head_of}
+use Rattle.civl_meaning.specs.Left.{stmt_of}
 use Rattle.civl_shadows.specs.Rests.{rest_of}
-use Rattle.civl_shadows.specs.Challenging.{head_stmt}
 use Rattle.civl_shadows.proofs.challenging.head.Given as goal
 
 abbrev pub invariant-loop-at : goal.invariant-loop-at
-invariant-loop-at l = (end : ℕ) → head_stmt (head_of end (rest_of l.fn.rest)) ≡ head_stmt (head_of end (rest_of (drop l.at l.rest)))
+invariant-loop-at l = (end : ℕ) → stmt_of (head_of end (rest_of l.fn.rest)) ≡ stmt_of (head_of end (rest_of (drop l.at l.rest)))
