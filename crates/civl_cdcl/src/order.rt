@@ -13,7 +13,13 @@ use std::collections::BinaryHeap;
 /// So many conflicts pass at most before decisions go by activity.
 const FIXED: u64 = 1_000;
 
-/// After each so many conflicts it is looked whether the fixed order is worth keeping.
+/// After so many conflicts it is looked for the first time whether the fixed order is worth keeping.
+const EARLY: u64 = 25;
+
+/// So many literals may be taken back by then: twenty by each conflict.
+const EARLY_WORK: u64 = 500;
+
+/// After each so many conflicts it is looked again.
 const ROUND: u64 = 100;
 
 /// So many literals may be taken back in all before decisions go by activity: where trails are long, the fixed order costs more than it gains.
@@ -25,7 +31,7 @@ const FIRST: u64 = 1_024;
 /// Where a conflict would give more, all activities are made smaller.
 const LIMIT: u64 = 72_057_594_037_927_936;
 
-/// The order in which variables are decided. For the first conflicts the first variable without a value is made false, as long as what is learned takes the search far back and few literals in all. From then on it is the variable of the greatest activity, the sum of what conflicts gave it that it played a part in, each a twentieth more than the one before (Moskewicz and others, "Chaff: engineering an efficient SAT solver", 2001; Een and Sorensson, "An extensible SAT-solver", 2003), and it gets the value that it had last (Pipatsrisawat and Darwiche, "A lightweight component caching scheme for satisfiability solvers", 2007). All of this are hints: a variable is taken only where it has no value.
+/// The order in which variables are decided. For the first conflicts the first variable without a value is made false, as long as conflicts take few literals back, and what is learned takes the search far back. From then on it is the variable of the greatest activity, the sum of what conflicts gave it that it played a part in, each a twentieth more than the one before (Moskewicz and others, "Chaff: engineering an efficient SAT solver", 2001; Een and Sorensson, "An extensible SAT-solver", 2003), and it gets the value that it had last (Pipatsrisawat and Darwiche, "A lightweight component caching scheme for satisfiability solvers", 2007). All of this are hints: a variable is taken only where it has no value.
 #[derive(Drop)]
 pub struct Order {
     variables: u32,
@@ -161,9 +167,12 @@ impl Order {
         self.fixed
     }
 
-    /// Whether the fixed order is to be given up: much was taken back in all, or conflicts take back less than five levels in three. Where each takes back about one, what is learned only rules out one case after the other.
+    /// Whether the fixed order is to be given up: the first conflicts took back many literals, much was taken back in all, or conflicts take back less than five levels in three. Where each takes back about one, what is learned only rules out one case after the other.
     fn is_poor(&self) -> bool {
         if self.conflicts >= FIXED {
+            return true;
+        }
+        if self.conflicts == EARLY && EARLY_WORK < self.freed {
             return true;
         }
         if self.conflicts % ROUND != 0 {
