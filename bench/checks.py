@@ -3,7 +3,7 @@
 
 Usage: checks.py BINARY [TEXT ..]        (crates/civl/out/civl after `rt run` in crates/civl)
 
-The texts are those of bench/texts.py that have many conditions, where none is named: the spinlock of examples/, and programs of about twenty times its size. Each line that is printed: the text, the command, the seconds of the processor and by the clock (of the quickest of three runs) and how often those of the processor for the first text they are, the greatest size of the process in megabytes (at least that of this script, of which the process begins as a copy), and the last line of the report.
+The texts are those of bench/texts.py that have many conditions, where none is named: the spinlock of examples/, programs of about twenty times its size, and one whose formulas weigh as much as they may. Each line that is printed: the text, the command, the seconds of the processor and by the clock (of the quickest of three runs) and how often those of the processor for the first text they are, the greatest size of the process in megabytes (at least that of this script, of which the process begins as a copy), and the last line of the report.
 """
 import os
 import subprocess
@@ -11,7 +11,7 @@ import sys
 import tempfile
 import time
 
-from texts import many_conditions
+from texts import heavy, many_conditions
 
 
 def timed(binary, words, text):
@@ -30,7 +30,7 @@ def main():
     if len(sys.argv) < 2:
         sys.exit(__doc__)
     binary, first = sys.argv[1], {}
-    texts = {path: open(path).read() for path in sys.argv[2:]} or many_conditions()
+    texts = {path: open(path).read() for path in sys.argv[2:]} or {**many_conditions(), "the greatest weight": heavy(5967)}
     for name, text in texts.items():
         for command in ("check", "conditions"):
             busy, seconds, size, line = min(timed(binary, [command], text) for _ in range(3))

@@ -72,12 +72,21 @@ def many_conditions():
     return {"spinlock": spinlock(), "four copies": copies(4), "five copies": copies(5), "twenty rounds in one block": long_body(20)}
 
 
+STEP = "civl 2; layers 1; permissions 1;\n"
+
+
+def heavy(count):
+    """A program with a block of so many sums of 32 bits, of the last of which only the lowest bit is asked. With 5,967 its formulas weigh as much as they may, and they are easy."""
+    read = "action Read() -> (val v : word(32)) choose () layers 0 to 1 both gate true guard true { v := g; }\n"
+    upper = "action B() -> () choose () layers 1 to 1 atomic gate true guard true { }\n"
+    body = "call Read() -> (u);\n" + "t := (t + u);\n" * count + "assert ((t & 1:32) <= 1:32);\n"
+    return (STEP + "global g : word(32) layers 0 to 1;\ninit true;\n" + read + upper
+            + "proc P() -> () refines B with () layer 1 {\nvar t : word(32); var u : word(32);\n" + body + "commit; }\n")
+
+
 def cells(count):
     """So many globals, and true as what is initial."""
     return "".join("global g%d : word(8) layers 0 to 1;\n" % number for number in range(count)) + "init true;\n"
-
-
-STEP = "civl 2; layers 1; permissions 1;\n"
 
 
 def many_globals(count, actions):
