@@ -1,4 +1,4 @@
--- The code's places are those of the reduction.
+-- Serves private functions: the code's places are those of the reduction.
 use Rattle.civl_reduction.specs.interleavings.Reduction as reduction
 use Rattle.civl_blocked.specs.declared.place.Place.{Place}
 use Rattle.civl_blocked.specs.declared.place.Place.TheVariants as code

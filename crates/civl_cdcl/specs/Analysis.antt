@@ -1,4 +1,4 @@
--- What a conflict teaches: resolution along the reasons, down to the first unique implication point (Marques-Silva and Sakallah, "GRASP: a search algorithm for propositional satisfiability", 1999; Zhang and others, "Efficient conflict driven learning in a Boolean satisfiability solver", 2001), without what follows from the rest (Sorensson and Biere, "Minimizing learned clauses", 2009).
+-- Serves private functions: what a conflict teaches: resolution along the reasons, down to the first unique implication point (Marques-Silva and Sakallah, "GRASP: a search algorithm for propositional satisfiability", 1999; Zhang and others, "Efficient conflict driven learning in a Boolean satisfiability solver", 2001), without what follows from the rest (Sorensson and Biere, "Minimizing learned clauses", 2009).
 use Rattle.std.specs.Prelude.{◌≡◌, ◌≢◌, ◌⊎◌, ◌<◌, ◌≤◌, ◌+◌, ◌++◌, ◌∷◌, [], ◌&&◌, ℕ, List, Bool, false, not, IsTrue, All, length, slice_index_or, Option, None, Some}
 use Rattle.civl_cnf.specs.Literal.{Literal, opposite}
 use Rattle.civl_cnf.specs.ClauseSet.{IsBelow}

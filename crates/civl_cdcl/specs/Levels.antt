@@ -1,4 +1,4 @@
--- The levels of a trail, by the places at which they start.
+-- Serves private functions: the levels of a trail, by the places at which they start.
 use Rattle.std.specs.Prelude.{◌≡◌, ◌⊎◌, ◌<◌, ◌≤◌, ◌-◌, ℕ, List, [], length, slice_index_or, Option, None, Some}
 
 -- the first start

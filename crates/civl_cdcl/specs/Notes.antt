@@ -1,4 +1,4 @@
--- What a search notes.
+-- Serves private functions: what a search notes.
 use Rattle.std.specs.Prelude.{◌≡◌, ℕ, List, Bool, false, All, length}
 
 -- none of so many variables is seen

@@ -1,4 +1,4 @@
--- The order of decisions. What it rests on are hints, of which nothing is claimed; what is claimed is that a variable that is chosen has no value, and that all variables have one where none is.
+-- Serves private functions: the order of decisions. What it rests on are hints, of which nothing is claimed; what is claimed is that a variable that is chosen has no value, and that all variables have one where none is.
 use Rattle.std.specs.Prelude.{◌≡◌, ◌<◌, ◌≤◌, ℕ, List, Bool, length, slice_index_or, Option, None, Some}
 
 -- one of the variables, without a value

@@ -1,4 +1,4 @@
--- Decisions, and propagation from one to the next.
+-- Serves private functions: decisions, and propagation from one to the next.
 use Rattle.std.specs.Prelude.{◌≡◌, ◌<◌, ℕ, List, Bool, length, slice_index_or, Option, None, Some}
 use Rattle.civl_cnf.specs.Literal.{Literal}
 use Rattle.civl_units.specs.Propagation.{IsFalsified}

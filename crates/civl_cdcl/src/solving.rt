@@ -15,6 +15,10 @@ use civl_propagation::{Ended, Engine};
 use std::alloc::Global;
 
 /// The values as bits, false for a variable without one.
+///
+/// # Errors
+///
+/// For want of memory.
 pub fn bits_of(alloc: Global, marks: &[Option<bool>]) -> Result<Bits, Memory>
     requires { length marks.now ≤ 2 ^ 31 }
     ensures { IfOk result (AreBits marks.now) }
@@ -121,6 +125,10 @@ fn run(alloc: Global, cnf: &Cnf, budget: u32) -> Result<Outcome, Memory>
 /// - `Spent` has the `budget` clauses that were learned, none of them empty. It comes only where the clauses aren't refuted by propagation and one clause more can be learned.
 ///
 /// An `Err` says that memory was wanting.
+///
+/// # Errors
+///
+/// For want of memory.
 pub fn solve(alloc: Global, cnf: &Cnf, budget: u32) -> Result<Outcome, Memory>
     ensures sat { IfOk result (λ outcome. (bits : List Bool) → outcome ≡ Outcome.Sat bits → IsModel cnf.now bits) }
     ensures unsat { IfOk result (λ outcome. (log : List (List Literal)) → outcome ≡ Outcome.Unsat log → RefutesWithin cnf.now budget log) }

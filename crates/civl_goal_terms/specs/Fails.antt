@@ -1,4 +1,4 @@
--- What the goals of a statement test of what it does.
+-- Serves private functions: what the goals of a statement test of what it does.
 use Rattle.std.specs.Prelude.{◌≡◌, ℕ, ◌*◌, Bool, false, ◌&&◌, slice_get}
 use Rattle.civl_tree.specs.declared.stmt.Stmt.{out-Stmt}
 use Rattle.civl_tree.specs.declared.program.Program.{Program}

@@ -1,4 +1,4 @@
--- The first frame of a procedure, by its name, and the note before its first statement.
+-- Serves private functions: the first frame of a procedure, by its name, and the note before its first statement.
 use Rattle.std.specs.Prelude.{Bool, not, List, [], slice_get}
 use Rattle.std.specs.Option.{option_map}
 use Rattle.civl_bits.specs.declared.value.Value.{Value}

@@ -1,4 +1,4 @@
--- What the variables of a goal of a statement say.
+-- Serves private functions: what the variables of a goal of a statement say.
 use Rattle.std.specs.Prelude.{ℕ, ◌+◌, length}
 use Rattle.civl_tree.specs.declared.program.Program.{Program}
 use Rattle.civl_meaning.specs.Config.{frame_sorts}

@@ -1,4 +1,4 @@
--- Another thread's frame before a statement with a note, as terms.
+-- Serves private functions: another thread's frame before a statement with a note, as terms.
 use Rattle.std.specs.Prelude.{◌≡◌, ℕ, List, Bool, not, ◌&&◌, slice_get, Some}
 use Rattle.civl_bits.specs.declared.value.Value.{Value}
 use Rattle.civl_tree.specs.declared.program.Program.{Program}

@@ -1,4 +1,4 @@
--- The holds and notes of an outline are bools where all globals are in scope, and for a note the names of its procedure too.
+-- Serves private functions: the holds and notes of an outline are bools where all globals are in scope, and for a note the names of its procedure too.
 use Rattle.std.specs.Prelude.{◌≡◌, ℕ, All, slice_get, Some}
 use Rattle.civl_tree.specs.declared.expr.Sort.TheVariants.{Bool as Truth}
 use Rattle.civl_tree.specs.declared.program.Proc.{Proc}

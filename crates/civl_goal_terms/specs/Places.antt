@@ -1,4 +1,4 @@
--- A statement of a root, with the place behind it, and where an `if` or a loop leads.
+-- Serves private functions: a statement of a root, with the place behind it, and where an `if` or a loop leads.
 use Rattle.std.specs.Prelude.{◌≡◌, ℕ, ◌+◌, ◌<◌, ◌^◌, false, Option, None, Some, slice_get}
 use Rattle.civl_tree.specs.declared.expr.Expr.{Expr}
 use Rattle.civl_tree.specs.declared.stmt.Stmt.{Stmt}

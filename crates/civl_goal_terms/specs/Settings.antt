@@ -1,4 +1,4 @@
--- The variables of a goal of a statement, as terms: the store, the root's frame, and the choices of its call.
+-- Serves private functions: the variables of a goal of a statement, as terms: the store, the root's frame, and the choices of its call.
 use Rattle.std.specs.Prelude.{ℕ, List, map, Bool}
 use Rattle.civl_bits.specs.declared.value.Value.{Value}
 use Rattle.civl_tree.specs.declared.expr.Sort.{Sort}

@@ -1,4 +1,4 @@
--- What a statement makes of a state, where the path is there.
+-- Serves private functions: what a statement makes of a state, where the path is there.
 use Rattle.std.specs.Prelude.{ℕ, not, false, List}
 use Rattle.civl_bits.specs.declared.value.Value.{Value}
 use Rattle.civl_tree.specs.declared.program.Proc.{Proc}

@@ -1,4 +1,4 @@
--- What the goals of a list speak of: threads, actions, roots, and their statements.
+-- Serves private functions: what the goals of a list speak of: threads, actions, roots, and their statements.
 use Rattle.std.specs.Prelude.{◌≡◌, ⊤, ℕ, ◌<◌, true, length, slice_get, Some}
 use Rattle.civl_tree.specs.declared.stmt.Stmt.{Stmt, out-Stmt}
 use Rattle.civl_tree.specs.declared.stmt.Stmt.TheOpen.{Stmt-F, Call, Spawn}

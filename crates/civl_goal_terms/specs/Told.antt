@@ -1,4 +1,4 @@
--- What the terms say of holds, of notes and of what is assumed, whatever the terms of the store and of the frame say.
+-- Serves private functions: what the terms say of holds, of notes and of what is assumed, whatever the terms of the store and of the frame say.
 use Rattle.std.specs.Prelude.{ℕ, List, Bool}
 use Rattle.civl_bits.specs.declared.value.Value.{Value}
 use Rattle.civl_tree.specs.declared.program.Proc.{Proc}

@@ -99,6 +99,10 @@ fn held_of(alloc: Global, program: &Program, proc: &Proc) -> Result<List<List<u3
 /// What is held at the cuts of each procedure of a layered program: for each procedure and each of its cuts the numbers
 /// of the held locals, rising; nothing for a root. A number counts the procedure's parameters, outputs and locals, in
 /// this order, from 0. `Memory` comes where memory is wanting.
+///
+/// # Errors
+///
+/// For want of memory.
 pub fn held_in(alloc: Global, program: &Program) -> Result<Held, Memory>
     requires { IsLayered program.now }
     ensures { IfOk result (λ held. held.cuts ≡ map (held_of program.now) program.now.procs) }

@@ -1,4 +1,4 @@
--- What conditions speak of.
+-- Serves private functions: what conditions speak of.
 use Rattle.civl_conditions.specs.declared.condition.Condition.{Condition}
 use Rattle.civl_conditions.specs.declared.condition.Condition.TheVariants.{Start, Keep, Pair, Fire, Path, Block, Act}
 use Rattle.civl_maker.specs.declared.violation.Kind.{Kind}

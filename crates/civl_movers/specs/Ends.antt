@@ -1,4 +1,4 @@
--- What two sequences of actions come to: whether they end alike.
+-- Serves private functions: what two sequences of actions come to: whether they end alike.
 use Rattle.std.specs.Prelude.{ℕ, Bool, ◌&&◌, List}
 use Rattle.civl_bits.specs.declared.value.Value.{Value}
 use Rattle.civl_tree.specs.declared.action.Action.{Action}

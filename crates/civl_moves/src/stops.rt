@@ -14,6 +14,10 @@ use civl_tree::List;
 use std::alloc::Global as Alloc;
 
 /// The same terms once more.
+///
+/// # Errors
+///
+/// For want of memory.
 pub fn copied(alloc: Alloc, ids: &List<Id>) -> Result<List<Id>, Memory>
     ensures { IfOk result (λ copy. copy ≡ ids.now) }
 {

@@ -1,4 +1,4 @@
--- What one prover gave.
+-- Serves private functions: what one prover gave.
 use Rattle.std.specs.Prelude.{◌≡◌, ◌⊎◌, ℕ, ◌≤◌, IfSome, IsTrue}
 use Rattle.civl_cnf.specs.ClauseSet.{ClauseSet}
 use Rattle.civl_rup.specs.Rup.{Refutes, Spends}

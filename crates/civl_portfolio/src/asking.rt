@@ -42,6 +42,10 @@ fn search(alloc: Global, cnf: &Cnf, budget: u32) -> Result<Outcome, Memory>
 /// A certificate is refused too where the bits are fewer than the set's variables, or a clause of the log names a variable that the set doesn't have.
 ///
 /// An `Err` says that memory was wanting, for the replay of a log or for the search of the house. The provers that were dropped until then are gone, and the others stay in their order.
+///
+/// # Errors
+///
+/// For want of memory.
 pub fn ask(
     alloc: Global,
     provers: &mut Vec<Box<dyn Prover>>,

@@ -1,4 +1,4 @@
--- Watched literals as numbers: a literal is twice its variable, and one more where it is a negation (Een and Sorensson, "An extensible SAT-solver", 2003).
+-- Serves private functions: watched literals as numbers: a literal is twice its variable, and one more where it is a negation (Een and Sorensson, "An extensible SAT-solver", 2003).
 use Rattle.std.specs.Prelude.{ℕ, ◌+◌, ◌*◌, ◌/◌, ◌%◌, nat_eq, if◌then◌else◌, Option, None, Some}
 use Rattle.civl_cnf.specs.Literal.{Literal}
 use Rattle.civl_propagation.specs.declared.watches.Pair.{Pair}

@@ -35,6 +35,10 @@ impl Model for Engine {
 
 impl Engine {
     /// An engine with no clause, over so many variables, at most 2^31.
+    ///
+    /// # Errors
+    ///
+    /// For want of memory.
     pub fn new(alloc: Global, variables: u32) -> Result<Engine, Memory>
         requires { variables ≤ 2 ^ 31 }
         ensures rest { IfOk result IsAtRest }
@@ -66,6 +70,10 @@ impl Engine {
     }
 
     /// Adds a clause and propagates. Below the start of each level it must force nothing, and not be falsified. Memory is wanting too where there are 2^32 clauses, or 2^32 literals in them.
+    ///
+    /// # Errors
+    ///
+    /// For want of memory.
     pub fn add(&mut self, clause: &[Lit]) -> Result<Ended, Memory>
         requires rest { IsAtRest self.old }
         requires below { IsBelow (length self.old.trail.marks) clause.now }
@@ -91,6 +99,10 @@ impl Engine {
     }
 
     /// Begins a level with a literal whose variable has no value, and propagates.
+    ///
+    /// # Errors
+    ///
+    /// For want of memory.
     pub fn decide(&mut self, lit: Lit) -> Result<Ended, Memory>
         requires rest { IsAtRest self.old }
         requires below { lit.variable < length self.old.trail.marks }

@@ -34,6 +34,10 @@ impl Model for Trail {
 
 impl Trail {
     /// A trail with no literal, over so many variables.
+    ///
+    /// # Errors
+    ///
+    /// For want of memory.
     pub fn new(alloc: Global, variables: u32) -> Result<Trail, Memory>
         ensures { IfOk result (λ trail. trail ≡ record { marks = replicate variables None; places = replicate variables 0; steps = []; starts = [] }) }
     {
@@ -98,6 +102,10 @@ impl Trail {
     }
 
     /// Makes a literal true. After want of memory the trail is as it was.
+    ///
+    /// # Errors
+    ///
+    /// For want of memory.
     pub fn push(&mut self, lit: Lit, reason: Option<usize>) -> Result<(), Memory>
         requires marks { lit.variable < length self.old.marks }
         requires places { lit.variable < length self.old.places }
@@ -112,6 +120,10 @@ impl Trail {
     }
 
     /// Begins a level with a literal. After want of memory the level may have begun without it.
+    ///
+    /// # Errors
+    ///
+    /// For want of memory.
     pub fn decide(&mut self, lit: Lit) -> Result<(), Memory>
         requires marks { lit.variable < length self.old.marks }
         requires places { lit.variable < length self.old.places }

@@ -1,4 +1,4 @@
--- What propagation says of a branch.
+-- Serves private functions: what propagation says of a branch.
 use Rattle.std.specs.Prelude.{◌≡◌, ◌⊎◌, ℕ, ◌<◌, ◌≤◌, ◌+◌, ◌-◌, List, Bool, IsTrue, IsFalse, All, Any, Option, None, Some, length, slice_index_or}
 use Rattle.civl_cnf.specs.Literal.{Literal}
 use Rattle.civl_cnf.specs.ClauseSet.{ClauseSet}

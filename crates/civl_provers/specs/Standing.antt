@@ -1,4 +1,4 @@
--- Where the engine of propagation stands in a splitting.
+-- Serves private functions: where the engine of propagation stands in a splitting.
 use Rattle.std.specs.Prelude.{◌≡◌, ◌⊎◌, ◌<◌, ℕ, List, [], ◌∷◌, ◌++◌, Bool, true, false, map, length, slice_index_or, IsTrue}
 use Rattle.civl_cnf.specs.Literal.{Literal, opposite}
 use Rattle.civl_cnf.specs.ClauseSet.{ClauseSet}

@@ -1,4 +1,4 @@
--- Where the engine of propagation stands in a replay, and what a replay finds.
+-- Serves private functions: where the engine of propagation stands in a replay, and what a replay finds.
 use Rattle.std.specs.Prelude.{◌≡◌, ℕ, List, [], Bool, true, false, length, Option, None, Some}
 use Rattle.civl_cnf.specs.Literal.{Literal}
 use Rattle.civl_cnf.specs.ClauseSet.{ClauseSet}

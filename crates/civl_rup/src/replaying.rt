@@ -83,6 +83,10 @@ fn scan(alloc: Global, cnf: &Cnf, log: &Log) -> Result<Replay, Memory>
 }
 
 /// Replays a log of learned clauses, which may be any list of clauses, with any hints. Each has to have reverse unit propagation from the clause set and the clauses before it: no variable stands twice in it, its variables are the clause set's, and making its literals false and propagating units gives a conflict. Where all have it and one is empty, the log refutes the clause set, and no bits make it true.
+///
+/// # Errors
+///
+/// For want of memory.
 pub fn replay(alloc: Global, cnf: &Cnf, log: &Log) -> Result<Replay, Memory>
     ensures not_rup { IfOk result (λ r. (i : ℕ) → (r ≡ Replay.NotRup i) ↔ IsFirstWithoutRup cnf.now log.now i) }
     ensures no_empty { IfOk result (λ r. (r ≡ Replay.NoEmpty) ↔ HasRupAndNoEmpty cnf.now log.now) }

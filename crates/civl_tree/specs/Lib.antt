@@ -9,6 +9,7 @@ pub mod SpellingScript
 pub mod SpellingDomain
 pub mod SpellingText
 pub mod Raised
+pub mod Results
 pub mod SpellingLaws
 pub mod rules
 pub mod examples

@@ -39,6 +39,10 @@ impl<T> Boxed<T> {
 
 impl<T: Drop> Boxed<T> {
     /// The value in a box of its own.
+    ///
+    /// # Errors
+    ///
+    /// For want of memory.
     pub fn new(alloc: Global, value: T) -> Result<Boxed<T>, Memory>
         ensures { IfOk result (λ boxed. boxed ≡ value) }
     {

@@ -9,6 +9,7 @@ use crate::list::List;
 use crate::memory::Memory;
 use crate::name::Name;
 use crate::program::{Global, Invariant, Local, Proc, Program, Refines, Thread};
+use crate::results::{both, three};
 use crate::stmt::Stmt;
 use std::alloc::Global as Alloc;
 
@@ -84,25 +85,27 @@ pub fn copy_expr(alloc: Alloc, expr: &Expr) -> Result<Expr, Memory>
             Ok(Expr::One(*op, part))
         }
         Expr::Two(op, first, second) => {
-            let first = copy_boxed(alloc, first)?;
-            let second = copy_boxed(alloc, second)?;
+            let (first, second) = both(copy_boxed(alloc, first), copy_boxed(alloc, second))?;
             Ok(Expr::Two(*op, first, second))
         }
         Expr::Pick(test, first, second) => {
-            let test = copy_boxed(alloc, test)?;
-            let first = copy_boxed(alloc, first)?;
-            let second = copy_boxed(alloc, second)?;
+            let (test, first, second) = three(
+                copy_boxed(alloc, test),
+                copy_boxed(alloc, first),
+                copy_boxed(alloc, second),
+            )?;
             Ok(Expr::Pick(test, first, second))
         }
         Expr::Get(row, at) => {
-            let row = copy_boxed(alloc, row)?;
-            let at = copy_boxed(alloc, at)?;
+            let (row, at) = both(copy_boxed(alloc, row), copy_boxed(alloc, at))?;
             Ok(Expr::Get(row, at))
         }
         Expr::Set(row, at, cell) => {
-            let row = copy_boxed(alloc, row)?;
-            let at = copy_boxed(alloc, at)?;
-            let cell = copy_boxed(alloc, cell)?;
+            let (row, at, cell) = three(
+                copy_boxed(alloc, row),
+                copy_boxed(alloc, at),
+                copy_boxed(alloc, cell),
+            )?;
             Ok(Expr::Set(row, at, cell))
         }
         Expr::Fill(index, cell) => {
@@ -118,8 +121,7 @@ pub fn copy_expr(alloc: Alloc, expr: &Expr) -> Result<Expr, Memory>
             Ok(Expr::Widen(word, *width))
         }
         Expr::Join(first, second) => {
-            let first = copy_boxed(alloc, first)?;
-            let second = copy_boxed(alloc, second)?;
+            let (first, second) = both(copy_boxed(alloc, first), copy_boxed(alloc, second))?;
             Ok(Expr::Join(first, second))
         }
     }
@@ -136,18 +138,14 @@ impl TryClone for Expr {
 fn copy_assignment(alloc: Alloc, target: &Name, value: &Expr) -> Result<(Name, Expr), Memory>
     ensures { IfOk result (λ copy. copy ≡ (target.now, value.now)) }
 {
-    let target = target.try_clone(alloc)?;
-    let value = copy_expr(alloc, value)?;
-    Ok((target, value))
+    both(target.try_clone(alloc), copy_expr(alloc, value))
 }
 
 /// An equal callee and equal arguments for it.
 fn copy_callee(alloc: Alloc, callee: &Name, args: &List<Expr>) -> Result<(Name, List<Expr>), Memory>
     ensures { IfOk result (λ copy. copy ≡ (callee.now, args.now)) }
 {
-    let callee = callee.try_clone(alloc)?;
-    let args = copy_list(alloc, args)?;
-    Ok((callee, args))
+    both(callee.try_clone(alloc), copy_list(alloc, args))
 }
 
 /// An equal call.
@@ -169,9 +167,7 @@ fn copy_call(
 fn copy_while(alloc: Alloc, body: &List<Stmt>, test: &Expr) -> Result<(Expr, List<Stmt>), Memory>
     ensures { IfOk result (λ copy. copy ≡ (test.now, body.now)) }
 {
-    let test = copy_expr(alloc, test)?;
-    let body = copy_stmts(alloc, body)?;
-    Ok((test, body))
+    both(copy_expr(alloc, test), copy_stmts(alloc, body))
 }
 
 /// An equal yield loop.
@@ -179,8 +175,7 @@ fn copy_while(alloc: Alloc, body: &List<Stmt>, test: &Expr) -> Result<(Expr, Lis
 fn copy_yield_loop(alloc: Alloc, body: &List<Stmt>, test: &Expr, inv: &Expr) -> Result<Stmt, Memory>
     ensures { IfOk result (λ copy. copy ≡ (YieldLoop test.now inv.now body.now)) }
 {
-    let (test, body) = copy_while(alloc, body, test)?;
-    let inv = copy_expr(alloc, inv)?;
+    let ((test, body), inv) = both(copy_while(alloc, body, test), copy_expr(alloc, inv))?;
     Ok(Stmt::YieldLoop(test, inv, body))
 }
 
@@ -195,9 +190,11 @@ fn copy_rank_loop(
 ) -> Result<Stmt, Memory>
     ensures { IfOk result (λ copy. copy ≡ (RankLoop test.now rank.now inv.now body.now)) }
 {
-    let (test, body) = copy_while(alloc, body, test)?;
-    let rank = copy_expr(alloc, rank)?;
-    let inv = copy_expr(alloc, inv)?;
+    let ((test, body), rank, inv) = three(
+        copy_while(alloc, body, test),
+        copy_expr(alloc, rank),
+        copy_expr(alloc, inv),
+    )?;
     Ok(Stmt::RankLoop(test, rank, inv, body))
 }
 
@@ -220,9 +217,11 @@ pub fn copy_stmt(alloc: Alloc, stmt: &Stmt) -> Result<Stmt, Memory>
             Ok(Stmt::Assert(fact))
         }
         Stmt::If(test, first, second) => {
-            let test = copy_expr(alloc, test)?;
-            let first = copy_stmts(alloc, first)?;
-            let second = copy_stmts(alloc, second)?;
+            let (test, first, second) = three(
+                copy_expr(alloc, test),
+                copy_stmts(alloc, first),
+                copy_stmts(alloc, second),
+            )?;
             Ok(Stmt::If(test, first, second))
         }
         Stmt::While(test, body) => {
@@ -278,8 +277,7 @@ impl TryClone for Param {
 
 impl TryClone for Choice {
     fn try_clone(&self, alloc: Alloc) -> Result<Choice, Memory> {
-        let name = self.name.try_clone(alloc)?;
-        let offer = copy_expr(alloc, &self.offer)?;
+        let (name, offer) = both(self.name.try_clone(alloc), copy_expr(alloc, &self.offer))?;
         Ok(Choice {
             name,
             sort: self.sort,
@@ -290,21 +288,26 @@ impl TryClone for Choice {
 
 impl TryClone for Update {
     fn try_clone(&self, alloc: Alloc) -> Result<Update, Memory> {
-        let target = self.target.try_clone(alloc)?;
-        let expr = copy_expr(alloc, &self.expr)?;
+        let (target, expr) = copy_assignment(alloc, &self.target, &self.expr)?;
         Ok(Update { target, expr })
     }
 }
 
 impl TryClone for Action {
     fn try_clone(&self, alloc: Alloc) -> Result<Action, Memory> {
-        let name = self.name.try_clone(alloc)?;
-        let params = copy_list(alloc, &self.params)?;
-        let outs = copy_list(alloc, &self.outs)?;
-        let choices = copy_list(alloc, &self.choices)?;
-        let gate = copy_expr(alloc, &self.gate)?;
-        let guard = copy_expr(alloc, &self.guard)?;
-        let updates = copy_list(alloc, &self.updates)?;
+        let (name, (params, outs, choices), (gate, guard, updates)) = three(
+            self.name.try_clone(alloc),
+            three(
+                copy_list(alloc, &self.params),
+                copy_list(alloc, &self.outs),
+                copy_list(alloc, &self.choices),
+            ),
+            three(
+                copy_expr(alloc, &self.gate),
+                copy_expr(alloc, &self.guard),
+                copy_list(alloc, &self.updates),
+            ),
+        )?;
         Ok(Action {
             name,
             params,
@@ -322,8 +325,7 @@ impl TryClone for Action {
 
 impl TryClone for Refines {
     fn try_clone(&self, alloc: Alloc) -> Result<Refines, Memory> {
-        let action = self.action.try_clone(alloc)?;
-        let with = copy_list(alloc, &self.with)?;
+        let (action, with) = both(self.action.try_clone(alloc), copy_list(alloc, &self.with))?;
         Ok(Refines {
             action,
             with,
@@ -358,12 +360,18 @@ fn copy_refines(alloc: Alloc, refines: &Option<Refines>) -> Result<Option<Refine
 
 impl TryClone for Proc {
     fn try_clone(&self, alloc: Alloc) -> Result<Proc, Memory> {
-        let name = self.name.try_clone(alloc)?;
-        let params = copy_list(alloc, &self.params)?;
-        let outs = copy_list(alloc, &self.outs)?;
-        let refines = copy_refines(alloc, &self.refines)?;
-        let locals = copy_list(alloc, &self.locals)?;
-        let body = copy_stmts(alloc, &self.body)?;
+        let ((name, params, outs), (refines, locals, body)) = both(
+            three(
+                self.name.try_clone(alloc),
+                copy_list(alloc, &self.params),
+                copy_list(alloc, &self.outs),
+            ),
+            three(
+                copy_refines(alloc, &self.refines),
+                copy_list(alloc, &self.locals),
+                copy_stmts(alloc, &self.body),
+            ),
+        )?;
         Ok(Proc {
             name,
             params,
@@ -400,8 +408,7 @@ impl TryClone for Invariant {
 
 impl TryClone for Thread {
     fn try_clone(&self, alloc: Alloc) -> Result<Thread, Memory> {
-        let callee = self.callee.try_clone(alloc)?;
-        let args = copy_list(alloc, &self.args)?;
+        let (callee, args) = copy_callee(alloc, &self.callee, &self.args)?;
         Ok(Thread { callee, args })
     }
 }
@@ -414,12 +421,18 @@ impl TryClone for Thread {
 pub fn copy_program(alloc: Alloc, program: &Program) -> Result<Program, Memory>
     ensures { IfOk result (λ copy. copy ≡ program.now) }
 {
-    let globals = copy_list(alloc, &program.globals)?;
-    let init = copy_expr(alloc, &program.init)?;
-    let invariants = copy_list(alloc, &program.invariants)?;
-    let actions = copy_list(alloc, &program.actions)?;
-    let procs = copy_list(alloc, &program.procs)?;
-    let threads = copy_list(alloc, &program.threads)?;
+    let ((globals, init, invariants), (actions, procs, threads)) = both(
+        three(
+            copy_list(alloc, &program.globals),
+            copy_expr(alloc, &program.init),
+            copy_list(alloc, &program.invariants),
+        ),
+        three(
+            copy_list(alloc, &program.actions),
+            copy_list(alloc, &program.procs),
+            copy_list(alloc, &program.threads),
+        ),
+    )?;
     Ok(Program {
         version: program.version,
         layers: program.layers,

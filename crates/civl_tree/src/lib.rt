@@ -14,6 +14,7 @@ mod memory;
 mod name;
 mod program;
 mod refusal;
+mod results;
 mod script;
 mod stmt;
 
@@ -26,5 +27,6 @@ pub use memory::Memory;
 pub use name::Name;
 pub use program::{Global, Invariant, Local, Proc, Program, Refines, Thread};
 pub use refusal::{Refusal, Refused};
+pub use results::{beside, both, three};
 pub use script::{Entry, Literal, Script, Told};
 pub use stmt::Stmt;

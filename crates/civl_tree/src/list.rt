@@ -79,6 +79,10 @@ impl<T> List<T> {
 
 impl<T: Drop> List<T> {
     /// Puts a value behind all others. Where memory is wanting, the list stays.
+    ///
+    /// # Errors
+    ///
+    /// For want of memory.
     pub fn push(&mut self, value: T) -> Result<(), Memory>
         ensures ok { OnOk result (self.new ≡ self.old ++ value ∷ []) }
         ensures err { OnErr result (self.new ≡ self.old) }

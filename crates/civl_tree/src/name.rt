@@ -13,6 +13,10 @@ pub struct Name {
 
 impl Name {
     /// The name that these bytes spell.
+    ///
+    /// # Errors
+    ///
+    /// For want of memory.
     pub fn from_slice(alloc: Global, bytes: &[u8]) -> Result<Name, Memory>
         ensures { IfOk result (λ name. name.bytes ≡ bytes.now) }
     {

@@ -50,6 +50,10 @@ pub struct Phases {
 }
 
 /// The phases before the calls of each procedure. `Memory` comes where memory is wanting.
+///
+/// # Errors
+///
+/// For want of memory.
 pub fn phases_in(alloc: Global, program: &Program) -> Result<Phases, Memory>
     ensures { IfOk result (λ phases. phases.left ≡ map (phases_of program.now) program.now.procs) }
 {

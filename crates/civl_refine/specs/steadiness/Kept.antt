@@ -1,4 +1,4 @@
--- What blocks and actions have to keep, with the terms of another thread's frame where it is a yield's invariant.
+-- Serves private functions: what blocks and actions have to keep, with the terms of another thread's frame where it is a yield's invariant.
 use Rattle.std.specs.Prelude.{◌≡◌, ◌<◌, ⊤, ℕ, All, Bool, true, not, ◌&&◌, List, [], map, length, get_or}
 use Rattle.civl_bits.specs.declared.value.Value.{Value}
 use Rattle.civl_tree.specs.declared.program.Program.{Program}

@@ -1,4 +1,4 @@
--- When an action, or a block, loses what has to be kept.
+-- Serves private functions: when an action, or a block, loses what has to be kept.
 use Rattle.std.specs.Prelude.{ℕ, Bool, not, ◌&&◌, ◌++◌, List, ◌+◌, ◌*◌, length, if◌then◌else◌}
 use Rattle.civl_bits.specs.declared.value.Value.{Value}
 use Rattle.civl_tree.specs.declared.action.Action.{Action}

@@ -1,4 +1,4 @@
--- The variables of another thread's frame, which stand behind all others.
+-- Serves private functions: the variables of another thread's frame, which stand behind all others.
 use Rattle.std.specs.Prelude.{◌≡◌, ◌+◌, ◌-◌, ℕ, List, ◌++◌, length, map}
 use Rattle.civl_tree.specs.declared.expr.Sort.{Sort}
 use Rattle.civl_tree.specs.declared.program.Proc.{Proc}

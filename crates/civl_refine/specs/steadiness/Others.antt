@@ -1,4 +1,4 @@
--- Another thread's frame at a yield, as terms.
+-- Serves private functions: another thread's frame at a yield, as terms.
 use Rattle.std.specs.Prelude.{◌≡◌, ◌++◌, ℕ, List, [], ◌∷◌, All, Some, slice_get}
 use Rattle.civl_tree.specs.declared.expr.Sort.{Sort}
 use Rattle.civl_tree.specs.declared.expr.Sort.TheVariants.{Bool as Truth, Word}

@@ -1,4 +1,4 @@
--- What is counted of what the paths from a cut meet.
+-- Serves private functions: what is counted of what the paths from a cut meet.
 use Rattle.std.specs.Prelude.{ℕ, Bool, true, not, List, map, length, filter, slice_get}
 use Rattle.std.specs.Option.{option_map_or}
 use Rattle.civl_tree.specs.declared.stmt.Stmt.{Stmt}

@@ -1,4 +1,4 @@
--- What is worked out of a procedure for its paths, at a step.
+-- Serves private functions: what is worked out of a procedure for its paths, at a step.
 use Rattle.std.specs.Prelude.{ℕ, ◌+◌, ◌-◌, ◌*◌, map}
 use Rattle.std.specs.Option.{option_map_or}
 use Rattle.civl_tree.specs.declared.expr.Expr.{Expr}
