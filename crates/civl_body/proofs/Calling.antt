@@ -32,7 +32,7 @@ use Rattle.civl_moves.specs.States.{swept_at, CanSweep, Moves, body_of}
 use Rattle.civl_moves.proofs.States.{swept_same}
 use Rattle.civl_states.specs.declared.choices.Chosen.{Chosen}
 use Rattle.civl_states.specs.Beginnings.{chosen_at}
-use Rattle.civl_states.specs.Stores.{choice_sorts}
+use Rattle.civl_meaning.specs.Config.{choice_sorts}
 use Rattle.civl_body.specs.Passing.{StandsCall, course_in}
 use Rattle.civl_body.proofs.Typed.{CallKept, call_kept, args_typed, args_sorted, results_suit}
 use Rattle.civl_body.proofs.Called.{Serves, called_serves}

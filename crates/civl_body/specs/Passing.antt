@@ -35,7 +35,7 @@ use Rattle.civl_tree.specs.rules.Scopes.{body_scope}
 use Rattle.civl_tree.specs.declared.expr.Sort.TheVariants.{Bool as Truth}
 use Rattle.civl_states.specs.declared.choices.Chosen.{Chosen}
 use Rattle.civl_states.specs.Beginnings.{chosen_at}
-use Rattle.civl_states.specs.Stores.{choice_sorts}
+use Rattle.civl_meaning.specs.Config.{choice_sorts}
 
 -- a body in the program of a layer
 abbrev pub course_in : Program → ℕ → Proc → (ℕ → List Value) → Course

@@ -24,7 +24,7 @@ ghost use Rattle.civl_layers.specs.Layered.{IsLayered};
 ghost use Rattle.civl_states.specs.formula_parts.Said.{Env};
 ghost use Rattle.civl_moves.specs.States.{CanSweep, Moves};
 ghost use Rattle.civl_states.specs.Beginnings.{chosen_at};
-ghost use Rattle.civl_states.specs.Stores.{choice_sorts};
+ghost use Rattle.civl_meaning.specs.Config.{choice_sorts};
 ghost use Rattle.civl_body.specs.Passing.{StandsCall, action_at, course_in};
 ghost use Rattle.civl_body.specs.Weights.{Leaves};
 

@@ -10,7 +10,8 @@ use Rattle.civl_conditions.specs.declared.condition.Part.TheVariants.{Gate, Inva
 use Rattle.civl_conditions.specs.declared.condition.Target.{Target}
 use Rattle.civl_conditions.specs.declared.condition.Target.TheVariants as target
 use Rattle.civl_conditions.specs.paths.Ends.{is_yield_cut, is_rank_loop}
-use Rattle.civl_conditions.specs.Steps.{each_at, each_cut, steps_to, step_invariants, is_right, is_left, begins_below, meet_below, lasts_through}
+use Rattle.civl_conditions.specs.Steps.{each_at, each_cut, steps_to, step_invariants, begins_below, meet_below, lasts_through}
+use Rattle.civl_layers.specs.Movers.{is_left, is_right}
 
 -- K1: each invariant of the step
 abbrev pub starts : Program → ℕ → List Condition

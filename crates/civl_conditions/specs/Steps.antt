@@ -1,21 +1,14 @@
 -- What there is at a step, which goes from the program of one layer to that of the next (layered programs: Hawblitzel,
 -- Petrank, Qadeer, Tasiran, CAV 2015; Kragl, Qadeer, CAV 2018).
-use Rattle.std.specs.Prelude.{ℕ, zero, suc, ◌+◌, Bool, true, false, ◌&&◌, nat_eq, nat_le, nat_lt, if◌then◌else◌, List, [], ◌∷◌, ◌++◌, map, filter, Option, None, Some, slice_get}
+use Rattle.std.specs.Prelude.{ℕ, zero, suc, ◌+◌, Bool, false, ◌&&◌, nat_eq, nat_le, nat_lt, if◌then◌else◌, List, [], ◌∷◌, ◌++◌, map, filter, Option, None, Some, slice_get}
 use Rattle.std.specs.Option.{option_map_or}
 use Rattle.civl_tree.specs.declared.expr.Expr.{Expr}
 use Rattle.civl_tree.specs.declared.action.Action.{Action}
-use Rattle.civl_tree.specs.declared.action.Mover.{Mover}
-use Rattle.civl_tree.specs.declared.action.Mover.TheVariants.{Atomic, Right, Left, Both}
-use Rattle.civl_tree.specs.declared.program.Global.{Global}
 use Rattle.civl_tree.specs.declared.program.Refines.{Refines}
 use Rattle.civl_tree.specs.declared.program.Proc.{Proc}
 use Rattle.civl_tree.specs.declared.program.Program.{Program}
 use Rattle.civl_layers.specs.declared.cut.Cut.{Cut}
-use Rattle.civl_layers.specs.Ranges.{exists_in, exists_around}
-use Rattle.civl_layers.specs.Names.{global_range}
 use Rattle.civl_layers.specs.Cuts.{proc_cuts}
-use Rattle.civl_conditions.specs.footprints.Agreement.{exists_at}
-use Rattle.civl_conditions.specs.paths.Seen.{exists_near}
 
 -- what is said of each of these with its number, the first having this one
 abbrev pub each_at : {A B : Type 0} → (ℕ → A → List B) → ℕ → List A → List B
@@ -46,18 +39,6 @@ abbrev pub each_cut : {B : Type 0} → (ℕ → ℕ → Cut → List B) → Prog
 each_cut f program layer = each_at (λ q proc. if has_layer layer proc then each_at (f q) 0 (proc_cuts proc) else []) 0 program.procs
 
 -- ---- actions
-
-abbrev pub is_right : Mover → Bool
-is_right Atomic = false
-is_right Right = true
-is_right Left = false
-is_right Both = true
-
-abbrev pub is_left : Mover → Bool
-is_left Atomic = false
-is_left Right = false
-is_left Left = true
-is_left Both = true
 
 -- the first layer is the lower one of the step
 abbrev pub begins_below : ℕ → Action → Bool

@@ -10,6 +10,7 @@ use Rattle.civl_tree.specs.declared.action.Param.{Param}
 use Rattle.civl_tree.specs.declared.action.Action.{Action}
 use Rattle.civl_tree.specs.declared.program.Proc.{Proc}
 use Rattle.civl_tree.specs.declared.program.Program.{Program}
+use Rattle.civl_tree.specs.declared.program.Thread.{Thread}
 use Rattle.civl_tree.specs.Numbering.{inner_of}
 use Rattle.civl_tree.specs.rules.Names.{has_name}
 use Rattle.civl_tree.specs.rules.Scopes.{Binding, global_scope, body_scope, note_scope, bind_globals, bind_params, bind_locals}
@@ -85,6 +86,10 @@ linear_globals program = length (filter (λ g. g.linear) program.globals)
 
 abbrev pub linear_inputs : List Param → ℕ
 linear_inputs params = length (filter (λ p. is_linear p.mode) params)
+
+-- the linear inputs of the procedure that a thread calls
+abbrev pub thread_items : Program → Thread → ℕ
+thread_items program t = of_proc program (proc_number program t.callee) 0 (λ p. linear_inputs p.params)
 
 -- ---- statements
 

@@ -3,7 +3,8 @@ ghost use Rattle.std.specs.Prelude.{◌≡◌, ◌++◌, ◌∷◌, [], map, fla
 ghost use Rattle.civl_tree.specs.Numbered.{IsNumbered};
 ghost use Rattle.civl_conditions.specs.declared.condition.Condition.TheVariants as condition;
 ghost use Rattle.civl_conditions.specs.declared.condition.Target.TheVariants as target;
-ghost use Rattle.civl_conditions.specs.Steps.{is_right, is_left, begins_below, lasts_through, step_invariants, each_at};
+ghost use Rattle.civl_conditions.specs.Steps.{begins_below, lasts_through, step_invariants, each_at};
+ghost use Rattle.civl_layers.specs.Movers.{is_left, is_right};
 ghost use Rattle.civl_conditions.specs.Listed.{starts, keeps, pair_of, fire_of, movers, at_step, conditions};
 ghost use Rattle.civl_conditions.specs.Placed.{parts_from, yield_at, blocks_from};
 

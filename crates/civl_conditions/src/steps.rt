@@ -1,6 +1,7 @@
 // What there is at a step.
 ghost use Rattle.std.specs.Prelude.{◌≡◌, ◌<◌, ◌^◌, nat_eq, length, count_by};
-ghost use Rattle.civl_conditions.specs.Steps.{is_right, is_left, begins_below, meet_below, lasts_through, has_layer, step_invariants};
+ghost use Rattle.civl_conditions.specs.Steps.{begins_below, meet_below, lasts_through, has_layer, step_invariants};
+ghost use Rattle.civl_layers.specs.Movers.{is_left, is_right};
 
 use civl_tree::{Action, Invariant, Mover, Proc, Program};
 

@@ -12,7 +12,7 @@ use Rattle.civl_tree.specs.declared.program.Proc.{Proc}
 use Rattle.civl_tree.specs.declared.program.Program.{Program}
 use Rattle.civl_firing.specs.Eval.{values_of}
 use Rattle.civl_firing.specs.Scope.{frame_values}
-use Rattle.civl_meaning.specs.Config.{frame_sorts}
+use Rattle.civl_meaning.specs.Config.{frame_sorts, choice_sorts}
 use Rattle.civl_meaning.specs.Layers.{topmost}
 use Rattle.civl_meaning.specs.Meaning.{Meaning, Does, Runs, Missing, called}
 use Rattle.civl_terms.specs.declared.node.Node.{Node}
@@ -33,7 +33,6 @@ use Rattle.civl_moves.specs.declared.sweep.Sweep.{Sweep}
 use Rattle.civl_moves.specs.Calls.{AreBodyTerms}
 use Rattle.civl_moves.specs.States.{swept_at, stop_at, CanStop, CanSweep, Moves, body_of}
 use Rattle.civl_moves.proofs.States.{same_swept, swept_same, test_bool, test_value}
-use Rattle.civl_states.specs.Stores.{choice_sorts}
 use Rattle.civl_body.specs.Passing.{course_in}
 use Rattle.civl_goal_terms.specs.declared.places.At.{At}
 use Rattle.civl_goal_terms.specs.declared.settings.Setting.{Setting}

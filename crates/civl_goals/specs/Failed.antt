@@ -16,6 +16,7 @@ use Rattle.civl_meaning.specs.declared.config.Change.{Change}
 use Rattle.civl_meaning.specs.declared.config.Change.TheVariants.{Goes, Acts, Spawns}
 use Rattle.civl_meaning.specs.Permissions.{pairwise_disjoint}
 use Rattle.civl_meaning.specs.Meaning.{proc_number}
+use Rattle.civl_meaning.specs.Config.{moved_frame}
 use Rattle.civl_meaning.specs.Layers.{topmost}
 use Rattle.civl_meaning.specs.Change.{new_frame, proc_change}
 use Rattle.civl_meaning.specs.Failing.{proc_fails}
@@ -69,14 +70,11 @@ abbrev pub first_frame : Program → Change → Option Activation
 first_frame program (Spawns thread place) = option_map (λ proc. new_frame thread.callee proc thread.args) (slice_get program.procs thread.callee)
 first_frame program _ = None
 
-abbrev pub frame_at : Activation → List Value → ℕ → Activation
-frame_at frame locals place = record { procedure = frame.procedure; place = place; locals = locals }
-
 -- where the statement leads: the store and the frame then
 abbrev pub led_to : Store → Activation → Change → Option (Store × Activation)
-led_to g frame (Goes locals place) = Some (g, frame_at frame locals place)
-led_to g frame (Acts store locals place) = Some (store, frame_at frame locals place)
-led_to g frame (Spawns thread place) = Some (g, frame_at frame frame.locals place)
+led_to g frame (Goes locals place) = Some (g, moved_frame frame locals place)
+led_to g frame (Acts store locals place) = Some (store, moved_frame frame locals place)
+led_to g frame (Spawns thread place) = Some (g, moved_frame frame frame.locals place)
 led_to g frame _ = None
 
 -- ---- what a list of values, one for each variable of a goal, gives to the store, to frames and to choices

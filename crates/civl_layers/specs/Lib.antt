@@ -9,6 +9,7 @@ pub mod Layered
 pub mod LayerRules
 pub mod Spans
 pub mod Asked
+pub mod Movers
 pub mod Cuts
 pub mod CutCounts
 pub mod examples

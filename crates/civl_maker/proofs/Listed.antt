@@ -13,7 +13,8 @@ use Rattle.civl_conditions.specs.paths.Ends.{is_yield_cut}
 use Rattle.civl_conditions.specs.declared.condition.Condition.{Condition}
 use Rattle.civl_conditions.specs.declared.condition.Condition.TheVariants.{Start, Keep, Pair, Fire, Path, Block, Act}
 use Rattle.civl_conditions.specs.declared.condition.Target.TheVariants as target
-use Rattle.civl_conditions.specs.Steps.{each_at, each_cut, steps_to, step_invariants, is_right, is_left, begins_below, meet_below, lasts_through, has_layer}
+use Rattle.civl_conditions.specs.Steps.{each_at, each_cut, steps_to, step_invariants, begins_below, meet_below, lasts_through, has_layer}
+use Rattle.civl_layers.specs.Movers.{is_left, is_right}
 use Rattle.civl_conditions.specs.Listed.{starts, keeps, pair_of, fire_of, movers, parts_of, paths, targets, blocks, acts, at_step, conditions}
 use Rattle.civl_refine.specs.Kinds.{HasCut}
 use Rattle.civl_refine.specs.steadiness.Kinds.{HasTarget}

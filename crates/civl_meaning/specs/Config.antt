@@ -3,6 +3,8 @@
 -- waits in the call that made this.
 use Rattle.std.specs.Prelude.{ℕ, ◌≡◌, ◌≤◌, Bool, true, false, ◌||◌, nat_eq, List, [], ◌∷◌, ◌++◌, length, map, Option, None, Some, slice_get, IsTrue, All, ⊤}
 use Rattle.std.specs.List.{list_any}
+use Rattle.civl_bits.specs.declared.value.Value.{Value}
+use Rattle.civl_tree.specs.declared.action.Action.{Action}
 use Rattle.civl_tree.specs.declared.expr.Sort.{Sort}
 use Rattle.civl_tree.specs.declared.program.Proc.{Proc}
 use Rattle.civl_tree.specs.declared.program.Program.{Program}
@@ -63,6 +65,14 @@ pub record IsBegun (plain : Plain) (thread : Running) : Type 0 where
 -- the sorts of a procedure's parameters, outputs and locals
 abbrev pub frame_sorts : Proc → List Sort
 frame_sorts proc = param_sorts proc.params ++ (param_sorts proc.outs ++ map (λ l. l.sort) proc.locals)
+
+-- the sorts of an action's choices
+abbrev pub choice_sorts : Action → List Sort
+choice_sorts action = map (λ choice. choice.sort) action.choices
+
+-- the frame with other locals at another place
+abbrev pub moved_frame : Activation → List Value → ℕ → Activation
+moved_frame frame locals place = record { procedure = frame.procedure; place = place; locals = locals }
 
 -- a frame has a value of its sort for each of its procedure's parameters, outputs and locals
 pub record HasLocals (plain : Plain) (frame : Activation) : Type 0 where

@@ -20,7 +20,8 @@ use Rattle.civl_states.specs.declared.invoked.Invoked.{Invoked}
 use Rattle.civl_states.specs.declared.stores.Existing.{Existing}
 use Rattle.civl_states.specs.declared.stores.Existing.TheVariants.{Layer}
 use Rattle.civl_states.specs.Existing.{passes, existing_sorts}
-use Rattle.civl_states.specs.Stores.{AreStore, choice_sorts}
+use Rattle.civl_states.specs.Stores.{AreStore}
+use Rattle.civl_meaning.specs.Config.{choice_sorts}
 use Rattle.civl_states.specs.Runs.{param_sorts, instance_sorts, IsReady, IsInvoked}
 use Rattle.civl_states.specs.Groups.{StandFrom}
 use Rattle.civl_states.specs.Formulas.{sorts_of}

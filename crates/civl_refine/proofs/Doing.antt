@@ -13,7 +13,8 @@ use Rattle.civl_terms.specs.Building.{Grows}
 use Rattle.civl_actions.specs.Actions.{store_at, IsGuard, IsChange}
 use Rattle.civl_states.specs.formula_parts.Said.{Env, IsTest}
 use Rattle.civl_states.specs.formula_parts.Lists.{AreSaid}
-use Rattle.civl_states.specs.Stores.{AreStore, choice_sorts}
+use Rattle.civl_states.specs.Stores.{AreStore}
+use Rattle.civl_meaning.specs.Config.{choice_sorts}
 
 -- equal stores, inputs and choices
 at_three : {A : Type 0} (f : Store → List Value → List Value → A) (s t : Store) (i j c d : List Value) → s ≡ t → i ≡ j → c ≡ d → f s i c ≡ f t j d

@@ -33,7 +33,7 @@ use Rattle.civl_conditions.specs.Weights.{weights_of}
 use Rattle.civl_states.specs.formula_parts.Said.{Env, IsSaid}
 use Rattle.civl_states.specs.formula_parts.Lists.{AreSaid}
 use Rattle.civl_states.proofs.formula_parts.Listing.{said_more}
-use Rattle.civl_states.specs.Stores.{choice_sorts}
+use Rattle.civl_meaning.specs.Config.{choice_sorts}
 use Rattle.civl_states.specs.Notes.{IsProcIn}
 use Rattle.civl_refine.proofs.Typing.{sound_at, sound_typed}
 

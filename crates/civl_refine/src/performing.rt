@@ -8,7 +8,7 @@ ghost use Rattle.civl_firing.specs.values.ActionWeights.{guard_weight, updates_w
 ghost use Rattle.civl_firing.specs.declared.store.Store.{Store};
 ghost use Rattle.civl_firing.specs.Eval.{values_of};
 ghost use Rattle.civl_firing.specs.Fired.{guard_holds, store_after, outs_after};
-ghost use Rattle.civl_meaning.specs.Config.{frame_sorts};
+ghost use Rattle.civl_meaning.specs.Config.{frame_sorts, choice_sorts};
 ghost use Rattle.civl_meaning.specs.Change.{outs_in};
 ghost use Rattle.civl_terms.specs.Graphs.{sort_at};
 ghost use Rattle.civl_terms.specs.Building.{Grows};
@@ -22,7 +22,7 @@ ghost use Rattle.civl_conditions.specs.Values.{Begun, same_values, same_stores};
 ghost use Rattle.civl_conditions.specs.Weights.{result_bits, weights_of, note_weight};
 ghost use Rattle.civl_states.specs.formula_parts.Said.{Env, IsTest};
 ghost use Rattle.civl_states.specs.formula_parts.Lists.{AreSaid};
-ghost use Rattle.civl_states.specs.Stores.{AreGlobals, AreStore, choice_sorts};
+ghost use Rattle.civl_states.specs.Stores.{AreGlobals, AreStore};
 ghost use Rattle.civl_states.specs.Beginnings.{AreBegun, CanBegin};
 ghost use Rattle.civl_body.specs.Walks.{CanEnd};
 ghost use Rattle.civl_refine.specs.Assuming.{IsStart};

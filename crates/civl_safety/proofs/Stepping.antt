@@ -48,7 +48,7 @@ use Rattle.civl_meaning.specs.Meaning.{Meaning, Does, Runs, Missing, called, pro
 use Rattle.civl_meaning.specs.Layers.{topmost}
 use Rattle.civl_meaning.specs.Change.{new_frame, acted, call_change, layer_change}
 use Rattle.civl_meaning.specs.Failing.{answers_failing, layer_fails, spot_fails, proc_fails}
-use Rattle.civl_meaning.specs.Config.{frame_sorts}
+use Rattle.civl_meaning.specs.Config.{frame_sorts, moved_frame}
 use Rattle.civl_meaning.proofs.Begun.{proc_is}
 use Rattle.civl_meaning.proofs.Failures.{failing_is_answered}
 use Rattle.civl_layers.specs.Layered.{IsLayered}
@@ -68,7 +68,7 @@ use Rattle.civl_goals.specs.Outlines.{exists_on_top, invariant_holds, written_be
 use Rattle.civl_goals.specs.Variables.{variables, choices_at}
 use Rattle.civl_goals.specs.Listed.{is_root, has_statement, begins, goals}
 use Rattle.civl_goals.specs.Rules.{descending, form_descends}
-use Rattle.civl_goals.specs.Failed.{owned_in, beside, does, frame_at, other_of, loses_invariant, begins_badly, leads_astray, interferes, failed}
+use Rattle.civl_goals.specs.Failed.{owned_in, beside, does, other_of, loses_invariant, begins_badly, leads_astray, interferes, failed}
 use Rattle.civl_safety.specs.Outlined.{IsOutlined}
 use Rattle.civl_safety.proofs.Listing.{not_not}
 use Rattle.civl_safety.proofs.Agreeing.{invariant_same, note_same}
@@ -260,23 +260,23 @@ module _ (program : Program) (layered : IsLayered program) (outline : Outline) (
         concluded program layered outline o r proc at root s spot found stood g fit locals sorted is chosen choices [] (leads_astray program outline)
         (o.hold (goal.Next r s) (next_listed program outline r proc at root s spot.stmt stood) (values_with []) (given_fit program layered outline o r proc at root s spot found stood g fit locals sorted is chosen choices))
 
-    goes_led : (ls : List Value) (place : ℕ) → does program g frame chosen ≡ Goes ls place → note_holds program outline g (frame_at frame ls place) ≡ true
+    goes_led : (ls : List Value) (place : ℕ) → does program g frame chosen ≡ Goes ls place → note_holds program outline g (moved_frame frame ls place) ≡ true
     goes_led ls place e =
         let same = goes_also program ls place (does program (store_with []) frame chosen) (subst (λ (c : Change). Alike program c (does program (store_with []) frame chosen)) e (alike [])) in
         let there : leads_astray program outline (store_with []) frame (Goes ls place) ≡ false = subst (λ (c : Change). leads_astray program outline (store_with []) frame c ≡ false) (sym same) next_there in
-        note_same program layered outline o.fits g (store_with []) (agree_with []) (frame_at frame ls place) ∙ not_not (note_holds program outline (store_with []) (frame_at frame ls place)) there
+        note_same program layered outline o.fits g (store_with []) (agree_with []) (moved_frame frame ls place) ∙ not_not (note_holds program outline (store_with []) (moved_frame frame ls place)) there
 
-    spawns_led : (new : Running) (place : ℕ) → does program g frame chosen ≡ Spawns new place → note_holds program outline g (frame_at frame locals place) ≡ true
+    spawns_led : (new : Running) (place : ℕ) → does program g frame chosen ≡ Spawns new place → note_holds program outline g (moved_frame frame locals place) ≡ true
     spawns_led new place e =
         let same = spawns_also program new place (does program (store_with []) frame chosen) (subst (λ (c : Change). Alike program c (does program (store_with []) frame chosen)) e (alike [])) in
         let there : leads_astray program outline (store_with []) frame (Spawns new place) ≡ false = subst (λ (c : Change). leads_astray program outline (store_with []) frame c ≡ false) (sym same) next_there in
-        note_same program layered outline o.fits g (store_with []) (agree_with []) (frame_at frame locals place) ∙ not_not (note_holds program outline (store_with []) (frame_at frame locals place)) there
+        note_same program layered outline o.fits g (store_with []) (agree_with []) (moved_frame frame locals place) ∙ not_not (note_holds program outline (store_with []) (moved_frame frame locals place)) there
 
-    acts_led : (after : Store) (ls : List Value) (place : ℕ) → does program g frame chosen ≡ Acts after ls place → note_holds program outline after (frame_at frame ls place) ≡ true
+    acts_led : (after : Store) (ls : List Value) (place : ℕ) → does program g frame chosen ≡ Acts after ls place → note_holds program outline after (moved_frame frame ls place) ≡ true
     acts_led after ls place e =
         let also = acts_also program after ls place (does program (store_with []) frame chosen) (subst (λ (c : Change). Alike program c (does program (store_with []) frame chosen)) e (alike [])) in
         let there : leads_astray program outline (store_with []) frame (Acts also.store ls place) ≡ false = subst (λ (c : Change). leads_astray program outline (store_with []) frame c ≡ false) also.is next_there in
-        note_same program layered outline o.fits after also.store also.agree (frame_at frame ls place) ∙ not_not (note_holds program outline also.store (frame_at frame ls place)) there
+        note_same program layered outline o.fits after also.store also.agree (moved_frame frame ls place) ∙ not_not (note_holds program outline also.store (moved_frame frame ls place)) there
 
     -- ---- a call
 
@@ -358,12 +358,12 @@ module _ (program : Program) (layered : IsLayered program) (outline : Outline) (
 
     abbrev pub LedTo : Change → Type 0
     LedTo (Stays a) = Unit {0}
-    LedTo (Goes ls place) = note_holds program outline g (frame_at frame ls place) ≡ true
-    LedTo (Acts after ls place) = (invariant_holds program outline after ≡ true) × (note_holds program outline after (frame_at frame ls place) ≡ true) × KeepsOthers after
+    LedTo (Goes ls place) = note_holds program outline g (moved_frame frame ls place) ≡ true
+    LedTo (Acts after ls place) = (invariant_holds program outline after ≡ true) × (note_holds program outline after (moved_frame frame ls place) ≡ true) × KeepsOthers after
     LedTo (Enters top place) = ⊥
     LedTo (Leaves k) = k ≡ None
     LedTo (Spawns new place) =
-        (note_holds program outline g (frame_at frame locals place) ≡ true) × (new.state ≡ Before)
+        (note_holds program outline g (moved_frame frame locals place) ≡ true) × (new.state ≡ Before)
         × ((callee : Proc) → slice_get program.procs new.callee ≡ Some callee → note_holds program outline g (new_frame new.callee callee new.args) ≡ true)
 
     call_led : (f : Name) (es : List Expr) (rs : List Name) → out-Stmt spot.stmt ≡ Call f es rs → (c : Change) → CallShape c → does program g frame chosen ≡ c → LedTo c

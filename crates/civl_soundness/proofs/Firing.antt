@@ -38,7 +38,8 @@ use Rattle.civl_firing.specs.Fired.{gate_holds, guard_holds, offers, updated, st
 use Rattle.civl_firing.proofs.values.Sorting.{same_sort-true}
 use Rattle.civl_firing.proofs.Having.{no_sorts, more_sorts}
 use Rattle.civl_firing.proofs.Soundness.{values_have_their_sorts}
-use Rattle.civl_soundness.specs.Scope.{choice_sorts, GateIsSorted, GuardIsSorted, BodyIsSorted, OffersAreSorted, GateIsBool, GuardIsBool}
+use Rattle.civl_soundness.specs.Scope.{GateIsSorted, GuardIsSorted, BodyIsSorted, OffersAreSorted, GateIsBool, GuardIsBool}
+use Rattle.civl_meaning.specs.Config.{choice_sorts}
 use Rattle.civl_soundness.specs.Fired.{UpdatesKeepSorts, FiredIsSorted}
 use Rattle.civl_soundness.proofs.Bindings.{names_of, sorts_of, in_front, in_back, not_in_first, no_global, names_bound, sorts_bound}
 use Rattle.civl_soundness.proofs.Sorted.{set_fits}

@@ -9,7 +9,8 @@ use Rattle.civl_firing.specs.declared.firing.Fired.TheVariants.{Moved}
 use Rattle.civl_firing.specs.Fired.{store_after, outs_after, fired}
 use Rattle.civl_firing.specs.Stores.{IsStore}
 use Rattle.civl_firing.specs.values.Values.{HaveSorts}
-use Rattle.civl_soundness.specs.Scope.{choice_sorts, Given}
+use Rattle.civl_soundness.specs.Scope.{Given}
+use Rattle.civl_meaning.specs.Config.{choice_sorts}
 
 -- from a store with the sorts of the globals, inputs with those of its parameters and choices with theirs, an action of a
 -- program that keeps the static rules updates to a store with the sorts of the globals and to outputs with the sorts that

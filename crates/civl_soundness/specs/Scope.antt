@@ -1,9 +1,8 @@
 -- The scopes of a program that keeps the static rules have values of the sorts that the rules give their names; so each
 -- expression of an action has a value of the sort that its place needs.
-use Rattle.std.specs.Prelude.{ℕ, ◌≡◌, List, map, Some, slice_get}
+use Rattle.std.specs.Prelude.{ℕ, ◌≡◌, List, Some, slice_get}
 use Rattle.civl_bits.specs.declared.value.Value.{Value}
 use Rattle.civl_tree.specs.declared.action.Action.{Action}
-use Rattle.civl_tree.specs.declared.expr.Sort.{Sort}
 use Rattle.civl_tree.specs.declared.expr.Sort.TheVariants.{Bool as Truth}
 use Rattle.civl_tree.specs.declared.program.Proc.{Proc}
 use Rattle.civl_tree.specs.declared.program.Program.{Program}
@@ -18,11 +17,7 @@ use Rattle.civl_firing.specs.Fired.{offers}
 use Rattle.civl_firing.specs.Stores.{IsStore}
 use Rattle.civl_firing.specs.Sorts.{IsSorted}
 use Rattle.civl_firing.specs.Scope.{frame_values, gate_values, guard_values}
-use Rattle.civl_meaning.specs.Config.{frame_sorts}
-
--- the sorts of an action's choices
-abbrev pub choice_sorts : Action → List Sort
-choice_sorts action = map (λ choice. choice.sort) action.choices
+use Rattle.civl_meaning.specs.Config.{frame_sorts, choice_sorts}
 
 -- an action of a program that keeps the static rules, with a store of the globals' sorts and inputs of its parameters'
 pub record Given (program : Program) (action : Action) (store : Store) (inputs : List Value) : Type 0 where

@@ -11,7 +11,7 @@ use Rattle.civl_states.specs.formula_parts.Lists.{AreSaid}
 use Rattle.civl_states.specs.formula_parts.Given.{given, sorts_from}
 use Rattle.civl_states.proofs.formula_parts.Listing.{said_after}
 use Rattle.civl_states.specs.declared.invoked.Invoked.{Invoked}
-use Rattle.civl_states.specs.Stores.{choice_sorts}
+use Rattle.civl_meaning.specs.Config.{choice_sorts}
 use Rattle.civl_states.specs.Runs.{param_sorts, instance_sorts, IsReady, IsInvoked}
 use Rattle.civl_states.specs.Groups.{StandFrom}
 use Rattle.civl_states.proofs.Given.{stand_within, stand_counted, stand_front, stand_past}

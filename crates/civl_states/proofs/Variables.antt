@@ -19,7 +19,8 @@ use Rattle.civl_conditions.specs.declared.condition.Target.{Target}
 use Rattle.civl_conditions.specs.Variables.{variables, of_globals, of_params, of_choices, of_instance, other_variables}
 use Rattle.civl_conditions.specs.Weights.{bits_of_variables}
 use Rattle.civl_states.specs.formula_parts.Given.{bits_of_sorts}
-use Rattle.civl_states.specs.Stores.{choice_sorts, global_sorts}
+use Rattle.civl_states.specs.Stores.{global_sorts}
+use Rattle.civl_meaning.specs.Config.{choice_sorts}
 use Rattle.civl_states.specs.Runs.{param_sorts, instance_sorts}
 use Rattle.civl_states.specs.Existing.{passes, existing_sorts}
 use Rattle.civl_states.specs.declared.stores.Existing.{Existing}

@@ -7,7 +7,7 @@ use Rattle.civl_tree.specs.declared.action.Action.{Action}
 use Rattle.civl_tree.specs.declared.program.Proc.{Proc}
 use Rattle.civl_tree.specs.declared.program.Program.{Program}
 use Rattle.civl_tree.specs.rules.Uses.{param_sorts}
-use Rattle.civl_meaning.specs.Config.{frame_sorts}
+use Rattle.civl_meaning.specs.Config.{frame_sorts, choice_sorts}
 use Rattle.civl_meaning.specs.Layers.{program_at}
 use Rattle.civl_terms.specs.declared.node.Node.{Node}
 use Rattle.civl_terms.specs.Graphs.{sort_at}
@@ -20,7 +20,7 @@ use Rattle.civl_states.specs.formula_parts.Said.{Env, IsTest}
 use Rattle.civl_states.specs.formula_parts.Lists.{AreSaid}
 use Rattle.civl_states.specs.declared.choices.Chosen.{Chosen}
 use Rattle.civl_states.specs.declared.beginning.Beginning.{Beginning}
-use Rattle.civl_states.specs.Stores.{AreGlobals, AreStore, choice_sorts}
+use Rattle.civl_states.specs.Stores.{AreGlobals, AreStore}
 
 -- the terms for the choices of the call with this number
 abbrev pub chosen_at : List Chosen → ℕ → List ℕ

@@ -12,7 +12,8 @@ use Rattle.civl_actions.specs.Scopes.{AreOf}
 use Rattle.civl_states.specs.formula_parts.Said.{Env, IsTest}
 use Rattle.civl_states.specs.formula_parts.Lists.{AreSaid}
 use Rattle.civl_states.specs.declared.invoked.Invoked.{Invoked}
-use Rattle.civl_states.specs.Stores.{AreStore, choice_sorts}
+use Rattle.civl_states.specs.Stores.{AreStore}
+use Rattle.civl_meaning.specs.Config.{choice_sorts}
 
 abbrev pub param_sorts : Action → List Sort
 param_sorts a = map (λ p. p.sort) a.params

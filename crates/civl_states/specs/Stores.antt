@@ -1,7 +1,6 @@
 -- Terms for a store: one for each global, in the order of the text.
 use Rattle.std.specs.Prelude.{ℕ, List, map}
 use Rattle.civl_tree.specs.declared.expr.Sort.{Sort}
-use Rattle.civl_tree.specs.declared.action.Action.{Action}
 use Rattle.civl_tree.specs.declared.program.Program.{Program}
 use Rattle.civl_firing.specs.declared.store.Store.{Store}
 use Rattle.civl_terms.specs.declared.node.Node.{Node}
@@ -11,9 +10,6 @@ use Rattle.civl_states.specs.formula_parts.Lists.{AreSaid}
 
 abbrev pub global_sorts : Program → List Sort
 global_sorts program = map (λ g. g.sort) program.globals
-
-abbrev pub choice_sorts : Action → List Sort
-choice_sorts a = map (λ c. c.sort) a.choices
 
 -- terms of the globals' sorts
 abbrev pub AreGlobals : List Node → Program → List ℕ → Type 0

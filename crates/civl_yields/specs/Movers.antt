@@ -1,7 +1,7 @@
 -- Which way the action of a call moves: past the steps of other threads on its right, or on its left (Lipton, Reduction:
 -- a method of proving properties of parallel programs, CACM 1975). The movers of a block are right movers up to its
 -- turning point, and left movers from there on.
-use Rattle.std.specs.Prelude.{ℕ, Bool, true, false, Option, None, Some}
+use Rattle.std.specs.Prelude.{ℕ, Bool, not, Option, None, Some}
 use Rattle.civl_tree.specs.declared.name.Name.{Name}
 use Rattle.civl_tree.specs.declared.action.Mover.{Mover}
 use Rattle.civl_tree.specs.declared.action.Mover.TheVariants.{Atomic, Right, Left, Both}
@@ -10,6 +10,7 @@ use Rattle.civl_tree.specs.declared.program.Refines.{Refines}
 use Rattle.civl_tree.specs.declared.program.Proc.{Proc}
 use Rattle.civl_tree.specs.declared.program.Program.{Program}
 use Rattle.civl_tree.specs.rules.Names.{action_named, proc_named}
+use Rattle.civl_layers.specs.Movers.{is_right}
 
 -- the action that a procedure refines; a root refines none
 abbrev pub refined_action : Program → Option Refines → Option Action
@@ -32,17 +33,7 @@ called_action program name = first_action (action_named program name) (proc_acti
 
 -- a call of it is the turning point of its block, or comes behind it: it is no right mover
 abbrev pub turns : Mover → Bool
-turns Atomic = true
-turns Right = false
-turns Left = true
-turns Both = false
-
--- a call of it may stand behind the turning point of its block: it is a left mover
-abbrev pub may_follow : Mover → Bool
-may_follow Atomic = false
-may_follow Right = false
-may_follow Left = true
-may_follow Both = true
+turns mover = not (is_right mover)
 
 -- the ways in which an action moves, as bits: 1 for right, 2 for left
 abbrev pub kinds : Mover → ℕ

@@ -11,14 +11,15 @@ use Rattle.civl_tree.specs.declared.action.Action.{Action}
 use Rattle.civl_tree.specs.declared.program.Refines.{Refines}
 use Rattle.civl_tree.specs.declared.program.Proc.{Proc}
 use Rattle.civl_tree.specs.declared.program.Program.{Program}
-use Rattle.civl_yields.specs.Movers.{called_action, may_follow}
+use Rattle.civl_yields.specs.Movers.{called_action}
+use Rattle.civl_layers.specs.Movers.{is_left}
 
 -- ---- E50: a call of a right or atomic action where the phase may be left
 
 -- a call of this action, where there is one, behind the turning point
 abbrev pub too_late : Option Action → Bool
 too_late None = false
-too_late (Some action) = not (may_follow action.mover)
+too_late (Some action) = not (is_left action.mover)
 
 abbrev pub form_late : Program → Stmt-F Stmt → Bool → Bool
 form_late program (Call callee args results) left = left && too_late (called_action program callee)

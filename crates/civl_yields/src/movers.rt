@@ -1,6 +1,7 @@
 // Which way actions move.
 ghost use Rattle.std.specs.Prelude.{⊤, ◌≡◌, [], ◌∷◌, codes};
-ghost use Rattle.civl_yields.specs.Movers.{turns, may_follow, kinds};
+ghost use Rattle.civl_yields.specs.Movers.{turns, kinds};
+ghost use Rattle.civl_layers.specs.Movers.{is_left};
 
 use bitflags::{Flag, Flags, bitflag_items};
 use civl_tree::Mover;
@@ -63,7 +64,7 @@ pub(crate) fn turns(mover: Mover) -> bool
 
 /// Whether a call of such an action may stand behind the turning point of its block.
 pub(crate) fn may_follow(mover: Mover) -> bool
-    ensures { result ≡ may_follow mover }
+    ensures { result ≡ is_left mover }
 {
     movers_of(mover).contains(Movers::LEFT)
 }

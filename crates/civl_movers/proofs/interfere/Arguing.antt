@@ -33,11 +33,11 @@ use Rattle.civl_meaning.specs.Meaning.{proc_number}
 use Rattle.civl_meaning.specs.Permissions.{of_params}
 use Rattle.civl_meaning.proofs.Begun.{proc_is}
 use Rattle.civl_actions.specs.Scopes.{IsTyped}
-use Rattle.civl_conditions.specs.Weights.{linear_inputs}
+use Rattle.civl_conditions.specs.Weights.{linear_inputs, thread_items}
 use Rattle.civl_states.specs.Items.{HaveWidths}
 use Rattle.civl_states.proofs.Variables.{there_is}
 use Rattle.civl_states.proofs.Typed.{type_from}
-use Rattle.civl_movers.specs.interfere.Arguments.{arg_sorts, thread_items}
+use Rattle.civl_movers.specs.interfere.Arguments.{arg_sorts}
 
 -- ---- arguments that have the sorts in their places
 

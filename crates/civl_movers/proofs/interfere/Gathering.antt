@@ -20,7 +20,7 @@ use Rattle.civl_terms.specs.Building.{Grows}
 use Rattle.civl_terms.specs.Weights.{graph_weight}
 use Rattle.civl_terms.proofs.Growing.{grows_trans, grows_same, lengthened}
 use Rattle.civl_actions.specs.Scopes.{AreOf, IsTyped}
-use Rattle.civl_conditions.specs.Weights.{weights_of, global_weight, summed}
+use Rattle.civl_conditions.specs.Weights.{weights_of, global_weight, summed, thread_items}
 use Rattle.civl_states.specs.declared.formula_parts.carried.Carried.{Carried}
 use Rattle.civl_states.specs.formula_parts.Said.{Env}
 use Rattle.civl_states.specs.formula_parts.Lists.{AreSaid}
@@ -31,7 +31,7 @@ use Rattle.civl_states.specs.Stores.{AreStore}
 use Rattle.civl_states.specs.Items.{HasItems, items_weight}
 use Rattle.civl_states.specs.Notes.{IsGlobalNote}
 use Rattle.civl_states.proofs.Stepping.{weights_last}
-use Rattle.civl_movers.specs.interfere.Arguments.{arg_sorts, thread_items, threads_items, thread_weight, threads_weight, of_threads}
+use Rattle.civl_movers.specs.interfere.Arguments.{arg_sorts, threads_items, thread_weight, threads_weight, of_threads}
 use Rattle.civl_movers.proofs.interfere.Arguing.{own_sort}
 
 append_end : {A : Type 0} (xs : List A) → xs ++ [] ≡ xs

@@ -29,7 +29,7 @@ use Rattle.civl_states.specs.formula_parts.Given.{given, bits_of_sorts}
 use Rattle.civl_states.proofs.formula_parts.Saying.{IsBool}
 use Rattle.civl_states.specs.Items.{comes_in}
 use Rattle.civl_states.specs.Runs.{param_sorts, instance_sorts}
-use Rattle.civl_states.specs.Stores.{choice_sorts}
+use Rattle.civl_meaning.specs.Config.{choice_sorts}
 use Rattle.civl_states.specs.Existing.{existing_sorts}
 use Rattle.civl_states.specs.declared.stores.Existing.TheVariants.{Near}
 use Rattle.civl_states.specs.Groups.{StandFrom}

@@ -9,18 +9,13 @@ use Rattle.civl_tree.specs.rules.Scopes.{global_scope}
 use Rattle.civl_tree.specs.rules.Sorts.{sort_of}
 use Rattle.civl_firing.specs.declared.store.Store.{Store}
 use Rattle.civl_meaning.specs.Initial.{of_thread}
-use Rattle.civl_meaning.specs.Meaning.{proc_number}
-use Rattle.civl_conditions.specs.Steps.{of_proc}
-use Rattle.civl_conditions.specs.Weights.{linear_inputs, weights_of, global_weight, summed}
+use Rattle.civl_conditions.specs.Weights.{thread_items, weights_of, global_weight, summed}
 
 -- the sorts of expressions of the globals
 abbrev pub arg_sorts : Program → List Expr → List Sort
 arg_sorts program args = map (λ e. unwrap_or (sort_of (global_scope program) e) Truth) args
 
--- the linear arguments of one thread, and of several
-abbrev pub thread_items : Program → Thread → ℕ
-thread_items program t = of_proc program (proc_number program t.callee) 0 (λ p. linear_inputs p.params)
-
+-- the linear arguments of several threads
 abbrev pub threads_items : Program → List Thread → ℕ
 threads_items program ts = summed (map (thread_items program) ts)
 

@@ -10,13 +10,13 @@ ghost use Rattle.civl_meaning.specs.Initial.{of_thread};
 ghost use Rattle.civl_terms.specs.Building.{Grows};
 ghost use Rattle.civl_terms.specs.Weights.{graph_weight};
 ghost use Rattle.civl_actions.specs.Scopes.{AreOf, IsTyped};
-ghost use Rattle.civl_conditions.specs.Weights.{weights_of, global_weight};
+ghost use Rattle.civl_conditions.specs.Weights.{weights_of, global_weight, thread_items};
 ghost use Rattle.civl_states.specs.formula_parts.Said.{Env};
 ghost use Rattle.civl_states.specs.formula_parts.Lists.{AreSaid};
 ghost use Rattle.civl_states.specs.formula_parts.Masks.{AreCarried, CanCarry};
 ghost use Rattle.civl_states.specs.Stores.{AreGlobals, AreStore};
 ghost use Rattle.civl_states.specs.Items.{HasItems, items_weight};
-ghost use Rattle.civl_movers.specs.interfere.Arguments.{arg_sorts, thread_items, threads_items, thread_weight, threads_weight, of_threads};
+ghost use Rattle.civl_movers.specs.interfere.Arguments.{arg_sorts, threads_items, thread_weight, threads_weight, of_threads};
 
 use civl_states::formula_parts::Carried;
 use civl_states::{Which, global_note, param_items};

@@ -7,7 +7,8 @@ use Rattle.civl_tree.specs.declared.action.Action.{Action}
 use Rattle.civl_tree.specs.declared.program.Program.{Program}
 use Rattle.civl_conditions.specs.declared.condition.Condition.{Condition}
 use Rattle.civl_conditions.specs.declared.condition.Condition.TheVariants.{Keep, Pair, Fire}
-use Rattle.civl_conditions.specs.Steps.{each_at, steps_to, is_right, is_left, begins_below, meet_below}
+use Rattle.civl_conditions.specs.Steps.{each_at, steps_to, begins_below, meet_below}
+use Rattle.civl_layers.specs.Movers.{is_left, is_right}
 use Rattle.civl_conditions.specs.Listed.{starts, keeps, pair_of, fire_of, movers, paths, blocks, acts, at_step, conditions}
 
 -- ---- lists

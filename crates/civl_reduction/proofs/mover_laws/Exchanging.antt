@@ -11,7 +11,7 @@ use Rattle.civl_meaning.specs.declared.config.Running.{Running}
 use Rattle.civl_meaning.specs.Step.{start}
 use Rattle.civl_meaning.specs.Layers.{program_at}
 use Rattle.civl_layers.proofs.PlainPrograms.{layered_is_plain}
-use Rattle.civl_conditions.specs.Steps.{is_right, is_left}
+use Rattle.civl_layers.specs.Movers.{is_left, is_right}
 use Rattle.civl_reduction.specs.interleavings.Threads as threads
 use Rattle.civl_reduction.specs.exchanges.Doing.{Doing, Calls, doing}
 use Rattle.civl_reduction.specs.exchanges.Exchange.{CallsSwap, SpawnsNone}

@@ -16,7 +16,7 @@ use Rattle.civl_layers.specs.Ranges.{exists_in}
 use Rattle.civl_layers.specs.Names.{action_range}
 use Rattle.civl_layers.specs.Layered.{IsLayered}
 use Rattle.civl_soundness.proofs.Firing.{offers_are_sorted}
-use Rattle.civl_conditions.specs.Steps.{is_right, is_left}
+use Rattle.civl_layers.specs.Movers.{is_left, is_right}
 use Rattle.civl_conditions.specs.Values.{Invoked}
 use Rattle.civl_conditions.specs.Movers.{apart}
 use Rattle.civl_reduction.specs.interleavings.Threads.{Movers}

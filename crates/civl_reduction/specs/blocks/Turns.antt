@@ -19,7 +19,8 @@ use Rattle.civl_meaning.specs.Layers.{program_at}
 use Rattle.civl_meaning.specs.Config.{IsStacked}
 use Rattle.civl_layers.specs.Layered.{IsLayered}
 use Rattle.civl_conditions.specs.Steps.{has_layer}
-use Rattle.civl_yields.specs.Movers.{called_action, turns, may_follow}
+use Rattle.civl_yields.specs.Movers.{called_action, turns}
+use Rattle.civl_layers.specs.Movers.{is_left}
 use Rattle.civl_yields.specs.YieldRules.{yield_rules}
 use Rattle.civl_reduction.specs.interleavings.Reduction.{Between, Early, Late}
 use Rattle.civl_reduction.specs.interleavings.Threads.{Doing, Fails, Waits, Goes, Spawns, Calls}
@@ -53,7 +54,7 @@ LateDoes program layer Fails = Unit {0}
 LateDoes program layer Waits = ⊥
 LateDoes program layer (Goes after) = stands program layer after ≢ Early
 LateDoes program layer (Spawns after new) = ⊥
-LateDoes program layer (Calls call after) = (may_follow call.0.mover ≡ true) × ((outs : List Value) → stands program layer (after outs) ≢ Early)
+LateDoes program layer (Calls call after) = (is_left call.0.mover ≡ true) × ((outs : List Value) → stands program layer (after outs) ≢ Early)
 
 -- and of what any thread does next: if it is early behind a call, that is of a right mover; behind a spawn it stands between
 -- blocks, and so does the new one

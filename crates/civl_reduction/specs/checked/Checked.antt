@@ -19,7 +19,7 @@ use Rattle.civl_layers.specs.Layered.{IsLayered}
 use Rattle.civl_linear.specs.LinearRules.{linear_rules}
 use Rattle.civl_conditions.specs.declared.condition.Condition.{Condition}
 use Rattle.civl_conditions.specs.Listed.{conditions}
-use Rattle.civl_conditions.specs.Steps.{is_right, is_left}
+use Rattle.civl_layers.specs.Movers.{is_left, is_right}
 use Rattle.civl_conditions.specs.Violated.{Holds}
 use Rattle.civl_reduction.specs.exchanges.Doing.{doing}
 use Rattle.civl_reduction.specs.exchanges.Exchange.{Exchanged}

@@ -13,7 +13,8 @@ use Rattle.civl_firing.specs.Fired.{choices_fit, fires, offers}
 use Rattle.civl_layers.specs.Ranges.{exists_in}
 use Rattle.civl_layers.specs.Names.{action_range}
 use Rattle.civl_layers.specs.Layered.{IsLayered}
-use Rattle.civl_conditions.specs.Steps.{is_right, is_left, begins_below, meet_below}
+use Rattle.civl_conditions.specs.Steps.{begins_below, meet_below}
+use Rattle.civl_layers.specs.Movers.{is_left, is_right}
 use Rattle.civl_conditions.specs.Values.{Invoked}
 use Rattle.civl_conditions.specs.Movers.{apart, gate_of, pair_fails, waits}
 use Rattle.civl_reduction.specs.exchanges.Exchange.{ActionsSwap}

@@ -18,6 +18,7 @@ use Rattle.civl_meaning.specs.declared.config.Change.TheVariants.{Stays, Goes, A
 use Rattle.civl_meaning.specs.Places.{Spot, spot_at}
 use Rattle.civl_meaning.specs.Rest.{rest_at}
 use Rattle.civl_meaning.specs.Change.{layer_change}
+use Rattle.civl_meaning.specs.Config.{moved_frame}
 use Rattle.civl_meaning.specs.Layers.{program_at}
 use Rattle.civl_layers.specs.declared.cut.Cut.{Cut}
 use Rattle.civl_layers.specs.Layered.{IsLayered}
@@ -96,10 +97,6 @@ pub record Follows (program : Program) (step : ℕ) (proc : Proc) (cut : Cut) (f
   pub on_path : IsOnPath program step proc cut from chosen bound here
   pub alike : StandsAlike program step proc here store frame
 
--- the frame with other locals at another place
-abbrev pub frame_at : Activation → List Value → ℕ → Activation
-frame_at frame locals place = record { procedure = frame.procedure; place = place; locals = locals }
-
 -- a frame in its step, in the lower program
 abbrev pub frame_does : Program → ℕ → Proc → Store → List Value → Activation → Spot → Change
 frame_does program step proc store values frame s = layer_change (program_at program (step - 1)) store values proc frame.locals s.number s.next (out-Stmt s.stmt)
@@ -116,10 +113,10 @@ pub record FollowsOn (program : Program) (step : ℕ) (proc : Proc) (cut : Cut) 
 -- what an action does to its store it does to the path's; and where the step fails, so does the path.
 abbrev pub StepFollows : Program → ℕ → Proc → Cut → Progress → (ℕ → List Value) → Spot → List Value → Standing → Store → Activation → Change → Type 0
 StepFollows program step proc cut from chosen s values here store frame (Goes locals place) =
-    FollowsOn program step proc cut from (with_choices chosen s.number values) (s.number + 1) here (led_here program step proc here).store store (frame_at frame locals place)
+    FollowsOn program step proc cut from (with_choices chosen s.number values) (s.number + 1) here (led_here program step proc here).store store (moved_frame frame locals place)
 StepFollows program step proc cut from chosen s values here store frame (Acts after locals place) =
     (inner : Store) × (frame_does program step proc (led_here program step proc here).store values frame s ≡ Acts inner locals place)
-    × FollowsOn program step proc cut from (with_choices chosen s.number values) (s.number + 1) here inner after (frame_at frame locals place)
+    × FollowsOn program step proc cut from (with_choices chosen s.number values) (s.number + 1) here inner after (moved_frame frame locals place)
 StepFollows program step proc cut from chosen s values here store frame (Stays answer.Failing) = has_failed (path_from (lower_course program step proc chosen) cut from) ≡ true
 StepFollows program step proc cut from chosen s values here store frame _ = Unit {0}
 

@@ -22,7 +22,7 @@ use Rattle.civl_meaning.specs.declared.config.Change.TheVariants.{Stays, Goes, A
 use Rattle.civl_meaning.specs.Permissions.{pairwise_disjoint}
 use Rattle.civl_meaning.specs.Places.{Spot, spot_at}
 use Rattle.civl_meaning.specs.Change.{change_of}
-use Rattle.civl_meaning.specs.Config.{frame_sorts, ThreadIsSorted, IsStacked}
+use Rattle.civl_meaning.specs.Config.{frame_sorts, ThreadIsSorted, IsStacked, moved_frame}
 use Rattle.civl_meaning.specs.Layers.{program_at}
 use Rattle.civl_layers.specs.declared.cut.Cut.{Cut}
 use Rattle.civl_layers.specs.declared.cut.CutKind.TheVariants as kind
@@ -42,7 +42,7 @@ use Rattle.civl_conditions.specs.Values.{Begun}
 use Rattle.civl_conditions.specs.Assumed.{inputs_of, owned}
 use Rattle.civl_conditions.specs.Violated.{Holds}
 use Rattle.civl_reduction.specs.open_blocks.Ends.{IsAssumed, Concludes}
-use Rattle.civl_reduction.specs.open_blocks.Following.{layer_head, cut_ahead, led_here, StandsAlike, Follows, frame_at, frame_does}
+use Rattle.civl_reduction.specs.open_blocks.Following.{layer_head, cut_ahead, led_here, StandsAlike, Follows, frame_does}
 
 -- ---- programs and threads
 
@@ -102,10 +102,10 @@ pub record StaysOpen (program : Program) (step q c : ℕ) (proc : Proc) (cut : C
 -- the path's store what it does to the configuration's. The block doesn't fail.
 abbrev pub StepStaysOpen : Program → ℕ → ℕ → ℕ → Proc → Cut → Begun → ℕ → Standing → Store → Activation → Spot → List Value → Change → Type 0
 StepStaysOpen program step q c proc cut b bound here store frame s values (Goes locals place) =
-    StaysOpen program step q c proc cut b bound here (led_here program step proc here).store store (frame_at frame locals place)
+    StaysOpen program step q c proc cut b bound here (led_here program step proc here).store store (moved_frame frame locals place)
 StepStaysOpen program step q c proc cut b bound here store frame s values (Acts after locals place) =
     (inner : Store) × (frame_does program step proc (led_here program step proc here).store values frame s ≡ Acts inner locals place)
-    × StaysOpen program step q c proc cut b bound here inner after (frame_at frame locals place)
+    × StaysOpen program step q c proc cut b bound here inner after (moved_frame frame locals place)
 StepStaysOpen program step q c proc cut b bound here store frame s values (Stays answer.Failing) = ⊥
 StepStaysOpen program step q c proc cut b bound here store frame s values _ = Unit {0}
 
@@ -129,7 +129,7 @@ ChoicesAreThere =
 abbrev pub OpensInLoop : Program → ℕ → ℕ → ℕ → Proc → Cut → Begun → Store → Activation → Change → Type 0
 OpensInLoop program step q c proc cut b store frame change =
     (place : ℕ) × (change ≡ Goes frame.locals place)
-    × IsOpen program step q c proc cut b (cut.statement + 1) (record { place = place; state = beginning b }) store (frame_at frame frame.locals place)
+    × IsOpen program step q c proc cut b (cut.statement + 1) (record { place = place; state = beginning b }) store (moved_frame frame frame.locals place)
 
 -- at the entry: behind the call that makes the frame
 abbrev pub BlocksOpenAtEntries : Type 0

@@ -27,7 +27,8 @@ use Rattle.civl_conditions.specs.Permissions.{in_store, held_at, of_held}
 use Rattle.civl_conditions.specs.Values.{Begun}
 use Rattle.civl_conditions.specs.Assumed.{cut_rank}
 use Rattle.civl_reduction.specs.blocks.Blocks.{at_yield}
-use Rattle.civl_reduction.specs.open_blocks.Following.{cut_ahead, frame_at}
+use Rattle.civl_reduction.specs.open_blocks.Following.{cut_ahead}
+use Rattle.civl_meaning.specs.Config.{moved_frame}
 use Rattle.civl_reduction.specs.open_blocks.Open.{IsSound, IsTopmost, IsOpen}
 
 -- ---- the measure
@@ -75,8 +76,8 @@ pub record IsNear (program : Program) (step q : ℕ) (proc : Proc) (store : Stor
 
 -- behind a step that goes on in the frame
 abbrev pub IsNearer : Program → ℕ → ℕ → Proc → Store → Activation → ℕ → Change → Type 0
-IsNearer program step q proc store frame n (Goes locals place) = IsNear program step q proc store (frame_at frame locals place) n
-IsNearer program step q proc store frame n (Acts after locals place) = IsNear program step q proc after (frame_at frame locals place) n
+IsNearer program step q proc store frame n (Goes locals place) = IsNear program step q proc store (moved_frame frame locals place) n
+IsNearer program step q proc store frame n (Acts after locals place) = IsNear program step q proc after (moved_frame frame locals place) n
 IsNearer program step q proc store frame n _ = Unit {0}
 
 -- before the head of a rank loop what the frame holds there is apart from the linear globals

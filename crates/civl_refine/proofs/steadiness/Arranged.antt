@@ -21,7 +21,7 @@ use Rattle.civl_conditions.specs.Values.{Invoked as Meant, begun, layout, store_
 use Rattle.civl_conditions.specs.Targets.{act_fails, block_fails}
 use Rattle.civl_conditions.specs.Variables.{variables, other_variables, path_variables}
 use Rattle.civl_conditions.specs.Violated.{violated}
-use Rattle.civl_meaning.specs.Config.{frame_sorts}
+use Rattle.civl_meaning.specs.Config.{frame_sorts, choice_sorts}
 use Rattle.civl_tree.specs.declared.expr.Sort.TheVariants.{Bool as Truth}
 use Rattle.civl_conditions.specs.paths.Ends.{ends_block, ends_from, is_rank_loop}
 use Rattle.civl_conditions.specs.Permissions.{held_at}
@@ -30,7 +30,6 @@ use Rattle.civl_states.specs.formula_parts.Said.{Env}
 use Rattle.civl_states.specs.formula_parts.Given.{given, bits_of_sorts}
 use Rattle.civl_states.proofs.formula_parts.Giving.{bits-append}
 use Rattle.civl_states.specs.Runs.{param_sorts, instance_sorts}
-use Rattle.civl_states.specs.Stores.{choice_sorts}
 use Rattle.civl_states.specs.Existing.{existing_sorts}
 use Rattle.civl_states.specs.declared.stores.Existing.TheVariants.{Near}
 use Rattle.civl_states.specs.Groups.{StandFrom}

@@ -2,15 +2,12 @@
 use Rattle.std.specs.Prelude.{ℕ, [], Option, None, Some}
 use Rattle.std.specs.List.{AllZip}
 use Rattle.civl_tree.specs.declared.program.Refines.{Refines}
-use Rattle.civl_tree.specs.declared.program.Thread.{Thread}
 use Rattle.civl_tree.specs.declared.program.Proc.{Proc}
 use Rattle.civl_tree.specs.declared.program.Program.{Program}
-use Rattle.civl_meaning.specs.Meaning.{proc_number}
 use Rattle.civl_layers.specs.Cuts.{proc_cuts}
 use Rattle.civl_conditions.specs.declared.condition.Target.{Target}
-use Rattle.civl_conditions.specs.Steps.{of_proc}
 use Rattle.civl_conditions.specs.Variables.{of_globals, other_variables}
-use Rattle.civl_conditions.specs.Weights.{bits_of_variables, linear_globals, linear_inputs, initial_own, target_weight, target_items, together}
+use Rattle.civl_conditions.specs.Weights.{bits_of_variables, linear_globals, initial_own, target_weight, target_items, together}
 use Rattle.civl_weighing.specs.declared.weight.Weight.{Weight}
 use Rattle.civl_weights.specs.declared.sums.tables.ProcSums.{ProcSums}
 use Rattle.civl_weights.specs.declared.sums.tables.Tables.{Tables}
@@ -22,10 +19,6 @@ use Rattle.civl_weights.specs.sums.Sums.{OfAction, OfNotes, OfCuts}
 abbrev pub own_step : Option Refines → ℕ
 own_step None = 0
 own_step (Some r) = r.layer
-
--- the linear inputs of the procedure that a thread calls
-abbrev pub thread_items : Program → Thread → ℕ
-thread_items program t = of_proc program (proc_number program t.callee) 0 (λ p. linear_inputs p.params)
 
 -- these are the sums of a procedure, at their step
 pub record OfProc (program : Program) (proc : Proc) (sums : ProcSums) : Type 0 where

@@ -4,10 +4,10 @@ ghost use Rattle.std.specs.List.{AllZip};
 ghost use Rattle.civl_layers.specs.Cuts.{proc_cuts};
 ghost use Rattle.civl_linear.specs.Cuts.{held_of, all_held};
 ghost use Rattle.civl_conditions.specs.Variables.{of_globals};
-ghost use Rattle.civl_conditions.specs.Weights.{bits_of_variables, linear_globals, weights_of, global_weight, linear_inputs, initial_own, summed};
+ghost use Rattle.civl_conditions.specs.Weights.{bits_of_variables, linear_globals, weights_of, global_weight, linear_inputs, initial_own, summed, thread_items};
 ghost use Rattle.civl_weighing.specs.Weighing.{Weighs};
 ghost use Rattle.civl_weights.specs.sums.Sums.{OfAction, OfStep, OfNotes, OfCuts};
-ghost use Rattle.civl_weights.specs.sums.Tables.{OfProc, OfProgram, own_step, thread_items};
+ghost use Rattle.civl_weights.specs.sums.Tables.{OfProc, OfProgram, own_step};
 
 use crate::sums::actions::{ActionSums, action_sums};
 use crate::sums::cuts::{CutSums, path_sums};

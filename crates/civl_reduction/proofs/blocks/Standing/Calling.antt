@@ -9,7 +9,8 @@ use Rattle.civl_tree.specs.rules.Names.{action_named, proc_named}
 use Rattle.civl_meaning.specs.declared.config.Plain.{Plain}
 use Rattle.civl_meaning.specs.Meaning.{Does, proc_number, meaning_of_action, refined, meaning_by, meaning_else, called}
 use Rattle.civl_meaning.proofs.Begun.{proc_is}
-use Rattle.civl_yields.specs.Movers.{refined_action, proc_action, first_action, called_action, turns, may_follow}
+use Rattle.civl_yields.specs.Movers.{refined_action, proc_action, first_action, called_action, turns}
+use Rattle.civl_layers.specs.Movers.{is_left}
 use Rattle.civl_yields.specs.Phases.{called_phase}
 use Rattle.civl_yields.specs.Places.{too_late}
 use Rattle.civl_reduction.specs.blocks.Ahead.{stops}
@@ -40,8 +41,8 @@ module _ (plain : Plain) where
           ∙ by_number (slice_get plain.bodies (proc_number plain.program name)) (proc_number plain.program name) (slice_get plain.program.procs (proc_number plain.program name)) a h
 
   -- a call that doesn't stop left movers is of one
-  pub follows : (name : Name) (a : Action) → called plain name ≡ Does a → stops plain.program name ≡ false → may_follow a.mover ≡ true
-  follows name a e s = unnot (may_follow a.mover) (sym (ap too_late (means_same name a e)) ∙ s)
+  pub follows : (name : Name) (a : Action) → called plain name ≡ Does a → stops plain.program name ≡ false → is_left a.mover ≡ true
+  follows name a e s = unnot (is_left a.mover) (sym (ap too_late (means_same name a e)) ∙ s)
     where
       unnot : (b : Bool) → not b ≡ false → b ≡ true
       unnot true h = refl

@@ -29,7 +29,8 @@ use Rattle.civl_meaning.specs.Config.{IsPlain}
 use Rattle.civl_soundness.proofs.Declared.{IsDeclared, called_declared}
 use Rattle.civl_layers.specs.Layered.{IsLayered}
 use Rattle.civl_conditions.proofs.paths.Belonging.{Belongs, own_place, start_place, all_belong, first_covered, second_covered, while_covered, rank_loop_covered}
-use Rattle.civl_yields.specs.Movers.{turns, may_follow}
+use Rattle.civl_yields.specs.Movers.{turns}
+use Rattle.civl_layers.specs.Movers.{is_left}
 use Rattle.civl_yields.specs.Places.{form_misplaced, stmt_misplaced}
 use Rattle.civl_yields.specs.YieldRules.{commit_rule, yield_rules}
 use Rattle.civl_reduction.specs.exchanges.Doing.{Doing, call_doing, layer_doing}
@@ -58,7 +59,7 @@ roots_alone program yields number proc at place s here f es form = of_root proc.
 -- enters a body
 abbrev pub AfterLate : Program → Proc → Doing → Type 0
 AfterLate program proc (does.Goes locals place) = ahead_in program (rest_at proc.body place) ≡ false
-AfterLate program proc (does.Calls names locals results next action args) = (may_follow action.mover ≡ true) × (ahead_in program (rest_at proc.body next) ≡ false)
+AfterLate program proc (does.Calls names locals results next action args) = (is_left action.mover ≡ true) × (ahead_in program (rest_at proc.body next) ≡ false)
 AfterLate program proc does.Fails = Unit {0}
 AfterLate program proc does.Waits = ⊥
 AfterLate program proc does.Ends = ⊥
@@ -98,11 +99,11 @@ module _ (program : Program) (layer : ℕ) (src : IsLayered program) (ok : IsPla
   late_assert true locals next e = e
   late_assert false locals next e = tt
 
-  late_call : (f : Name) (names : List Name) (locals : List Value) (results : List Name) (place next : ℕ) (args : List Value) → IsDeclared (called plain f) → ((n : ℕ) (p : Proc) → called plain f ≡ Runs n p → ⊥) → ((a : Action) → called plain f ≡ Does a → may_follow a.mover ≡ true)
+  late_call : (f : Name) (names : List Name) (locals : List Value) (results : List Name) (place next : ℕ) (args : List Value) → IsDeclared (called plain f) → ((n : ℕ) (p : Proc) → called plain f ≡ Runs n p → ⊥) → ((a : Action) → called plain f ≡ Does a → is_left a.mover ≡ true)
       → ahead_in program (rest_at proc.body next) ≡ false → AfterLate program proc (call_doing names locals results place next (called plain f) args)
   late_call f names locals results place next args declared none left e = go (called plain f) declared none left
     where
-      go : (m : Meaning) → IsDeclared m → ((n : ℕ) (p : Proc) → m ≡ Runs n p → ⊥) → ((a : Action) → m ≡ Does a → may_follow a.mover ≡ true) → AfterLate program proc (call_doing names locals results place next m args)
+      go : (m : Meaning) → IsDeclared m → ((n : ℕ) (p : Proc) → m ≡ Runs n p → ⊥) → ((a : Action) → m ≡ Does a → is_left a.mover ≡ true) → AfterLate program proc (call_doing names locals results place next m args)
       go (Does a) d r l = (l a refl, e)
       go (Runs n p) d r l = r n p refl
       go Missing d r l = d

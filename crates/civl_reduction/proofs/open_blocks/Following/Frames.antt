@@ -46,7 +46,8 @@ use Rattle.civl_conditions.proofs.paths.Running.{step_is_on_path}
 use Rattle.civl_conditions.proofs.paths.Layering.{steps_see_their_globals}
 use Rattle.civl_conditions.proofs.paths.Standing.{begins_stands}
 use Rattle.civl_conditions.proofs.paths.Belonging.{Belongs, size_is_some, all_belong, own_place, start_place, first_covered, second_covered, while_covered, yield_loop_covered, rank_loop_covered, rest_belongs}
-use Rattle.civl_reduction.specs.open_blocks.Following.{SameBelow, with_choices, form_loops, IsNotBelow, layer_head, head_there, cut_ahead, form_plain, HasNoPlainLoops, IsOnPath, Follows, frame_at, frame_does, FollowsOn, StepFollows, FramesFollow, FramesArrive}
+use Rattle.civl_reduction.specs.open_blocks.Following.{SameBelow, with_choices, form_loops, IsNotBelow, layer_head, head_there, cut_ahead, form_plain, HasNoPlainLoops, IsOnPath, Follows, frame_does, FollowsOn, StepFollows, FramesFollow, FramesArrive}
+use Rattle.civl_meaning.specs.Config.{moved_frame}
 use Rattle.civl_reduction.proofs.open_blocks.Following.Onward.{Beyond, Onward, beyond_less, beyond_joined, onward_joined, rest_onward, head_beyond, Split, head_splits}
 use Rattle.civl_reduction.proofs.open_blocks.Following.Leading.{Stays as LedStays, led_same, led_stays}
 
@@ -266,7 +267,7 @@ module _ (program : Program) (number step : ℕ) (proc : Proc) (cut : Cut) (from
   }
 
   acts : (a : Change) (inner after : Store) (locals : List Value) (place : ℕ) → a ≡ Acts inner locals place → StoresAgree (exists_at (step - 1)) program.globals inner after → IsNotBelow (s.number + 1) (spot_at proc.body place) → ForAll a → advance (course now) here ≡ advance_by state a
-      → FollowsOn program step proc cut from now (s.number + 1) here inner after (frame_at frame locals place)
+      → FollowsOn program step proc cut from now (s.number + 1) here inner after (moved_frame frame locals place)
   acts a inner after locals place e g h r adv = record {
     next = record { place = place; state = record { store = inner; locals = locals; done = state.done; again = state.again } };
     goes = adv ∙ ap (advance_by state) e;

@@ -25,7 +25,7 @@ use Rattle.civl_meaning.specs.declared.config.Change.TheVariants.{Stays, Goes, A
 use Rattle.civl_meaning.specs.Places.{Spot, spot_at}
 use Rattle.civl_meaning.specs.Rest.{rest_at}
 use Rattle.civl_meaning.specs.Change.{spot_change, proc_change, state_change, change_of, caller_of}
-use Rattle.civl_meaning.specs.Config.{frame_sorts, StateIsSorted}
+use Rattle.civl_meaning.specs.Config.{frame_sorts, StateIsSorted, moved_frame}
 use Rattle.civl_meaning.specs.Layers.{program_at}
 use Rattle.civl_meaning.proofs.Rests.{spot_of_rest}
 use Rattle.civl_layers.specs.declared.cut.Cut.{Cut}
@@ -46,7 +46,7 @@ use Rattle.civl_conditions.specs.Assumed.{inputs_of}
 use Rattle.civl_condition_laws.specs.States.{BeginsAs}
 use Rattle.civl_reduction.specs.open_blocks.Ends.{IsAssumed}
 use Rattle.civl_reduction.proofs.open_blocks.Ends.Concluding.{paths_do_not_fail}
-use Rattle.civl_reduction.specs.open_blocks.Following.{with_choices, cut_ahead, form_plain, HasNoPlainLoops, led_here, frame_at, frame_does, FollowsOn, StepFollows}
+use Rattle.civl_reduction.specs.open_blocks.Following.{with_choices, cut_ahead, form_plain, HasNoPlainLoops, led_here, frame_does, FollowsOn, StepFollows}
 use Rattle.civl_reduction.proofs.open_blocks.Following.Onward.{rest_onward, head_splits}
 use Rattle.civl_reduction.proofs.open_blocks.Following.Leading.{led_stays}
 use Rattle.civl_reduction.proofs.open_blocks.Following.Frames.{frames_follow}
@@ -158,8 +158,8 @@ module _ (program : Program) (step q c : ℕ) (proc : Proc) (cut : Cut) (b : Beg
   inputs_same locals e = e ∙ ap (inputs_of proc) (sym opened.follows.alike.locals) ∙ opened.inputs
 
   open_on : (chosen : ℕ → List Value) (inner after : Store) (locals : List Value) (place : ℕ) → AllFit program step proc cut chosen → IsStore program.globals inner → inputs_of proc locals ≡ inputs_of proc frame.locals
-      → bound ≤ s.number → FollowsOn program step proc cut (beginning b) chosen (s.number + 1) here inner after (frame_at frame locals place)
-      → StaysOpen program step q c proc cut b bound here inner after (frame_at frame locals place)
+      → bound ≤ s.number → FollowsOn program step proc cut (beginning b) chosen (s.number + 1) here inner after (moved_frame frame locals place)
+      → StaysOpen program step q c proc cut b bound here inner after (moved_frame frame locals place)
   open_on chosen inner after locals place h hs i low f = record {
     chosen = chosen;
     later = s.number + 1;

@@ -31,7 +31,8 @@ use Rattle.civl_conditions.proofs.paths.Belonging.{own_place, rest_belongs}
 use Rattle.civl_soundness.proofs.Among.{spot_is_plain}
 use Rattle.civl_conditions.specs.Values.{Begun}
 use Rattle.civl_reduction.specs.open_blocks.Ends.{IsAssumed}
-use Rattle.civl_reduction.specs.open_blocks.Following.{IsNotBelow, layer_head, StandsAlike, frame_at, frame_does}
+use Rattle.civl_reduction.specs.open_blocks.Following.{IsNotBelow, layer_head, StandsAlike, frame_does}
+use Rattle.civl_meaning.specs.Config.{moved_frame}
 use Rattle.civl_reduction.proofs.open_blocks.Following.Onward.{rest_onward, Split, head_splits}
 use Rattle.civl_reduction.proofs.open_blocks.Following.Frames.{GoesForward, forward}
 use Rattle.civl_reduction.specs.open_blocks.Open.{IsTopmost, beginning, IsOpen, OpensInLoop, BlocksOpenAtEntries, BlocksOpenBehindYields, BlocksOpenInLoops}
@@ -155,7 +156,7 @@ module _ (program : Program) (step q c : ℕ) (proc : Proc) (cut : Cut) (b : Beg
   in_loop = (
     place,
     thread_does program step q proc thread frame assumed.of_cut.of_proc.there top store values s there ∙ frame_goes,
-    opens_where program step q c proc cut b assumed (cut.statement + 1) place store (frame_at frame frame.locals place) begins ahead (record { spot = refl; locals = same; stores = agree }),
+    opens_where program step q c proc cut b assumed (cut.statement + 1) place store (moved_frame frame frame.locals place) begins ahead (record { spot = refl; locals = same; stores = agree }),
   )
 
 pub blocks_open_in_loops : BlocksOpenInLoops

@@ -28,7 +28,7 @@ use Rattle.civl_meaning.specs.Places.{Spot, spot_at}
 use Rattle.civl_meaning.specs.Rest.{Rest}
 use Rattle.civl_meaning.specs.Change.{leaves, returned, outs_in, caller_of, spot_change, proc_change, state_change, change_of}
 use Rattle.civl_meaning.specs.Step.{goes_on, left, thread_after, config_after, step_with, step_in}
-use Rattle.civl_meaning.specs.Config.{Waits, StateIsStacked, ThreadIsSorted, IsStacked, IsOf}
+use Rattle.civl_meaning.specs.Config.{Waits, StateIsStacked, ThreadIsSorted, IsStacked, IsOf, moved_frame}
 use Rattle.civl_meaning.specs.Layers.{program_at}
 use Rattle.civl_yields.specs.Places.{form_misplaced, stmt_misplaced}
 use Rattle.civl_yields.specs.YieldRules.{commit_rule, yield_rules}
@@ -49,7 +49,7 @@ use Rattle.civl_reduction.specs.blocks.Reduces.{Challenged, plain_move, plain_co
 use Rattle.civl_reduction.proofs.blocks.Standing.Threads.{calls_run_no_bodies}
 use Rattle.civl_reduction.specs.staged.Stages.{IsStage, StagesAreRuns}
 use Rattle.civl_reduction.proofs.staged.Pausing.Cutting.{Topmost, topmost}
-use Rattle.civl_reduction.specs.open_blocks.Following.{frame_at, frame_does}
+use Rattle.civl_reduction.specs.open_blocks.Following.{frame_does}
 use Rattle.civl_reduction.specs.open_blocks.Open.{IsSound, IsTopmost}
 use Rattle.civl_reduction.proofs.open_blocks.Open.Going.{spot_stands, thread_does}
 use Rattle.civl_reduction.specs.staged.Measures.{IsNear, IsNearer}
@@ -139,21 +139,21 @@ module _ (program : Program) (layer : ℕ) (store : Store) (k : IsChecked progra
 
   -- ---- on in the frame
 
-  framed_on : (locals : List Value) (place : ℕ) → framed_state program (layer + 1) (goes_on at.thread.state locals place) ≡ Some (at.f.0, frame_at at.f.1 locals place)
+  framed_on : (locals : List Value) (place : ℕ) → framed_state program (layer + 1) (goes_on at.thread.state locals place) ≡ Some (at.f.0, moved_frame at.f.1 locals place)
   framed_on locals place =
       ap (λ (s : State). framed_state program (layer + 1) (goes_on s locals place)) top.is
-      ∙ ap (framed_in (layer + 1) (frame_at at.f.1 locals place)) top.of.there
-      ∙ ap (λ (b : Bool). if◌then◌else◌ {A = Option (Proc × Activation)} b (Some (at.f.0, frame_at at.f.1 locals place)) None) (its_layer program at.f.1.procedure (layer + 1) at.f.0 top.of)
+      ∙ ap (framed_in (layer + 1) (moved_frame at.f.1 locals place)) top.of.there
+      ∙ ap (λ (b : Bool). if◌then◌else◌ {A = Option (Proc × Activation)} b (Some (at.f.0, moved_frame at.f.1 locals place)) None) (its_layer program at.f.1.procedure (layer + 1) at.f.0 top.of)
 
-  goes_near : (locals : List Value) (place : ℕ) → IsNear program (layer + 1) at.f.1.procedure at.f.0 c.store (frame_at at.f.1 locals place) n → Made (Goes locals place) → NearAt program layer d t n
+  goes_near : (locals : List Value) (place : ℕ) → IsNear program (layer + 1) at.f.1.procedure at.f.0 c.store (moved_frame at.f.1 locals place) n → Made (Goes locals place) → NearAt program layer d t n
   goes_near locals place near e =
       subst (λ (d : meaning.Config). NearAt program layer d t n) (ap (λ (z : Stepped × meaning.Config). z.1) e)
-      (record { thread = thread_after at.thread (Goes locals place); there = set_same c.threads t (thread_after at.thread (Goes locals place)) at.thread at.there; f = (at.f.0, frame_at at.f.1 locals place); framed = framed_on locals place; near = near })
+      (record { thread = thread_after at.thread (Goes locals place); there = set_same c.threads t (thread_after at.thread (Goes locals place)) at.thread at.there; f = (at.f.0, moved_frame at.f.1 locals place); framed = framed_on locals place; near = near })
 
-  acts_near : (after : Store) (locals : List Value) (place : ℕ) → IsNear program (layer + 1) at.f.1.procedure at.f.0 after (frame_at at.f.1 locals place) n → Made (Acts after locals place) → NearAt program layer d t n
+  acts_near : (after : Store) (locals : List Value) (place : ℕ) → IsNear program (layer + 1) at.f.1.procedure at.f.0 after (moved_frame at.f.1 locals place) n → Made (Acts after locals place) → NearAt program layer d t n
   acts_near after locals place near e =
       subst (λ (d : meaning.Config). NearAt program layer d t n) (ap (λ (z : Stepped × meaning.Config). z.1) e)
-      (record { thread = thread_after at.thread (Acts after locals place); there = set_same c.threads t (thread_after at.thread (Acts after locals place)) at.thread at.there; f = (at.f.0, frame_at at.f.1 locals place); framed = framed_on locals place; near = near })
+      (record { thread = thread_after at.thread (Acts after locals place); there = set_same c.threads t (thread_after at.thread (Acts after locals place)) at.thread at.there; f = (at.f.0, moved_frame at.f.1 locals place); framed = framed_on locals place; near = near })
 
   -- ---- out of it
 

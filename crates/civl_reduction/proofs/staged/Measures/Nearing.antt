@@ -25,7 +25,7 @@ use Rattle.civl_meaning.specs.Places.{Spot, skip_layer, spot_at}
 use Rattle.civl_meaning.specs.Rest.{Rest, rest_at, place_in, head_of}
 use Rattle.civl_meaning.proofs.Rests.{spot_of_rest}
 use Rattle.civl_meaning.specs.Change.{change_of}
-use Rattle.civl_meaning.specs.Config.{frame_sorts}
+use Rattle.civl_meaning.specs.Config.{frame_sorts, moved_frame}
 use Rattle.civl_meaning.specs.Layers.{program_at}
 use Rattle.civl_layers.specs.declared.cut.Cut.{Cut}
 use Rattle.civl_layers.specs.declared.cut.CutKind.{CutKind}
@@ -48,7 +48,7 @@ use Rattle.civl_conditions.specs.Values.{Begun}
 use Rattle.civl_conditions.specs.Assumed.{layer_rank, cut_rank, owned}
 use Rattle.civl_reduction.specs.open_blocks.Ends.{IsAssumed, Concludes}
 use Rattle.civl_reduction.specs.blocks.Blocks.{layer_at_yield, at_yield}
-use Rattle.civl_reduction.specs.open_blocks.Following.{layer_head, head_there, cut_ahead, led_here, frame_at}
+use Rattle.civl_reduction.specs.open_blocks.Following.{layer_head, head_there, cut_ahead, led_here}
 use Rattle.civl_reduction.proofs.open_blocks.Following.Leading.{Stays as LedStays, layer_within, led_stays}
 use Rattle.civl_reduction.proofs.open_blocks.Following.Frames.{frames_follow, frames_arrive}
 use Rattle.civl_reduction.specs.open_blocks.Open.{IsSound, IsTopmost, beginning, choosing, begun_again, IsOpen, StaysOpen, StepStaysOpen, OpensInLoop}
@@ -211,8 +211,8 @@ module _ (program : Program) (step q : ℕ) (proc : Proc) (store : Store) (frame
         }
 
     by_change : (x : Change) → StepStaysOpen program step q near.number proc near.cut near.begun near.bound near.here store frame s values x → IsNearer program step q proc store frame n x
-    by_change (Goes locals place) o = next_near (led_here program step proc near.here).store store (frame_at frame locals place) o
-    by_change (Acts after locals place) o = next_near o.0 after (frame_at frame locals place) o.2
+    by_change (Goes locals place) o = next_near (led_here program step proc near.here).store store (moved_frame frame locals place) o
+    by_change (Acts after locals place) o = next_near o.0 after (moved_frame frame locals place) o.2
     by_change (Stays a) o = tt
     by_change (Enters other place) o = tt
     by_change (Leaves other) o = tt

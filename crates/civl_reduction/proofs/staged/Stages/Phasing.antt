@@ -15,9 +15,9 @@ use Rattle.civl_meaning.specs.Layers.{program_at}
 use Rattle.civl_meaning.specs.Config.{IsPlain, IsStacked}
 use Rattle.civl_soundness.proofs.Fitting.{all_at}
 use Rattle.civl_layers.specs.Layered.{IsLayered}
-use Rattle.civl_yields.specs.Movers.{turns, may_follow}
+use Rattle.civl_yields.specs.Movers.{turns}
+use Rattle.civl_layers.specs.Movers.{is_right}
 use Rattle.civl_yields.specs.YieldRules.{yield_rules}
-use Rattle.civl_conditions.specs.Steps.{is_right, is_left}
 use Rattle.civl_reduction.specs.interleavings.Reduction.{Place, Between, Early, Late, is_inside}
 use Rattle.civl_reduction.specs.interleavings.Threads.{IsIn, Phases}
 use Rattle.civl_reduction.specs.interleavings.Threads as threads
@@ -38,12 +38,6 @@ right_is Atomic e = absurd (false≢true (sym e))
 right_is Right e = refl
 right_is Left e = absurd (false≢true (sym e))
 right_is Both e = refl
-
-left_is : (m : Mover) → may_follow m ≡ true → is_left m ≡ true
-left_is Atomic e = absurd (false≢true e)
-left_is Right e = absurd (false≢true e)
-left_is Left e = refl
-left_is Both e = refl
 
 between_not : (p q : Place) → p ≡ Between → q ≢ Between → p ≢ q
 between_not p q e n h = n (sym h ∙ e)
@@ -89,7 +83,7 @@ module _ (program : Program) (layer : ℕ) (src : IsLayered program) (ok : IsPla
     early_spawn = λ r s n i e. between_not (stands program layer s) Early (any_then r (threads.Spawns s n) e).0 early_not_between;
     late_spawn = λ r s n i e l. late_then r (threads.Spawns s n) i e l;
     new_between = λ r s n i e. (any_then r (threads.Spawns s n) e).1;
-    late_left = λ r x f i e l. left_is x.0.mover (late_then r (threads.Calls x f) i e l).0;
+    late_left = λ r x f i e l. (late_then r (threads.Calls x f) i e l).0;
     late_goes = λ r s i e l. late_then r (threads.Goes s) i e l;
     late_calls = λ r x f o i e l. (late_then r (threads.Calls x f) i e l).1 o;
     late_waits = λ r i l e. late_then r threads.Waits i e l;

@@ -10,7 +10,7 @@ use Rattle.civl_conditions.specs.Assumed.{with_of}
 use Rattle.civl_conditions.specs.Weights.{note_weight, weights_of}
 use Rattle.civl_states.specs.formula_parts.Said.{Env}
 use Rattle.civl_states.specs.formula_parts.Lists.{AreSaid}
-use Rattle.civl_states.specs.Stores.{choice_sorts}
+use Rattle.civl_meaning.specs.Config.{choice_sorts}
 use Rattle.civl_refine.specs.Judging.{IsAt}
 use Rattle.civl_refine.proofs.performing.with_terms.Given as goal
 

@@ -3,7 +3,7 @@ use Rattle.std.proofs.Common.{◌∙◌, ap, ap₂, arith}
 use Rattle.civl_terms.proofs.Growing.{lengthens_trans}
 use Rattle.civl_states.specs.formula_parts.Given.{bits_of_sorts, sorts_from}
 use Rattle.civl_states.proofs.formula_parts.Giving.{bits-append}
-use Rattle.civl_states.specs.Stores.{choice_sorts}
+use Rattle.civl_meaning.specs.Config.{choice_sorts}
 use Rattle.civl_states.specs.Runs.{param_sorts}
 use Rattle.civl_states.proofs.Limits.{action_few}
 use Rattle.civl_states.proofs.Picking.{same_some}

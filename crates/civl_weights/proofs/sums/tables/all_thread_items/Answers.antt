@@ -1,5 +1,5 @@
 use Rattle.std.proofs.Common.{arith}
-use Rattle.civl_weights.specs.sums.Tables.{thread_items}
+use Rattle.civl_conditions.specs.Weights.{thread_items}
 use Rattle.civl_weighing.proofs.Summing.{one_more}
 use Rattle.civl_weights.proofs.sums.tables.all_thread_items.Goals as goal
 

@@ -1,7 +1,6 @@
 use Rattle.std.proofs.Common.{map, take}
-use Rattle.civl_conditions.specs.Weights.{summed}
+use Rattle.civl_conditions.specs.Weights.{summed, thread_items}
 use Rattle.civl_weighing.specs.Weighing.{Weighs}
-use Rattle.civl_weights.specs.sums.Tables.{thread_items}
 use Rattle.civl_weights.proofs.sums.tables.all_thread_items.Given as goal
 
 abbrev pub invariant-loop-thread : goal.invariant-loop-thread

@@ -1,7 +1,6 @@
 use Rattle.std.proofs.Common.{List, map, ap}
 use Rattle.civl_tree.specs.declared.program.Thread.{Thread}
-use Rattle.civl_conditions.specs.Weights.{summed, weights_of, global_weight}
-use Rattle.civl_weights.specs.sums.Tables.{thread_items}
+use Rattle.civl_conditions.specs.Weights.{summed, weights_of, global_weight, thread_items}
 use Rattle.civl_weighing.proofs.Capping.{sum_weighs, linear_weighs, weighs_same}
 use Rattle.civl_weights.proofs.sums.tables.initial_own.Goals as goal
 
