@@ -43,5 +43,9 @@ RefutedIsUnsatisfiable = (text : List ℕ) (set : ClauseSet) (log : List (List L
 abbrev pub MakingsAgree : Type 0
 MakingsAgree = (program : Program) (budget limit at : ℕ) (first second : Making) → IsMaking program budget at first → IsMaking program limit at second → Agree first second
 
+-- something is found of each text
+abbrev pub EachTextHasAReplaying : Type 0
+EachTextHasAReplaying = (text : List ℕ) → (replaying : Replaying) × IsReplaying text replaying
+
 abbrev pub OneReplaying : Type 0
 OneReplaying = (text : List ℕ) (first second : Replaying) → IsReplaying text first → IsReplaying text second → first ≡ second
