@@ -24,14 +24,15 @@ use Rattle.civl_verdicts.proofs.findings.Surveying.{each_program_has_a_survey}
 use Rattle.civl_verdicts.proofs.judgements.Judging.{each_program_has_a_verdict}
 use Rattle.civl_outlines.specs.declared.outline.Outline.{Outline}
 use Rattle.civl_prove.proofs.outline_reports.Existing.{each_outline_is_answered}
+use Rattle.civl_certify.proofs.proof_reports.Scanning.{each_text_has_a_replaying}
 use Rattle.civl_frontend.specs.Rules.{static_refusal, IsLawful}
 use Rattle.civl_frontend.specs.Texts.{IsReading, IsScriptReading, IsOutlineReading, limit}
 use Rattle.civl_frontend.specs.declared.reader.Fault.{Fault}
 use Rattle.civl_frontend.proofs.Reading.{some_reading, some_script_reading, some_outline_reading}
 use Rattle.civl_command.specs.declared.task.Task.{Task}
 use Rattle.civl_command.specs.declared.task.Task.TheVariants.{Check, Conditions, Fmt, RunLow, RunTop, Prove, Make, Replay}
-use Rattle.civl_command.specs.Outcome.{Outcome, TooLong, Unread, Broken, Judged, Heavy, Surveyed, Printed, Misfit, Ran, Proven, Checks, Surveys, Prints, Proves, Runs, OfRead, Finds, FindsBy, CallsFor, limit_of}
-use Rattle.civl_command.specs.Laws.{NeedsNoCertificate, EachInputIsAnswered}
+use Rattle.civl_command.specs.Outcome.{Outcome, TooLong, Unread, Broken, Judged, Heavy, Surveyed, Printed, Misfit, Ran, Proven, Replayed, Checks, Surveys, Prints, Proves, Runs, OfRead, Finds, FindsBy, CallsFor, limit_of}
+use Rattle.civl_command.specs.Laws.{MakesNoCertificate, EachInputIsAnswered}
 
 -- an outcome of which this is so
 abbrev Has : (Outcome → Type 0) → Type 0
@@ -121,7 +122,7 @@ module _ {A : Type 0} (IsRead : List ℕ → Result A Fault → Type 0) (Says : 
       let found = some_of reading.0 in
       (found.0, record { short = short; reading = reading.0; read = reading.1; says = found.1 })
 
-some_found : (task : Task) (input : List ℕ) → NeedsNoCertificate task → length input ≤ limit_of task → Has (FindsBy task input)
+some_found : (task : Task) (input : List ℕ) → MakesNoCertificate task → length input ≤ limit_of task → Has (FindsBy task input)
 some_found (Check budget) input plain short = some_find IsReading (Checks budget) some_reading (some_check budget) input short
 some_found (Conditions budget) input plain short = some_find IsReading (Surveys budget) some_reading (some_survey budget) input short
 some_found Fmt input plain short = some_find IsReading Prints some_reading some_print input short
@@ -129,9 +130,11 @@ some_found RunLow input plain short = some_find IsScriptReading (Runs lowest) so
 some_found RunTop input plain short = some_find IsScriptReading (Runs topmost) some_script_reading (some_run topmost) input short
 some_found (Prove budget) input plain short = some_find IsOutlineReading (Proves budget) some_outline_reading (some_prove budget) input short
 some_found (Make at budget) input plain short = absurd plain
-some_found Replay input plain short = absurd plain
+some_found Replay input plain short =
+    let found = each_text_has_a_replaying input in
+    (Replayed found.0, record { short = short; replaying_ = found.0; is = found.1; outcome_is = refl })
 
-called : (task : Task) (input : List ℕ) → NeedsNoCertificate task → (limit_of task < length input) ⊎ (length input ≤ limit_of task) → Has (CallsFor task input)
+called : (task : Task) (input : List ℕ) → MakesNoCertificate task → (limit_of task < length input) ⊎ (length input ≤ limit_of task) → Has (CallsFor task input)
 called task input plain (inl long) = (TooLong (limit_of task), inl (refl, long))
 called task input plain (inr short) = let found = some_found task input plain short in (found.0, inr found.1)
 

@@ -1,19 +1,18 @@
 -- What follows from the definitions: for each task each input has one answer.
 use Rattle.std.specs.Prelude.{ℕ, List, ⊤}
 use Rattle.civl_command.specs.declared.task.Task.{Task}
-use Rattle.civl_command.specs.declared.task.Task.TheVariants.{Make, Replay}
+use Rattle.civl_command.specs.declared.task.Task.TheVariants.{Make}
 use Rattle.civl_command.specs.Outcome.{Outcome, CallsFor}
 use Rattle.civl_command.specs.Alike.{AreAlike}
 
--- no certificate is made or replayed
-abbrev pub NeedsNoCertificate : Task → Type 0
-NeedsNoCertificate (Make at budget) = ⊥
-NeedsNoCertificate Replay = ⊥
-NeedsNoCertificate _ = ⊤
+-- no certificate is made
+abbrev pub MakesNoCertificate : Task → Type 0
+MakesNoCertificate (Make at budget) = ⊥
+MakesNoCertificate _ = ⊤
 
--- for each task without certificates each list of numbers as the input calls for some outcome
+-- for each task that makes no certificate each list of numbers as the input calls for some outcome
 abbrev pub EachInputIsAnswered : Type 0
-EachInputIsAnswered = (task : Task) (input : List ℕ) → NeedsNoCertificate task → (outcome : Outcome) × CallsFor task input outcome
+EachInputIsAnswered = (task : Task) (input : List ℕ) → MakesNoCertificate task → (outcome : Outcome) × CallsFor task input outcome
 
 -- and all outcomes for which it calls are alike
 abbrev pub EachInputIsAnsweredOnce : Type 0
