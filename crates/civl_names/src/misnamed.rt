@@ -53,31 +53,49 @@ fn first_unknown(alloc: Global, sets: &Sets, program: &Program) -> Result<Option
     Ok(first)
 }
 
-/// The refusal of the first place at which E10 is broken, else of the first at which E11 is.
+/// The refusal of the first place at which E10 is broken, else of the first at which E11 is. The sets, which are empty at
+/// first, take the names that the program declares.
 #[tactic(auto, using(crate::proofs::Answering::in_parts))]
+fn first_by_sets<'a>(
+    alloc: Global,
+    globals: &mut NameSet<'a>,
+    actions: &mut NameSet<'a>,
+    procs: &mut NameSet<'a>,
+    program: &'a Program,
+) -> Result<Option<Refusal>, Memory>
+    requires numbered { IsNumbered program.now }
+    requires globals { names_in globals.old ≡ [] }
+    requires actions { names_in actions.old ≡ [] }
+    requires procs { names_in procs.old ≡ [] }
+    ensures { IfOk result (λ refusal. refusal ≡ refusal_by (twice_rule ∷ unknown_rule ∷ []) program.now) }
+{
+    if let Some(refusal) = declare_globals(globals, program)? {
+        return Ok(Some(refusal));
+    }
+    if let Some(refusal) = declare_actions(alloc, globals, actions, program)? {
+        return Ok(Some(refusal));
+    }
+    if let Some(refusal) = declare_procs(alloc, globals, actions, procs, program)? {
+        return Ok(Some(refusal));
+    }
+    let sets = Sets {
+        globals,
+        actions,
+        procs,
+    };
+    let unknown = first_unknown(alloc, &sets, program)?;
+    Ok(unknown)
+}
+
+/// The refusal of the first place at which E10 is broken, else of the first at which E11 is.
 fn first_of_both(alloc: Global, program: &Program) -> Result<Option<Refusal>, Memory>
     requires { IsNumbered program.now }
     ensures { IfOk result (λ refusal. refusal ≡ refusal_by (twice_rule ∷ unknown_rule ∷ []) program.now) }
 {
     let mut globals = NameSet::new(alloc);
-    if let Some(refusal) = declare_globals(&mut globals, program)? {
-        return Ok(Some(refusal));
-    }
     let mut actions = NameSet::new(alloc);
-    if let Some(refusal) = declare_actions(alloc, &globals, &mut actions, program)? {
-        return Ok(Some(refusal));
-    }
     let mut procs = NameSet::new(alloc);
-    if let Some(refusal) = declare_procs(alloc, &globals, &actions, &mut procs, program)? {
-        return Ok(Some(refusal));
-    }
-    let sets = Sets {
-        globals: &globals,
-        actions: &actions,
-        procs: &procs,
-    };
-    let unknown = first_unknown(alloc, &sets, program)?;
-    Ok(unknown)
+    first_by_sets(alloc, &mut globals, &mut actions, &mut procs, program)
 }
 
 /// The first place, by item and statement, at which a name stands twice (E10), else the first at which a name isn't in scope

@@ -1,5 +1,5 @@
 // Declarations, which have names.
-ghost use Rattle.std.specs.Prelude.{◌≡◌, ◌++◌, map, true, false, IfOk, OnOk};
+ghost use Rattle.std.specs.Prelude.{◌≡◌, [], ◌++◌, map, true, false, IfOk, OnOk};
 ghost use Rattle.std.specs.List.{list_any};
 ghost use Rattle.civl_tree.specs.declared.name.Name.{Name};
 ghost use Rattle.civl_tree.specs.rules.Names.{has_name, any_twice};
@@ -92,12 +92,23 @@ pub(crate) fn add_all<'a, T: Named>(set: &mut NameSet<'a>, items: &'a [T]) -> Re
     Ok(())
 }
 
+/// The set with the names of these.
+pub(crate) fn with_all<'a, T: Named>(
+    set: NameSet<'a>,
+    items: &'a [T],
+) -> Result<NameSet<'a>, Memory>
+    ensures { IfOk result (λ more. names_in more ≡ with_names (names_in set.entry) (map T.name_of items.now)) }
+{
+    let mut set = set;
+    add_all(&mut set, items)?;
+    Ok(set)
+}
+
 /// The set of the names of these.
 pub(crate) fn set_of<'a, T: Named>(alloc: Global, items: &'a [T]) -> Result<NameSet<'a>, Memory>
     ensures { IfOk result (λ set. names_in set ≡ set_of (map T.name_of items.now)) }
 {
-    let mut set = NameSet::new(alloc);
-    add_all(&mut set, items)?;
+    let set = with_all(NameSet::new(alloc), items)?;
     Ok(set)
 }
 
@@ -108,4 +119,39 @@ pub(crate) fn any_twice<T: Named>(alloc: Global, items: &[T]) -> Result<bool, Me
     let mut set = NameSet::new(alloc);
     let twice = add_new(&mut set, items)?;
     Ok(twice)
+}
+
+/// Adds the names of these and of those behind them to a set, up to the first that is there already. The answer is whether
+/// one was.
+#[tactic(auto, using(crate::proofs::Declaring::declaring))]
+fn add_lists<'a, A: Named, B: Named, C: Named>(
+    set: &mut NameSet<'a>,
+    first: &'a [A],
+    second: &'a [B],
+    third: &'a [C],
+) -> Result<bool, Memory>
+    requires { names_in set.old ≡ [] }
+    ensures { IfOk result (λ twice. twice ≡ any_twice (map A.name_of first.now ++ (map B.name_of second.now ++ map C.name_of third.now))) }
+{
+    if add_new(set, first)? {
+        return Ok(true);
+    }
+    if add_new(set, second)? {
+        return Ok(true);
+    }
+    let twice = add_new(set, third)?;
+    Ok(twice)
+}
+
+/// Whether two of all these have one name.
+pub(crate) fn any_twice_in<A: Named, B: Named, C: Named>(
+    alloc: Global,
+    first: &[A],
+    second: &[B],
+    third: &[C],
+) -> Result<bool, Memory>
+    ensures { IfOk result (λ twice. twice ≡ any_twice (map A.name_of first.now ++ (map B.name_of second.now ++ map C.name_of third.now))) }
+{
+    let mut set = NameSet::new(alloc);
+    add_lists(&mut set, first, second, third)
 }

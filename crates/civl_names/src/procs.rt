@@ -1,16 +1,19 @@
 // Unknown names (E11) in procedures.
-ghost use Rattle.std.specs.Prelude.{◌≡◌, map, IfOk};
+ghost use Rattle.std.specs.Prelude.{◌≡◌, ◌<◌, ◌^◌, map, Some, IfOk, if◌then◌else◌};
 ghost use Rattle.std.specs.List.{list_any};
 ghost use Rattle.civl_tree.specs.declared.stmt.Stmt.{out-Stmt};
+ghost use Rattle.civl_tree.specs.Numbering.{no_statement, sizes_of};
 ghost use Rattle.civl_tree.specs.rules.Names.{param_names};
+ghost use Rattle.civl_tree.specs.rules.Rules.{statements_where, first_of};
 ghost use Rattle.civl_names.specs.NameSets.{names_in, set_of};
 ghost use Rattle.civl_names.specs.Strange.{declared_in, own_names, inner_names, inner_in, refines_strange, body_strange, note_strange, arguments_strange, results_strange, call_strange, stmt_strange, strange_rule};
 
 use crate::known::{Own, Scope, all_known, any_strange};
-use crate::named::{add_all, set_of};
+use crate::name_set::NameSet;
+use crate::named::{set_of, with_all};
 use crate::unknown::Sets;
 use crate::walks::{Finder, Test, first_in_body};
-use civl_tree::{Expr, List, Memory, Name, Proc, Program, Refines, Stmt};
+use civl_tree::{Expr, List, Memory, Name, Proc, Program, Refines, Stmt, both};
 use std::alloc::Global;
 
 /// The names in scope in a procedure: those of the program, and its parameters, outputs and locals.
@@ -20,14 +23,23 @@ pub(crate) struct InProc<'s, 'p, 'n, 'm> {
     pub own: &'n Own<'m>,
 }
 
+fn inner_names<'a>(alloc: Global, proc: &'a Proc) -> Result<NameSet<'a>, Memory>
+    ensures { IfOk result (λ names. names_in names ≡ own_names proc.now) }
+{
+    let names = set_of(alloc, proc.params.as_slice())?;
+    let names = with_all(names, proc.outs.as_slice())?;
+    let names = with_all(names, proc.locals.as_slice())?;
+    Ok(names)
+}
+
 fn own_names<'a>(alloc: Global, proc: &'a Proc) -> Result<Own<'a>, Memory>
     ensures names { IfOk result (λ own. names_in own.names ≡ own_names proc.now) }
     ensures outs { IfOk result (λ own. names_in own.outs ≡ set_of (param_names proc.now.outs)) }
 {
-    let mut names = set_of(alloc, proc.params.as_slice())?;
-    add_all(&mut names, proc.outs.as_slice())?;
-    add_all(&mut names, proc.locals.as_slice())?;
-    let outs = set_of(alloc, proc.outs.as_slice())?;
+    let (names, outs) = both(
+        inner_names(alloc, proc),
+        set_of(alloc, proc.outs.as_slice()),
+    )?;
     Ok(Own { names, outs })
 }
 
@@ -110,6 +122,17 @@ impl<'s, 'p, 'n, 'm> Test for InProc<'s, 'p, 'n, 'm> {
     }
 }
 
+/// The number of the first statement with a name that isn't in scope; 0 where the refinement has one.
+fn first_in_proc(names: &InProc, proc: &Proc) -> Option<u32>
+    requires { sizes_of proc.now.body < 2 ^ 32 }
+    ensures { result ≡ (if refines_strange (inner_in names.now) proc.now.refines then Some no_statement else first_of (statements_where (stmt_strange (inner_in names.now)) proc.now)) }
+{
+    if refines_unknown(names, &proc.refines) {
+        return Some(0);
+    }
+    first_in_body(names, &proc.body)
+}
+
 impl<'s, 'p> Finder for Sets<'s, 'p> {
     ghost rule = { λ sets. strange_rule (declared_in sets) };
 
@@ -129,9 +152,6 @@ impl<'s, 'p> Finder for Sets<'s, 'p> {
             declared: *self,
             own: &own,
         };
-        if refines_unknown(&names, &proc.refines) {
-            return Ok(Some(0));
-        }
-        Ok(first_in_body(&names, &proc.body))
+        Ok(first_in_proc(&names, proc))
     }
 }

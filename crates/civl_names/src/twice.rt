@@ -8,40 +8,34 @@ ghost use Rattle.civl_tree.specs.rules.Rules.{numbers_where, first_of};
 ghost use Rattle.civl_names.specs.NameSets.{names_in, declared_in};
 
 use crate::name_set::NameSet;
-use crate::named::{add_new, any_in, any_twice};
+use crate::named::{any_in, any_twice, any_twice_in};
 use crate::walks::statements;
 use civl_tree::{Action, List, Memory, Proc, Stmt};
 use std::alloc::Global;
 
 /// Whether an action declares a name twice.
-#[tactic(auto, using(crate::proofs::Declaring::declaring))]
 fn action_names_twice(alloc: Global, action: &Action) -> Result<bool, Memory>
     ensures { IfOk result (λ twice. twice ≡ any_twice (names_in_action action.now)) }
 {
-    let mut names = NameSet::new(alloc);
-    if add_new(&mut names, action.params.as_slice())? {
-        return Ok(true);
-    }
-    if add_new(&mut names, action.outs.as_slice())? {
-        return Ok(true);
-    }
-    let twice = add_new(&mut names, action.choices.as_slice())?;
+    let twice = any_twice_in(
+        alloc,
+        action.params.as_slice(),
+        action.outs.as_slice(),
+        action.choices.as_slice(),
+    )?;
     Ok(twice)
 }
 
 /// Whether a procedure declares a name twice.
-#[tactic(auto, using(crate::proofs::Declaring::declaring))]
 fn proc_names_twice(alloc: Global, proc: &Proc) -> Result<bool, Memory>
     ensures { IfOk result (λ twice. twice ≡ any_twice (names_in_proc proc.now)) }
 {
-    let mut names = NameSet::new(alloc);
-    if add_new(&mut names, proc.params.as_slice())? {
-        return Ok(true);
-    }
-    if add_new(&mut names, proc.outs.as_slice())? {
-        return Ok(true);
-    }
-    let twice = add_new(&mut names, proc.locals.as_slice())?;
+    let twice = any_twice_in(
+        alloc,
+        proc.params.as_slice(),
+        proc.outs.as_slice(),
+        proc.locals.as_slice(),
+    )?;
     Ok(twice)
 }
 

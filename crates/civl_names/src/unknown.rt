@@ -1,17 +1,17 @@
 // Unknown names (E11) in items other than procedures.
 ghost use Rattle.std.specs.Prelude.{ℕ, Bool, ◌≡◌, ◌+◌, ◌<◌, ◌^◌, ◌++◌, not, map, length, IfOk};
 ghost use Rattle.std.specs.List.{list_any};
-ghost use Rattle.civl_tree.specs.rules.Names.{has_name};
+ghost use Rattle.civl_tree.specs.rules.Names.{has_name, param_names};
 ghost use Rattle.civl_tree.specs.rules.Codes.{E11};
 ghost use Rattle.civl_tree.specs.rules.Rules.{each_place, refusal_at, first_of};
-ghost use Rattle.civl_names.specs.NameSets.{names_in};
+ghost use Rattle.civl_names.specs.NameSets.{names_in, set_of};
 ghost use Rattle.civl_names.specs.InScope.{names_of, olds_of, all_known};
 ghost use Rattle.civl_names.specs.Strange.{Declared, declared_in, broken_items, invariant_strange, gate_strange, guard_strange, action_strange, thread_strange};
 
 use crate::known::{Own, Scope, all_known, any_strange};
 use crate::name_set::NameSet;
 use crate::named::{add_all, set_of};
-use civl_tree::{Action, Choice, Invariant, Memory, Name, Refusal, Thread, Update};
+use civl_tree::{Action, Choice, Invariant, Memory, Name, Refusal, Thread, Update, both};
 use std::alloc::Global;
 
 /// The names of a program's globals, actions and procedures.
@@ -54,19 +54,30 @@ impl Judged for Action {
     ghost unknown = { action_strange };
 
     fn is_unknown(&self, alloc: Global, sets: &Sets) -> Result<bool, Memory> {
-        let mut own = Own {
-            names: set_of(alloc, self.params.as_slice())?,
-            outs: set_of(alloc, self.outs.as_slice())?,
-        };
-        if targets_unknown(sets.globals, &own.outs, self.updates.as_slice()) {
-            return Ok(true);
-        }
-        if gate_unknown(&Scope::Note(sets.globals, &own), self) {
-            return Ok(true);
-        }
-        add_all(&mut own.names, self.choices.as_slice())?;
-        Ok(guard_unknown(&Scope::Note(sets.globals, &own), self))
+        let (names, outs) = both(
+            set_of(alloc, self.params.as_slice()),
+            set_of(alloc, self.outs.as_slice()),
+        )?;
+        let mut own = Own { names, outs };
+        action_unknown(sets, &mut own, self)
     }
+}
+
+/// Whether an action breaks E11, where these are the names of its parameters and of its outputs. Those of its choices are
+/// added once the gate is seen.
+fn action_unknown<'a>(sets: &Sets, own: &mut Own<'a>, action: &'a Action) -> Result<bool, Memory>
+    requires names { names_in own.old.names ≡ set_of (param_names action.now.params) }
+    requires outs { names_in own.old.outs ≡ set_of (param_names action.now.outs) }
+    ensures { IfOk result (λ broken. broken ≡ action_strange (declared_in sets.now) action.now) }
+{
+    if targets_unknown(sets.globals, &own.outs, action.updates.as_slice()) {
+        return Ok(true);
+    }
+    if gate_unknown(&Scope::Note(sets.globals, own), action) {
+        return Ok(true);
+    }
+    add_all(&mut own.names, action.choices.as_slice())?;
+    Ok(guard_unknown(&Scope::Note(sets.globals, own), action))
 }
 
 #[tactic(auto, using(crate::proofs::Lists::any_append))]
