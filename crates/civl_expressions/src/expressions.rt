@@ -1,16 +1,15 @@
 // Expressions.
-ghost use Rattle.std.specs.Prelude.{◌≡◌, ◌<◌, IfOk};
-ghost use Rattle.civl_tree.specs.Token.{Reserved};
-ghost use Rattle.civl_tree.specs.Spelling.{close_paren, comma, semicolon};
+ghost use Rattle.std.specs.Prelude.{◌≡◌, ◌<◌, IfOk, codes};
+ghost use Rattle.civl_tree.specs.Token.{Reserved, Sign};
+ghost use Rattle.civl_tree.specs.Spelling.{close_paren, comma, colon, semicolon};
 ghost use Rattle.civl_lex.specs.Spelled.{spelled, spelled_token};
 ghost use Rattle.civl_tree.specs.declared.expr.Expr.TheVariants as expr;
 ghost use Rattle.civl_phrases.specs.Reader.{Gives, lookahead, mapped, after, both, then_token};
-ghost use Rattle.civl_phrases.specs.Leaf.{a_number};
 ghost use Rattle.civl_expressions.specs.readers.Names.{name_at};
 ghost use Rattle.civl_phrases.specs.Table.{lookup};
-ghost use Rattle.civl_expressions.specs.readers.Exprs.{expr_table, word_forms, expr_form_of, expr_form, expr_next, with_tail, of_old, pick_at, binary_at, tail_at, paren_at, one_at, exprs_at, literal_at, constant_at, olden_at, old_at, pair_at, get_at, join_at, set_at, fill_at, slice_at, widen_at, expr_at, inner_expr, args_at};
+ghost use Rattle.civl_expressions.specs.readers.Exprs.{expr_table, word_forms, expr_form_of, expr_form, expr_next, with_tail, of_old, pick_at, binary_at, tail_at, paren_at, one_at, two_at, exprs_at, literal_at, constant_at, olden_at, old_at, pair_at, get_at, join_at, set_at, fill_at, slice_at, widen_at, expr_at, inner_expr, args_at};
 
-use crate::brackets::open_bracket;
+use crate::brackets::{last_number, last_numbers, open_bracket};
 use crate::forms::ExprForm;
 use crate::names::name;
 use crate::operators::{one_op, two_op};
@@ -18,7 +17,7 @@ use civl_lex::{Kind, Token};
 use civl_phrases::{
     Halt, Phrase, commas, is_sign, is_word, not_here, number, sign, sign_next, word, word_next,
 };
-use civl_tree::{Boxed, Expr, List, Memory, Name};
+use civl_tree::{Boxed, Expr, List, Memory, Name, Two, beside, both, three};
 use std::alloc::Global;
 
 // ---- how an expression begins
@@ -120,8 +119,7 @@ fn constant<'t, 'a>(
 ) -> Result<(Expr, &'t [Token<'a>]), Halt>
     ensures { Gives (λ x. (x.0, spelled x.1.now)) result (constant_at (Reserved text.now) value (spelled tokens.now)) }
 {
-    let rest = word(tokens, text)?;
-    Ok((value, rest))
+    beside(value, word(tokens, text))
 }
 
 /// A name, or `done`.
@@ -165,38 +163,27 @@ fn old<'t, 'a>(
     Ok((of_old(old), rest))
 }
 
-// ---- numbers in parentheses
-
-/// A comma, a number and the closing bracket.
-#[tactic(auto, unfolding(civl_phrases::specs::Reader::after, civl_phrases::specs::Reader::then_token, civl_phrases::specs::Reader::mapped, civl_phrases::specs::Reader::both, civl_phrases::specs::Reader::done))]
-fn last_number<'t, 'a>(tokens: &'t [Token<'a>]) -> Result<(u32, &'t [Token<'a>]), Halt>
-    ensures { Gives (λ x. (x.0, spelled x.1.now)) result (after comma (then_token close_paren a_number) (spelled tokens.now)) }
-{
-    let rest = sign(tokens, b",")?;
-    let (value, rest) = number(rest)?;
-    let rest = sign(rest, b")")?;
-    Ok((value, rest))
-}
-
-/// Two numbers, with a comma before each, and the closing bracket.
-#[tactic(auto, unfolding(civl_phrases::specs::Reader::after, civl_phrases::specs::Reader::both))]
-fn last_numbers<'t, 'a>(tokens: &'t [Token<'a>]) -> Result<((u32, u32), &'t [Token<'a>]), Halt>
-    ensures { Gives (λ x. (x.0, spelled x.1.now)) result (after comma (both a_number (λ _. after comma (then_token close_paren a_number))) (spelled tokens.now)) }
-{
-    let rest = sign(tokens, b",")?;
-    let (first, rest) = number(rest)?;
-    let (second, rest) = last_number(rest)?;
-    Ok(((first, second), rest))
-}
-
 // ---- boxes
 
 fn two_boxes(alloc: Global, first: Expr, second: Expr) -> Result<(Boxed<Expr>, Boxed<Expr>), Memory>
     ensures { IfOk result (λ boxes. boxes ≡ (first, second)) }
 {
-    let first = Boxed::new(alloc, first)?;
-    let second = Boxed::new(alloc, second)?;
-    Ok((first, second))
+    both(Boxed::new(alloc, first), Boxed::new(alloc, second))
+}
+
+fn three_boxes(
+    alloc: Global,
+    first: Expr,
+    second: Expr,
+    third: Expr,
+) -> Result<(Boxed<Expr>, Boxed<Expr>, Boxed<Expr>), Memory>
+    ensures { IfOk result (λ boxes. boxes ≡ (first, second, third)) }
+{
+    three(
+        Boxed::new(alloc, first),
+        Boxed::new(alloc, second),
+        Boxed::new(alloc, third),
+    )
 }
 
 // ---- forms with parts
@@ -291,9 +278,25 @@ fn tail<'t, 'a>(
     }
 }
 
+/// `?`, two expressions and the closing bracket.
+#[cycle(expr)]
+#[tactic(auto, unfolding(civl_phrases::specs::Reader::after))]
+fn picked<'t, 'a>(
+    alloc: Global,
+    new: bool,
+    most: usize,
+    tokens: &'t [Token<'a>],
+) -> Result<((Expr, Expr), &'t [Token<'a>]), Halt>
+    requires { 0 < most }
+    ensures { Gives (λ x. (x.0, spelled x.1.now)) result (after (Sign (codes "?")) (both (inner_expr new most) (λ _. after colon (then_token close_paren (inner_expr new most)))) (spelled tokens.now)) }
+{
+    let rest = sign(tokens, b"?")?;
+    two_exprs(alloc, new, most, b":", rest)
+}
+
 /// `?`, two expressions and the closing bracket, behind a test.
 #[cycle(expr)]
-#[tactic(auto, unfolding(crate::specs::readers::Exprs::pick_at, civl_phrases::specs::Reader::mapped, civl_phrases::specs::Reader::both, civl_phrases::specs::Reader::after))]
+#[tactic(auto, unfolding(crate::specs::readers::Exprs::pick_at, civl_phrases::specs::Reader::mapped))]
 fn pick<'t, 'a>(
     alloc: Global,
     new: bool,
@@ -304,18 +307,31 @@ fn pick<'t, 'a>(
     requires { 0 < most }
     ensures { Gives (λ x. (x.0, spelled x.1.now)) result (mapped (with_tail test) (pick_at (inner_expr new most)) (spelled tokens.now)) }
 {
-    let test = Boxed::new(alloc, test)?;
-    let rest = sign(tokens, b"?")?;
-    let (first, rest) = inner(alloc, new, most, rest)?;
-    let rest = sign(rest, b":")?;
-    let (second, rest) = closed(alloc, new, most, rest)?;
-    let (first, second) = two_boxes(alloc, first, second)?;
+    let (test, ((first, second), rest)) = beside(test, picked(alloc, new, most, tokens))?;
+    let (test, first, second) = three_boxes(alloc, test, first, second)?;
     Ok((Expr::Pick(test, first, second), rest))
+}
+
+/// An operator, an expression and the closing bracket.
+#[cycle(expr)]
+#[tactic(auto, unfolding(civl_phrases::specs::Reader::both))]
+fn operand<'t, 'a>(
+    alloc: Global,
+    new: bool,
+    most: usize,
+    tokens: &'t [Token<'a>],
+) -> Result<((Two, Expr), &'t [Token<'a>]), Halt>
+    requires { 0 < most }
+    ensures { Gives (λ x. (x.0, spelled x.1.now)) result (both (two_at new) (λ _. then_token close_paren (inner_expr new most)) (spelled tokens.now)) }
+{
+    let (op, rest) = two_op(new, tokens)?;
+    let (operand, rest) = closed(alloc, new, most, rest)?;
+    Ok(((op, operand), rest))
 }
 
 /// An operator, an expression and the closing bracket, behind the first operand.
 #[cycle(expr)]
-#[tactic(auto, unfolding(crate::specs::readers::Exprs::binary_at, civl_phrases::specs::Reader::mapped, civl_phrases::specs::Reader::both))]
+#[tactic(auto, unfolding(crate::specs::readers::Exprs::binary_at, civl_phrases::specs::Reader::mapped))]
 fn two<'t, 'a>(
     alloc: Global,
     new: bool,
@@ -326,15 +342,32 @@ fn two<'t, 'a>(
     requires { 0 < most }
     ensures { Gives (λ x. (x.0, spelled x.1.now)) result (mapped (with_tail first) (binary_at new (inner_expr new most)) (spelled tokens.now)) }
 {
-    let (op, rest) = two_op(new, tokens)?;
-    let (second, rest) = closed(alloc, new, most, rest)?;
+    let (first, ((op, second), rest)) = beside(first, operand(alloc, new, most, tokens))?;
     let (first, second) = two_boxes(alloc, first, second)?;
     Ok((Expr::Two(op, first, second), rest))
 }
 
+/// Two expressions with the sign between, and the closing bracket.
+#[cycle(expr)]
+#[tactic(auto, unfolding(civl_phrases::specs::Reader::both))]
+fn two_exprs<'t, 'a>(
+    alloc: Global,
+    new: bool,
+    most: usize,
+    text: &[u8],
+    tokens: &'t [Token<'a>],
+) -> Result<((Expr, Expr), &'t [Token<'a>]), Halt>
+    requires { 0 < most }
+    ensures { Gives (λ x. (x.0, spelled x.1.now)) result (both (inner_expr new most) (λ _. after (Sign text.now) (then_token close_paren (inner_expr new most))) (spelled tokens.now)) }
+{
+    let (first, rest) = inner(alloc, new, most, tokens)?;
+    let (first, (second, rest)) = beside(first, last(alloc, new, most, text, rest))?;
+    Ok(((first, second), rest))
+}
+
 /// A word, and two expressions in parentheses.
 #[cycle(expr)]
-#[tactic(auto, unfolding(crate::specs::readers::Exprs::pair_at, civl_phrases::specs::Reader::opened, civl_phrases::specs::Reader::after, civl_phrases::specs::Reader::both))]
+#[tactic(auto, unfolding(crate::specs::readers::Exprs::pair_at, civl_phrases::specs::Reader::opened, civl_phrases::specs::Reader::after))]
 fn pair<'t, 'a>(
     alloc: Global,
     new: bool,
@@ -346,9 +379,7 @@ fn pair<'t, 'a>(
 {
     let rest = word(tokens, text)?;
     let rest = open_bracket(rest, b"(", most)?;
-    let (first, rest) = inner(alloc, new, most, rest)?;
-    let (second, rest) = last(alloc, new, most, rest)?;
-    Ok(((first, second), rest))
+    two_exprs(alloc, new, most, b",", rest)
 }
 
 #[cycle(expr)]
@@ -394,8 +425,8 @@ fn exprs<'t, 'a>(
     ensures { Gives (λ x. (x.0, spelled x.1.now)) result (exprs_at (inner_expr new most) (spelled tokens.now)) }
 {
     let (first, rest) = inner(alloc, new, most, tokens)?;
-    let rest = sign(rest, b",")?;
-    let (second, rest) = inner(alloc, new, most, rest)?;
+    let (first, rest) = beside(first, sign(rest, b","))?;
+    let (first, (second, rest)) = beside(first, inner(alloc, new, most, rest))?;
     Ok(((first, second), rest))
 }
 
@@ -411,10 +442,9 @@ fn set<'t, 'a>(
 {
     let rest = word(tokens, b"set")?;
     let rest = open_bracket(rest, b"(", most)?;
-    let ((row, at), rest) = exprs(alloc, new, most, rest)?;
-    let (cell, rest) = last(alloc, new, most, rest)?;
-    let (row, at) = two_boxes(alloc, row, at)?;
-    let cell = Boxed::new(alloc, cell)?;
+    let (place, rest) = exprs(alloc, new, most, rest)?;
+    let ((row, at), (cell, rest)) = beside(place, last(alloc, new, most, b",", rest))?;
+    let (row, at, cell) = three_boxes(alloc, row, at, cell)?;
     Ok((Expr::Set(row, at, cell), rest))
 }
 
@@ -431,7 +461,7 @@ fn fill<'t, 'a>(
     let rest = word(tokens, b"fill")?;
     let rest = open_bracket(rest, b"(", most)?;
     let (index, rest) = number(rest)?;
-    let (cell, rest) = last(alloc, new, most, rest)?;
+    let (cell, rest) = last(alloc, new, most, b",", rest)?;
     Ok((Expr::Fill(index, Boxed::new(alloc, cell)?), rest))
 }
 
@@ -448,7 +478,7 @@ fn slice<'t, 'a>(
     let rest = word(tokens, b"slice")?;
     let rest = open_bracket(rest, b"(", most)?;
     let (operand, rest) = inner(alloc, new, most, rest)?;
-    let ((high, low), rest) = last_numbers(rest)?;
+    let (operand, ((high, low), rest)) = beside(operand, last_numbers(rest))?;
     Ok((Expr::Slice(Boxed::new(alloc, operand)?, high, low), rest))
 }
 
@@ -465,7 +495,7 @@ fn widen<'t, 'a>(
     let rest = word(tokens, b"widen")?;
     let rest = open_bracket(rest, b"(", most)?;
     let (operand, rest) = inner(alloc, new, most, rest)?;
-    let (width, rest) = last_number(rest)?;
+    let (operand, (width, rest)) = beside(operand, last_number(rest))?;
     Ok((Expr::Widen(Boxed::new(alloc, operand)?, width), rest))
 }
 
@@ -482,23 +512,23 @@ fn closed<'t, 'a>(
     ensures { Gives (λ x. (x.0, spelled x.1.now)) result (then_token close_paren (inner_expr new most) (spelled tokens.now)) }
 {
     let (expr, rest) = inner(alloc, new, most, tokens)?;
-    let rest = sign(rest, b")")?;
-    Ok((expr, rest))
+    beside(expr, sign(rest, b")"))
 }
 
-/// A comma, an expression within the next bracket, and the closing bracket.
+/// The sign, an expression within the next bracket, and the closing bracket.
 #[cycle(expr)]
 #[tactic(auto, unfolding(civl_phrases::specs::Reader::after))]
 fn last<'t, 'a>(
     alloc: Global,
     new: bool,
     most: usize,
+    text: &[u8],
     tokens: &'t [Token<'a>],
 ) -> Result<(Expr, &'t [Token<'a>]), Halt>
     requires { 0 < most }
-    ensures { Gives (λ x. (x.0, spelled x.1.now)) result (after comma (then_token close_paren (inner_expr new most)) (spelled tokens.now)) }
+    ensures { Gives (λ x. (x.0, spelled x.1.now)) result (after (Sign text.now) (then_token close_paren (inner_expr new most)) (spelled tokens.now)) }
 {
-    let rest = sign(tokens, b",")?;
+    let rest = sign(tokens, text)?;
     closed(alloc, new, most, rest)
 }
 
@@ -577,6 +607,5 @@ pub fn ended_expr<'t, 'a>(
     ensures { Gives (λ x. (x.0, spelled x.1.now)) result (then_token semicolon (expr_at new most) (spelled tokens.now)) }
 {
     let (expr, rest) = expr(alloc, new, most, tokens)?;
-    let rest = sign(rest, b";")?;
-    Ok((expr, rest))
+    beside(expr, sign(rest, b";"))
 }

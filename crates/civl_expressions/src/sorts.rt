@@ -5,6 +5,7 @@ ghost use Rattle.civl_phrases.specs.Reader.{Gives, lookahead};
 ghost use Rattle.civl_phrases.specs.Table.{lookup};
 ghost use Rattle.civl_expressions.specs.readers.Exprs.{sort_table, sort_form, bool_at, word_at, row_at, sort_at};
 
+use crate::brackets::last_number;
 use crate::forms::SortForm;
 use civl_lex::Token;
 use civl_phrases::{Halt, is_word, not_here, number, open, sign, word};
@@ -52,16 +53,14 @@ fn word_sort<'t, 'a>(most: usize, tokens: &'t [Token<'a>]) -> Result<(Sort, &'t 
     Ok((Sort::Word(width), rest))
 }
 
-#[tactic(auto, unfolding(crate::specs::readers::Exprs::row_at, civl_phrases::specs::Reader::mapped, civl_phrases::specs::Reader::opened, civl_phrases::specs::Reader::after, civl_phrases::specs::Reader::then_token, civl_phrases::specs::Reader::both, civl_phrases::specs::Reader::done))]
+#[tactic(auto, unfolding(crate::specs::readers::Exprs::row_at, civl_phrases::specs::Reader::mapped, civl_phrases::specs::Reader::opened, civl_phrases::specs::Reader::after, civl_phrases::specs::Reader::both))]
 fn row_sort<'t, 'a>(most: usize, tokens: &'t [Token<'a>]) -> Result<(Sort, &'t [Token<'a>]), Halt>
     ensures { Gives (λ x. (x.0, spelled x.1.now)) result (row_at most (spelled tokens.now)) }
 {
     let rest = word(tokens, b"row")?;
     let rest = open(rest, b"(", most)?;
     let (index, rest) = number(rest)?;
-    let rest = sign(rest, b",")?;
-    let (width, rest) = number(rest)?;
-    let rest = sign(rest, b")")?;
+    let (width, rest) = last_number(rest)?;
     Ok((Sort::Row(index, width), rest))
 }
 
