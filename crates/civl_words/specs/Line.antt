@@ -1,8 +1,10 @@
 -- The command line as `clap` reads it: a program with subcommands, of which one is wanted. Each is given by the records in which
 -- `clap` states what it does with a list of words.
-use Rattle.std.specs.Prelude.{true, codes, Some, pos, [], ◌∷◌}
+use Rattle.std.specs.Prelude.{◌≡◌, true, false, codes, Some, pos, [], ◌∷◌}
 use Rattle.clap.specs.Walk.{Rule, Text}
-use Rattle.clap.specs.Simple.{App, on_top, new_app, new_rule, with_rule, with_subcommand}
+use Rattle.clap.specs.declared.builder.Command.{Command}
+use Rattle.clap.specs.declared.builder.Command.TheViews.{out-Command as fields_of}
+use Rattle.clap.specs.Simple.{App, app_of, on_top, new_app, new_rule, with_rule, with_subcommand}
 use Rattle.clap.specs.declared.builder.value_parser.ValueParser.TheVariants.{Signed}
 
 -- ---- the arguments
@@ -51,6 +53,10 @@ abbrev pub proof_line : App
 proof_line = with_rule (with_rule (with_rule (new_app (codes "proof")) (wanted_rule (codes "act"))) place_option) budget_option
 
 -- ---- the whole
+
+-- the value is this command line, and no option of it is one of its subcommands too
+abbrev pub IsLine : App → Command → Type 0
+IsLine app command = (app_of command ≡ app) × ((fields_of command).has_globals ≡ false)
 
 abbrev pub with_line : App → App → App
 with_line whole part = with_subcommand whole part.top

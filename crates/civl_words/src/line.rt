@@ -2,8 +2,8 @@
 ghost use Rattle.std.specs.Prelude.{◌≡◌, IfOk, false, codes};
 ghost use Rattle.clap.specs.Walk.{rule_of};
 ghost use Rattle.clap.specs.declared.builder.Command.TheViews.{out-Command as fields_of};
-ghost use Rattle.clap.specs.Simple.{app_of};
-ghost use Rattle.civl_words.specs.Line.{budget_option, usual_budget_option, place_option, trial_number, wanted_rule, check_line, conditions_line, fmt_line, text_lines, run_line, trial_line, run_lines, prove_line, proof_line, all_lines, command_line};
+ghost use Rattle.clap.specs.Simple.{App, app_of};
+ghost use Rattle.civl_words.specs.Line.{IsLine, with_line, budget_option, usual_budget_option, place_option, trial_number, wanted_rule, check_line, conditions_line, fmt_line, text_lines, run_line, trial_line, run_lines, prove_line, proof_line, all_lines, command_line};
 
 use clap::{Arg, Command, value_parser};
 use std::alloc::{AllocError, Global};
@@ -55,13 +55,13 @@ fn wanted_word<'a>(alloc: Global, id: &'a str) -> Arg<'a>
 }
 
 fn check_line<'a>(alloc: Global) -> Result<Command<'a>, AllocError>
-    ensures { IfOk result (λ c. (app_of c ≡ check_line) × ((fields_of c).has_globals ≡ false)) }
+    ensures { IfOk result (IsLine check_line) }
 {
     Command::new(alloc, "check").arg(usual_budget_option(alloc))
 }
 
 fn conditions_line<'a>(alloc: Global) -> Result<Command<'a>, AllocError>
-    ensures { IfOk result (λ c. (app_of c ≡ conditions_line) × ((fields_of c).has_globals ≡ false)) }
+    ensures { IfOk result (IsLine conditions_line) }
 {
     Command::new(alloc, "conditions").arg(usual_budget_option(alloc))
 }
@@ -74,25 +74,25 @@ fn fmt_line<'a>(alloc: Global) -> Command<'a>
 }
 
 fn run_line<'a>(alloc: Global) -> Result<Command<'a>, AllocError>
-    ensures { IfOk result (λ c. (app_of c ≡ run_line) × ((fields_of c).has_globals ≡ false)) }
+    ensures { IfOk result (IsLine run_line) }
 {
     Command::new(alloc, "run").arg(wanted_word(alloc, "end"))
 }
 
 fn trial_line<'a>(alloc: Global) -> Result<Command<'a>, AllocError>
-    ensures { IfOk result (λ c. (app_of c ≡ trial_line) × ((fields_of c).has_globals ≡ false)) }
+    ensures { IfOk result (IsLine trial_line) }
 {
     Command::new(alloc, "trial").arg(trial_number(alloc))
 }
 
 fn prove_line<'a>(alloc: Global) -> Result<Command<'a>, AllocError>
-    ensures { IfOk result (λ c. (app_of c ≡ prove_line) × ((fields_of c).has_globals ≡ false)) }
+    ensures { IfOk result (IsLine prove_line) }
 {
     Command::new(alloc, "prove").arg(usual_budget_option(alloc))
 }
 
 fn proof_line<'a>(alloc: Global) -> Result<Command<'a>, AllocError>
-    ensures { IfOk result (λ c. (app_of c ≡ proof_line) × ((fields_of c).has_globals ≡ false)) }
+    ensures { IfOk result (IsLine proof_line) }
 {
     Command::new(alloc, "proof")
         .arg(wanted_word(alloc, "act"))?
@@ -100,32 +100,39 @@ fn proof_line<'a>(alloc: Global) -> Result<Command<'a>, AllocError>
         .arg(budget_option(alloc))
 }
 
+/// A command line with a subcommand more.
+fn with<'a>(
+    whole: Result<Command<'a>, AllocError>,
+    part: Result<Command<'a>, AllocError>,
+) -> Result<Command<'a>, AllocError>
+    ensures { (a b : App) → IfOk whole.entry (IsLine a) → IfOk part.entry (IsLine b) → IfOk result (IsLine (with_line a b)) }
+{
+    whole?.subcommand(part?)
+}
+
 /// The commands over the text of a program.
 fn text_lines<'a>(alloc: Global) -> Result<Command<'a>, AllocError>
-    ensures { IfOk result (λ c. (app_of c ≡ text_lines) × ((fields_of c).has_globals ≡ false)) }
+    ensures { IfOk result (IsLine text_lines) }
 {
-    Command::new(alloc, "civl")
-        .subcommand(check_line(alloc)?)?
-        .subcommand(conditions_line(alloc)?)?
-        .subcommand(fmt_line(alloc))
+    let line = with(Ok(Command::new(alloc, "civl")), check_line(alloc));
+    let line = with(line, conditions_line(alloc));
+    with(line, Ok(fmt_line(alloc)))
 }
 
 /// These, and those that run or try a program.
 fn run_lines<'a>(alloc: Global) -> Result<Command<'a>, AllocError>
-    ensures { IfOk result (λ c. (app_of c ≡ run_lines) × ((fields_of c).has_globals ≡ false)) }
+    ensures { IfOk result (IsLine run_lines) }
 {
-    text_lines(alloc)?
-        .subcommand(run_line(alloc)?)?
-        .subcommand(trial_line(alloc)?)
+    let line = with(text_lines(alloc), run_line(alloc));
+    with(line, trial_line(alloc))
 }
 
 /// All commands.
 fn all_lines<'a>(alloc: Global) -> Result<Command<'a>, AllocError>
-    ensures { IfOk result (λ c. app_of c ≡ all_lines) }
+    ensures { IfOk result (IsLine all_lines) }
 {
-    run_lines(alloc)?
-        .subcommand(prove_line(alloc)?)?
-        .subcommand(proof_line(alloc)?)
+    let line = with(run_lines(alloc), prove_line(alloc));
+    with(line, proof_line(alloc))
 }
 
 /// The command line, of the words after the program's name.

@@ -5,4 +5,4 @@ use Rattle.civl_words.proofs.line.command_line.Goals as goal
 pub returns : goal.returns
 returns c =
     ap app_of_fields c.subcommand_required.ensures ∙ ap (on_top (λ (s : Shape). record s { subcommand_required = true }))
-    (ap app_of_fields c.no_binary_name.ensures ∙ ap (on_top (λ (s : Shape). record s { no_binary_name = true })) c.in_ok-line.ensures)
+    (ap app_of_fields c.no_binary_name.ensures ∙ ap (on_top (λ (s : Shape). record s { no_binary_name = true })) c.in_ok-line.ensures.0)
