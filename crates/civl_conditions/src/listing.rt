@@ -6,13 +6,13 @@ ghost use Rattle.civl_conditions.specs.declared.condition.Target.TheVariants as 
 ghost use Rattle.civl_conditions.specs.Steps.{begins_below, lasts_through, step_invariants, each_at};
 ghost use Rattle.civl_layers.specs.Movers.{is_left, is_right};
 ghost use Rattle.civl_conditions.specs.Listed.{starts, keeps, pair_of, fire_of, movers, at_step, conditions};
-ghost use Rattle.civl_conditions.specs.Placed.{parts_from, yield_at, blocks_from};
+ghost use Rattle.civl_conditions.specs.Placed.{step_places, parts_from, yield_at, blocks_from};
 
 use crate::condition::{Condition, Part, Target};
 use crate::places::{Place, step_places};
 use crate::steps::{begins_below, invariant_count, is_left, is_right, lasts_through, meet_below};
 use civl_layers::{CutKind, Layered, program};
-use civl_tree::{Action, List, Memory, Mover, Program};
+use civl_tree::{Action, List, Memory, Mover, Program, beside};
 use std::alloc::Global;
 
 // ---- K1 and K2
@@ -292,6 +292,28 @@ fn push_acts(
 
 // ---- all
 
+/// The conditions of a step, of which these are the cuts, and what has to be kept at it.
+fn push_all(
+    list: &mut List<Condition>,
+    program: &Program,
+    step: u32,
+    places: &[Place],
+    wanted: &[Target],
+) -> Result<(), Memory>
+    requires numbered { IsNumbered program.now }
+    requires places { places.now ≡ step_places program.now step }
+    requires wanted { wanted.now ≡ each_at (λ i e. target.Invariant i ∷ []) 0 (step_invariants program.now step) ++ flat_map yield_at places.now }
+    ensures { OnOk result (list.new ≡ list.old ++ at_step program.now step) }
+{
+    push_starts(list, program, step)?;
+    push_keeps(list, program, step)?;
+    push_movers(list, program, step)?;
+    push_paths(list, step, places)?;
+    push_blocks(list, step, places, wanted)?;
+    push_acts(list, program, step, wanted)?;
+    Ok(())
+}
+
 /// The conditions of a step.
 fn push_step(
     alloc: Global,
@@ -302,17 +324,10 @@ fn push_step(
     ensures { OnOk result (list.new ≡ list.old ++ at_step src.now step) }
 {
     let program = program(src);
-    let cuts = step_places(alloc, src, step)?;
-    let places = cuts.as_slice();
-    let wanted = targets(alloc, program, step, places)?;
-    let targets = wanted.as_slice();
-    push_starts(list, program, step)?;
-    push_keeps(list, program, step)?;
-    push_movers(list, program, step)?;
-    push_paths(list, step, places)?;
-    push_blocks(list, step, places, targets)?;
-    push_acts(list, program, step, targets)?;
-    Ok(())
+    let places = step_places(alloc, src, step)?;
+    let wanted = targets(alloc, program, step, places.as_slice());
+    let (places, wanted) = beside(places, wanted)?;
+    push_all(list, program, step, places.as_slice(), wanted.as_slice())
 }
 
 /// All conditions of a layered program in their order, step by step: for each step K1 to K11, of which the K3 to K8 of an

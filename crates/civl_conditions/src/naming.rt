@@ -105,6 +105,50 @@ fn put_target(out: &mut Vec<u8>, program: &Program, target: Target) -> Result<()
     }
 }
 
+/// Behind what stands there the printed name of a condition.
+#[tactic(auto, unfolding(crate::specs::Names::name_text))]
+fn put_name(out: &mut Vec<u8>, program: &Program, condition: &Condition) -> Result<(), Memory>
+    ensures { OnOk result (out.new.items ≡ out.old.items ++ name_text program.now condition.now) }
+{
+    match *condition {
+        Condition::Start(step, invariant) => {
+            put_head(out, b"K1", step)?;
+            put(out, b"invariant ")?;
+            put_number(out, invariant)?;
+        }
+        Condition::Keep(step, action) => {
+            put_head(out, b"K2", step)?;
+            put_action(out, program, action)?;
+        }
+        Condition::Pair(number, step, first, second) => {
+            put(out, b"K")?;
+            put_number(out, number)?;
+            put_head(out, b"", step)?;
+            put_pair(out, program, first, second)?;
+        }
+        Condition::Fire(step, action) => {
+            put_head(out, b"K8", step)?;
+            put_action(out, program, action)?;
+        }
+        Condition::Path(part, step, proc, cut) => {
+            put(out, b"K9 ")?;
+            put_head(out, part_text(part), step)?;
+            put_cut(out, program, proc, cut)?;
+        }
+        Condition::Block(step, proc, cut, target) => {
+            put_head(out, b"K10", step)?;
+            put_cut(out, program, proc, cut)?;
+            put_target(out, program, target)?;
+        }
+        Condition::Act(step, action, target) => {
+            put_head(out, b"K11", step)?;
+            put_action(out, program, action)?;
+            put_target(out, program, target)?;
+        }
+    }
+    Ok(())
+}
+
 /// The printed name of a condition: `K` with the number of its kind, and for a path the word of its part; the step; then what
 /// the condition is about, the actions and procedures by their names, the invariants and cuts by their numbers. An action or
 /// a procedure that there is not has no name, and nothing stands in its place.
@@ -112,47 +156,10 @@ fn put_target(out: &mut Vec<u8>, program: &Program, target: Target) -> Result<()
 /// # Errors
 ///
 /// For want of memory.
-#[tactic(auto, unfolding(crate::specs::Names::name_text))]
 pub fn name(alloc: Global, src: &Layered, condition: &Condition) -> Result<Vec<u8>, Memory>
     ensures { IfOk result (λ name. name.items ≡ name_text src.now condition.now) }
 {
-    let program = program(src);
     let mut out = Vec::new(alloc);
-    match *condition {
-        Condition::Start(step, invariant) => {
-            put_head(&mut out, b"K1", step)?;
-            put(&mut out, b"invariant ")?;
-            put_number(&mut out, invariant)?;
-        }
-        Condition::Keep(step, action) => {
-            put_head(&mut out, b"K2", step)?;
-            put_action(&mut out, program, action)?;
-        }
-        Condition::Pair(number, step, first, second) => {
-            put(&mut out, b"K")?;
-            put_number(&mut out, number)?;
-            put_head(&mut out, b"", step)?;
-            put_pair(&mut out, program, first, second)?;
-        }
-        Condition::Fire(step, action) => {
-            put_head(&mut out, b"K8", step)?;
-            put_action(&mut out, program, action)?;
-        }
-        Condition::Path(part, step, proc, cut) => {
-            put(&mut out, b"K9 ")?;
-            put_head(&mut out, part_text(part), step)?;
-            put_cut(&mut out, program, proc, cut)?;
-        }
-        Condition::Block(step, proc, cut, target) => {
-            put_head(&mut out, b"K10", step)?;
-            put_cut(&mut out, program, proc, cut)?;
-            put_target(&mut out, program, target)?;
-        }
-        Condition::Act(step, action, target) => {
-            put_head(&mut out, b"K11", step)?;
-            put_action(&mut out, program, action)?;
-            put_target(&mut out, program, target)?;
-        }
-    }
+    put_name(&mut out, program(src), condition)?;
     Ok(out)
 }

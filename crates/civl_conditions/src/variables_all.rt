@@ -151,6 +151,50 @@ fn push_cut(
     }
 }
 
+/// Behind what stands there the variables of a condition in their order.
+#[tactic(auto, unfolding(crate::specs::Variables::variables))]
+fn push_all(
+    alloc: Global,
+    list: &mut List<Variable>,
+    src: &Layered,
+    condition: &Condition,
+) -> Result<(), Memory>
+    ensures { OnOk result (list.new ≡ list.old ++ variables src.now condition.now) }
+{
+    let program = program(src);
+    match *condition {
+        Condition::Start(_, _) => {
+            push_globals(alloc, list, program.globals.as_slice())?;
+        }
+        Condition::Keep(step, action) => {
+            push_lower(alloc, list, program, step)?;
+            push_action(alloc, list, b"X.", program, action)?;
+        }
+        Condition::Pair(_, step, first, second) => {
+            push_lower(alloc, list, program, step)?;
+            push_action(alloc, list, b"X.", program, first)?;
+            push_action(alloc, list, b"Y.", program, second)?;
+        }
+        Condition::Fire(step, action) => {
+            push_lower(alloc, list, program, step)?;
+            push_inputs(alloc, list, b"X.", program, action)?;
+        }
+        Condition::Path(_, step, proc, cut) => {
+            push_cut(alloc, list, src, step, proc, cut)?;
+        }
+        Condition::Block(step, proc, cut, target) => {
+            push_cut(alloc, list, src, step, proc, cut)?;
+            push_other(alloc, list, program, target)?;
+        }
+        Condition::Act(step, action, target) => {
+            push_near(alloc, list, b"", program, step)?;
+            push_action(alloc, list, b"X.", program, action)?;
+            push_other(alloc, list, program, target)?;
+        }
+    }
+    Ok(())
+}
+
 /// The variables of a condition in their order, each with its printed name, which is a name of the program with what tells it
 /// apart before it: nothing for a global, and for a name of the procedure from whose cut the paths go; `X.` and `Y.` for the
 /// parameters and choices of the first action and of the second; `old.` for what was before, at a rank loop; `other.` for the
@@ -160,7 +204,6 @@ fn push_cut(
 /// # Errors
 ///
 /// For want of memory.
-#[tactic(auto, unfolding(crate::specs::Variables::variables))]
 pub fn variables(
     alloc: Global,
     src: &Layered,
@@ -168,37 +211,7 @@ pub fn variables(
 ) -> Result<List<Variable>, Memory>
     ensures { IfOk result (λ found. found ≡ variables src.now condition.now) }
 {
-    let program = program(src);
     let mut found = List::new(alloc);
-    match *condition {
-        Condition::Start(_, _) => {
-            push_globals(alloc, &mut found, program.globals.as_slice())?;
-        }
-        Condition::Keep(step, action) => {
-            push_lower(alloc, &mut found, program, step)?;
-            push_action(alloc, &mut found, b"X.", program, action)?;
-        }
-        Condition::Pair(_, step, first, second) => {
-            push_lower(alloc, &mut found, program, step)?;
-            push_action(alloc, &mut found, b"X.", program, first)?;
-            push_action(alloc, &mut found, b"Y.", program, second)?;
-        }
-        Condition::Fire(step, action) => {
-            push_lower(alloc, &mut found, program, step)?;
-            push_inputs(alloc, &mut found, b"X.", program, action)?;
-        }
-        Condition::Path(_, step, proc, cut) => {
-            push_cut(alloc, &mut found, src, step, proc, cut)?;
-        }
-        Condition::Block(step, proc, cut, target) => {
-            push_cut(alloc, &mut found, src, step, proc, cut)?;
-            push_other(alloc, &mut found, program, target)?;
-        }
-        Condition::Act(step, action, target) => {
-            push_near(alloc, &mut found, b"", program, step)?;
-            push_action(alloc, &mut found, b"X.", program, action)?;
-            push_other(alloc, &mut found, program, target)?;
-        }
-    }
+    push_all(alloc, &mut found, src, condition)?;
     Ok(found)
 }

@@ -1,5 +1,5 @@
 // The variables of goals.
-ghost use Rattle.std.specs.Prelude.{◌≡◌, ◌+◌, ◌<◌, ◌^◌, ◌++◌, ◌∷◌, [], map, OnOk, IfOk};
+ghost use Rattle.std.specs.Prelude.{◌≡◌, ◌+◌, ◌<◌, ◌^◌, ◌++◌, ◌∷◌, [], map, codes, OnOk, IfOk};
 ghost use Rattle.civl_tree.specs.declared.stmt.Stmt.{out-Stmt};
 ghost use Rattle.civl_tree.specs.Numbering.{statements_of};
 ghost use Rattle.civl_meaning.specs.Layers.{topmost};
@@ -284,6 +284,44 @@ fn push_statement(
     Ok(())
 }
 
+/// The variables of `Invariant` and of `Thread`.
+fn global_variables(alloc: Alloc, program: &Program) -> Result<List<Variable>, Memory>
+    ensures { IfOk result (λ found. found ≡ of_globals [] program.now.globals) }
+{
+    let mut found = List::new(alloc);
+    push_globals(alloc, &mut found, program.globals.as_slice())?;
+    Ok(found)
+}
+
+/// The variables of a goal of one statement.
+fn statement_variables(
+    alloc: Alloc,
+    program: &Program,
+    proc: u32,
+    statement: u32,
+) -> Result<List<Variable>, Memory>
+    ensures { IfOk result (λ found. found ≡ of_statement program.now proc statement) }
+{
+    let mut found = List::new(alloc);
+    push_statement(alloc, &mut found, program, proc, statement)?;
+    Ok(found)
+}
+
+/// The variables of `Other`, where this is the other root.
+fn other_variables(
+    alloc: Alloc,
+    program: &Program,
+    proc: u32,
+    statement: u32,
+    other: u32,
+) -> Result<List<Variable>, Memory>
+    ensures { IfOk result (λ found. found ≡ of_statement program.now proc statement ++ of_frame (codes "other.") program.now other) }
+{
+    let mut found = statement_variables(alloc, program, proc, statement)?;
+    push_frame(alloc, &mut found, b"other.", program, other)?;
+    Ok(found)
+}
+
 /// The variables of a goal in their order, each with its printed name, which is a name of the program with what tells it
 /// apart before it: nothing for a global and for a name of the root; `call` with the number of the statement for the choices
 /// of the call that stands there; `other.` for the frame of another thread; and `X.` for the parameters and choices of the
@@ -297,25 +335,26 @@ pub fn goal_variables(alloc: Alloc, src: &Layered, goal: &Goal) -> Result<List<V
     ensures { IfOk result (λ found. found ≡ variables src.now goal.now) }
 {
     let program = program(src);
-    let mut found = List::new(alloc);
     match *goal {
-        Goal::Invariant => push_globals(alloc, &mut found, program.globals.as_slice())?,
-        Goal::Thread(_) => push_globals(alloc, &mut found, program.globals.as_slice())?,
+        Goal::Invariant | Goal::Thread(_) => {
+            let found = global_variables(alloc, program)?;
+            Ok(found)
+        }
         Goal::Linear(action) => {
             let keep = Condition::Keep(beyond(program), action);
             let kept = condition_variables(alloc, src, &keep)?;
-            return Ok(kept);
+            Ok(kept)
         }
-        Goal::Safe(proc, statement) => push_statement(alloc, &mut found, program, proc, statement)?,
-        Goal::Keep(proc, statement) => push_statement(alloc, &mut found, program, proc, statement)?,
-        Goal::Spawn(proc, statement) => {
-            push_statement(alloc, &mut found, program, proc, statement)?
+        Goal::Safe(proc, statement)
+        | Goal::Keep(proc, statement)
+        | Goal::Spawn(proc, statement)
+        | Goal::Next(proc, statement) => {
+            let found = statement_variables(alloc, program, proc, statement)?;
+            Ok(found)
         }
-        Goal::Next(proc, statement) => push_statement(alloc, &mut found, program, proc, statement)?,
         Goal::Other(proc, statement, other, _) => {
-            push_statement(alloc, &mut found, program, proc, statement)?;
-            push_frame(alloc, &mut found, b"other.", program, other)?;
+            let found = other_variables(alloc, program, proc, statement, other)?;
+            Ok(found)
         }
     }
-    Ok(found)
 }

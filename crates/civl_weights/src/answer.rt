@@ -12,7 +12,7 @@ use crate::sums::steps::{first_sums, sums_at};
 use crate::sums::tables::{Tables, work_out};
 use civl_conditions::{Condition, listed};
 use civl_layers::{Held, Layered};
-use civl_tree::{List, Memory};
+use civl_tree::{List, Memory, beside, both};
 use std::alloc::Global;
 
 /// Why the conditions of a program aren't listed: a formula weighs too much, that of this condition, or of the search for an
@@ -51,6 +51,26 @@ fn is_initial_heavy(tables: &Tables) -> bool
     tables.bits.plus(tables.initial).is_heavy()
 }
 
+/// The first formula that weighs too much, where these are the conditions.
+fn first_formula(
+    alloc: Global,
+    src: &Layered,
+    tables: &Tables,
+    list: &[Condition],
+) -> Result<Option<Option<Condition>>, Memory>
+    requires tables { OfProgram src.now tables.now }
+    requires list { list.now ≡ conditions src.now }
+    ensures { IfOk result (λ found. found ≡ heavy src.now) }
+{
+    if is_initial_heavy(tables) {
+        return Ok(Some(None));
+    }
+    match first_heavy(alloc, src, tables, list)? {
+        Some(condition) => Ok(Some(Some(condition))),
+        None => Ok(None),
+    }
+}
+
 /// The first formula that weighs too much, and the list of the conditions.
 fn weighed(
     alloc: Global,
@@ -61,15 +81,10 @@ fn weighed(
     ensures heavy { IfOk result (λ found. found.0 ≡ heavy src.now) }
     ensures listed { IfOk result (λ found. found.1 ≡ conditions src.now) }
 {
-    let tables = work_out(alloc, src, held)?;
-    let list = listed(alloc, src)?;
-    if is_initial_heavy(&tables) {
-        return Ok((Some(None), list));
-    }
-    match first_heavy(alloc, src, &tables, list.as_slice())? {
-        Some(condition) => Ok((Some(Some(condition)), list)),
-        None => Ok((None, list)),
-    }
+    let (tables, list) = both(work_out(alloc, src, held), listed(alloc, src))?;
+    let found = first_formula(alloc, src, &tables, list.as_slice());
+    let (list, found) = beside(list, found)?;
+    Ok((found, list))
 }
 
 /// All conditions of a layered program in their order, where no formula weighs more than 400,000. `held` has what is held at
