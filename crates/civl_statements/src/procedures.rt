@@ -13,7 +13,7 @@ use crate::statements::StmtPhrase;
 use civl_expressions::{Heading, args, name, open_bracket, read_heading, sort};
 use civl_lex::Token;
 use civl_phrases::{Halt, Headed, Phrase, is_word, many, not_here, number, sign, word, word_next};
-use civl_tree::{Expr, List, Local, Proc, Refines, Sort, Stmt};
+use civl_tree::{Expr, List, Local, Proc, Refines, Sort, Stmt, beside};
 use std::alloc::Global;
 
 // ---- root, or what is refined
@@ -30,8 +30,8 @@ fn args_and_layer<'t, 'a>(
 {
     let rest = word(tokens, b"with")?;
     let (args, rest) = args(alloc, new, most, rest)?;
-    let rest = word(rest, b"layer")?;
-    let (layer, rest) = number(rest)?;
+    let (args, rest) = beside(args, word(rest, b"layer"))?;
+    let (args, (layer, rest)) = beside(args, number(rest))?;
     Ok(((args, layer), rest))
 }
 
@@ -46,7 +46,7 @@ fn refines<'t, 'a>(
 {
     let rest = word(tokens, b"refines")?;
     let (action, rest) = name(alloc, rest)?;
-    let ((with, layer), rest) = args_and_layer(alloc, new, most, rest)?;
+    let (action, ((with, layer), rest)) = beside(action, args_and_layer(alloc, new, most, rest))?;
     Ok((
         Refines {
             action,
@@ -136,7 +136,7 @@ fn local<'t, 'a>(
 {
     let (linear, rest) = local_word(tokens)?;
     let (name, rest) = name(alloc, rest)?;
-    let (sort, rest) = local_sort(most, rest)?;
+    let (name, (sort, rest)) = beside(name, local_sort(most, rest))?;
     Ok((Local { linear, name, sort }, rest))
 }
 
@@ -188,9 +188,8 @@ fn read_body<'t, 'a>(
     ensures { Gives (λ x. (x.0, spelled x.1.now)) result (body_at new most (spelled tokens.now)) }
 {
     let (locals, rest) = many(alloc, &LocalPhrase { most }, tokens)?;
-    let (stmts, rest) = many(alloc, &StmtPhrase { new, most }, rest)?;
-    let rest = sign(rest, b"}")?;
-    Ok((Body { locals, stmts }, rest))
+    let (locals, (stmts, rest)) = beside(locals, many(alloc, &StmtPhrase { new, most }, rest))?;
+    beside(Body { locals, stmts }, sign(rest, b"}"))
 }
 
 /// A body in its brackets.
@@ -222,6 +221,21 @@ fn proc_of(heading: Heading, refines: Option<Refines>, body: Body) -> Proc
     }
 }
 
+/// `root`, or what is refined, and the body in its brackets.
+#[tactic(auto, unfolding(civl_phrases::specs::Reader::both))]
+fn rank_and_body<'t, 'a>(
+    alloc: Global,
+    new: bool,
+    most: usize,
+    tokens: &'t [Token<'a>],
+) -> Result<((Option<Refines>, Body), &'t [Token<'a>]), Halt>
+    ensures { Gives (λ x. (x.0, spelled x.1.now)) result (both (rank_of_at new most) (λ _. opened open_brace most (body_at new (most - 1))) (spelled tokens.now)) }
+{
+    let (refines, rest) = rank_of(alloc, new, most, tokens)?;
+    let (refines, (body, rest)) = beside(refines, braced_body(alloc, new, most, rest))?;
+    Ok(((refines, body), rest))
+}
+
 /// A procedure, where `most` more brackets may be open, and the tokens behind it. `new` says that the version is 2.
 ///
 /// # Errors
@@ -238,8 +252,10 @@ fn proc<'t, 'a>(
     ensures { Gives (λ x. (x.0, spelled x.1.now)) result (proc_at new most (spelled tokens.now)) }
 {
     let (heading, rest) = read_heading(alloc, b"proc", most, tokens)?;
-    let (refines, rest) = rank_of(alloc, new, most, rest)?;
-    let (body, rest) = braced_body(alloc, new, most, rest)?;
+    let (heading, ((refines, body), rest)) = beside(
+        heading,
+        rank_and_body(alloc, new, most, rest),
+    )?;
     Ok((proc_of(heading, refines, body), rest))
 }
 

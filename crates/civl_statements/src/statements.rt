@@ -1,8 +1,9 @@
 // Statements.
-ghost use Rattle.std.specs.Prelude.{◌≡◌, ◌<◌};
+ghost use Rattle.std.specs.Prelude.{◌≡◌, ◌<◌, codes};
+ghost use Rattle.civl_tree.specs.Token.{Reserved};
 ghost use Rattle.civl_tree.specs.Spelling.{semicolon, arrow};
 ghost use Rattle.civl_lex.specs.Spelled.{spelled, spelled_token};
-ghost use Rattle.civl_phrases.specs.Reader.{Gives, lookahead, mapped, after, then_token};
+ghost use Rattle.civl_phrases.specs.Reader.{Gives, lookahead, mapped, after, both, then_token};
 ghost use Rattle.civl_phrases.specs.List.{repeated};
 ghost use Rattle.civl_phrases.specs.Table.{lookup, guarded};
 ghost use Rattle.civl_statements.specs.readers.Stmts.{stmt_table, more_table, has_form, stmt_form_of, stmt_form, stmt_next, results_at, assign_at, assert_at, call_at, yield_at, commit_at, intro_at, spawn_at, block_at, if_at, of_loop, plain_loop_at, inv_body_at, yield_loop_at, by_body_at, rank_loop_at, while_at, inner_stmt, stmt_at};
@@ -11,7 +12,7 @@ use crate::forms::StmtForm;
 use civl_expressions::{NamePhrase, args, ended_expr, expr, name, open_bracket};
 use civl_lex::{Kind, Token};
 use civl_phrases::{Halt, Headed, Left, Phrase, commas, is_word, not_here, sign, word, word_next};
-use civl_tree::{Expr, List, Name, Stmt};
+use civl_tree::{Expr, List, Name, Stmt, beside};
 use std::alloc::Global;
 
 // ---- how a statement begins
@@ -134,8 +135,8 @@ fn assign<'t, 'a>(
     ensures { Gives (λ x. (x.0, spelled x.1.now)) result (assign_at new most (spelled tokens.now)) }
 {
     let (target, rest) = name(alloc, tokens)?;
-    let rest = sign(rest, b":=")?;
-    let (value, rest) = ended_expr(alloc, new, most, rest)?;
+    let (target, rest) = beside(target, sign(rest, b":="))?;
+    let (target, (value, rest)) = beside(target, ended_expr(alloc, new, most, rest))?;
     Ok((Stmt::Assign(target, value), rest))
 }
 
@@ -164,8 +165,7 @@ fn call_results<'t, 'a>(
 {
     let rest = sign(tokens, b"->")?;
     let (results, rest) = results(alloc, most, rest)?;
-    let rest = sign(rest, b";")?;
-    Ok((results, rest))
+    beside(results, sign(rest, b";"))
 }
 
 #[tactic(auto, unfolding(crate::specs::readers::Stmts::call_at, civl_phrases::specs::Reader::mapped, civl_phrases::specs::Reader::both, civl_phrases::specs::Reader::after))]
@@ -179,8 +179,11 @@ fn call<'t, 'a>(
 {
     let rest = word(tokens, b"call")?;
     let (callee, rest) = name(alloc, rest)?;
-    let (args, rest) = args(alloc, new, most, rest)?;
-    let (results, rest) = call_results(alloc, most, rest)?;
+    let (callee, (args, rest)) = beside(callee, args(alloc, new, most, rest))?;
+    let ((callee, args), (results, rest)) = beside(
+        (callee, args),
+        call_results(alloc, most, rest),
+    )?;
     Ok((Stmt::Call(callee, args, results), rest))
 }
 
@@ -218,8 +221,8 @@ fn intro<'t, 'a>(
 {
     let rest = word(tokens, b"intro")?;
     let (target, rest) = name(alloc, rest)?;
-    let rest = sign(rest, b":=")?;
-    let (value, rest) = ended_expr(alloc, new, most, rest)?;
+    let (target, rest) = beside(target, sign(rest, b":="))?;
+    let (target, (value, rest)) = beside(target, ended_expr(alloc, new, most, rest))?;
     Ok((Stmt::Intro(target, value), rest))
 }
 
@@ -234,9 +237,8 @@ fn spawn<'t, 'a>(
 {
     let rest = word(tokens, b"spawn")?;
     let (callee, rest) = name(alloc, rest)?;
-    let (args, rest) = args(alloc, new, most, rest)?;
-    let rest = sign(rest, b";")?;
-    Ok((Stmt::Spawn(callee, args), rest))
+    let (callee, (args, rest)) = beside(callee, args(alloc, new, most, rest))?;
+    beside(Stmt::Spawn(callee, args), sign(rest, b";"))
 }
 
 // ---- statements with statements
@@ -271,6 +273,23 @@ pub fn stmt<'t, 'a>(
     }
 }
 
+/// Two blocks with `else` between.
+#[cycle(stmt)]
+#[tactic(auto, unfolding(civl_phrases::specs::Reader::both, civl_phrases::specs::Reader::after))]
+fn branches<'t, 'a>(
+    alloc: Global,
+    new: bool,
+    most: usize,
+    tokens: &'t [Token<'a>],
+) -> Result<((List<Stmt>, List<Stmt>), &'t [Token<'a>]), Halt>
+    ensures { Gives (λ x. (x.0, spelled x.1.now)) result (both (block_at new most (inner_stmt new most)) (λ _. after (Reserved (codes "else")) (block_at new most (inner_stmt new most))) (spelled tokens.now)) }
+{
+    let (first, rest) = block(alloc, new, most, tokens)?;
+    let (first, rest) = beside(first, word(rest, b"else"))?;
+    let (first, (second, rest)) = beside(first, block(alloc, new, most, rest))?;
+    Ok(((first, second), rest))
+}
+
 #[cycle(stmt)]
 #[tactic(auto, unfolding(crate::specs::readers::Stmts::if_at, civl_phrases::specs::Reader::mapped, civl_phrases::specs::Reader::both, civl_phrases::specs::Reader::after))]
 fn if_stmt<'t, 'a>(
@@ -283,9 +302,7 @@ fn if_stmt<'t, 'a>(
 {
     let rest = word(tokens, b"if")?;
     let (test, rest) = expr(alloc, new, most, rest)?;
-    let (first, rest) = block(alloc, new, most, rest)?;
-    let rest = word(rest, b"else")?;
-    let (second, rest) = block(alloc, new, most, rest)?;
+    let (test, ((first, second), rest)) = beside(test, branches(alloc, new, most, rest))?;
     Ok((Stmt::If(test, first, second), rest))
 }
 
@@ -320,7 +337,7 @@ fn plain_loop<'t, 'a>(
     ensures { Gives (λ x. (x.0, spelled x.1.now)) result (mapped of_loop (plain_loop_at new most (inner_stmt new most)) (spelled tokens.now)) }
 {
     let (test, rest) = expr(alloc, new, most, tokens)?;
-    let (body, rest) = block(alloc, new, most, rest)?;
+    let (test, (body, rest)) = beside(test, block(alloc, new, most, rest))?;
     Ok((Stmt::While(test, body), rest))
 }
 
@@ -336,7 +353,7 @@ fn yield_loop<'t, 'a>(
 {
     let rest = word(tokens, b"yield")?;
     let (test, rest) = expr(alloc, new, most, rest)?;
-    let ((inv, body), rest) = inv_body(alloc, new, most, rest)?;
+    let (test, ((inv, body), rest)) = beside(test, inv_body(alloc, new, most, rest))?;
     Ok((Stmt::YieldLoop(test, inv, body), rest))
 }
 
@@ -352,7 +369,7 @@ fn rank_loop<'t, 'a>(
 {
     let rest = word(tokens, b"rank")?;
     let (test, rest) = expr(alloc, new, most, rest)?;
-    let ((rank, (inv, body)), rest) = by_body(alloc, new, most, rest)?;
+    let (test, ((rank, (inv, body)), rest)) = beside(test, by_body(alloc, new, most, rest))?;
     Ok((Stmt::RankLoop(test, rank, inv, body), rest))
 }
 
@@ -369,7 +386,7 @@ fn by_body<'t, 'a>(
 {
     let rest = word(tokens, b"by")?;
     let (rank, rest) = expr(alloc, new, most, rest)?;
-    let (inv_body, rest) = inv_body(alloc, new, most, rest)?;
+    let (rank, (inv_body, rest)) = beside(rank, inv_body(alloc, new, most, rest))?;
     Ok(((rank, inv_body), rest))
 }
 
@@ -386,7 +403,7 @@ fn inv_body<'t, 'a>(
 {
     let rest = word(tokens, b"inv")?;
     let (inv, rest) = expr(alloc, new, most, rest)?;
-    let (body, rest) = block(alloc, new, most, rest)?;
+    let (inv, (body, rest)) = beside(inv, block(alloc, new, most, rest))?;
     Ok(((inv, body), rest))
 }
 
@@ -402,8 +419,7 @@ fn block<'t, 'a>(
 {
     let rest = open_bracket(tokens, b"{", most)?;
     let (body, rest) = stmts(alloc, new, most, rest)?;
-    let rest = sign(rest, b"}")?;
-    Ok((body, rest))
+    beside(body, sign(rest, b"}"))
 }
 
 /// Statements within the next bracket: a list in a recursion has a loop of its own.

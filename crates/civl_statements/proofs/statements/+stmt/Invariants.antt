@@ -10,6 +10,9 @@ decreases-stmt l = 8 * l.most + 7
 abbrev pub decreases-if_stmt : goal.decreases-if_stmt
 decreases-if_stmt l = 8 * l.most + 6
 
+abbrev pub decreases-branches : goal.decreases-branches
+decreases-branches l = 8 * l.most + 3
+
 abbrev pub decreases-while_stmt : goal.decreases-while_stmt
 decreases-while_stmt l = 8 * l.most + 6
 
