@@ -14,7 +14,7 @@ use civl_lex::Token;
 use civl_phrases::{
     Halt, Headed, Phrase, commas, is_word, many, name_next, not_here, number, sign, word, word_next,
 };
-use civl_tree::{Action, Choice, Expr, List, Mover, Sort, Update};
+use civl_tree::{Action, Choice, Expr, List, Mover, Sort, Update, beside};
 use std::alloc::Global;
 
 /// The sort of a choice and what it offers, behind its name.
@@ -44,7 +44,7 @@ fn choice<'t, 'a>(
     ensures { Gives (λ x. (x.0, spelled x.1.now)) result (choice_at new most (spelled tokens.now)) }
 {
     let (name, rest) = name(alloc, tokens)?;
-    let ((sort, offer), rest) = sort_and_offer(alloc, new, most, rest)?;
+    let (name, ((sort, offer), rest)) = beside(name, sort_and_offer(alloc, new, most, rest))?;
     Ok((Choice { name, sort, offer }, rest))
 }
 
@@ -100,8 +100,8 @@ fn update<'t, 'a>(
     ensures { Gives (λ x. (x.0, spelled x.1.now)) result (update_at new most (spelled tokens.now)) }
 {
     let (target, rest) = name(alloc, tokens)?;
-    let rest = sign(rest, b":=")?;
-    let (expr, rest) = ended_expr(alloc, new, most, rest)?;
+    let (target, rest) = beside(target, sign(rest, b":="))?;
+    let (target, (expr, rest)) = beside(target, ended_expr(alloc, new, most, rest))?;
     Ok((Update { target, expr }, rest))
 }
 
@@ -152,8 +152,7 @@ fn updates<'t, 'a>(
         },
         rest,
     )?;
-    let rest = sign(rest, b"}")?;
-    Ok((updates, rest))
+    beside(updates, sign(rest, b"}"))
 }
 
 fn mover_of(token: &Token<'_>) -> Option<Mover>
@@ -229,8 +228,8 @@ fn read_offer<'t, 'a>(
 {
     let rest = word(tokens, b"choose")?;
     let (choices, rest) = choices(alloc, new, most, rest)?;
-    let ((first, last), rest) = range(rest)?;
-    let (mover, rest) = mover(rest)?;
+    let (choices, ((first, last), rest)) = beside(choices, range(rest))?;
+    let (choices, (mover, rest)) = beside(choices, mover(rest))?;
     let offer = Offer {
         choices,
         first,
@@ -252,7 +251,7 @@ fn guard_and_updates<'t, 'a>(
 {
     let rest = word(tokens, b"guard")?;
     let (guard, rest) = expr(alloc, new, most, rest)?;
-    let (updates, rest) = updates(alloc, new, most, rest)?;
+    let (guard, (updates, rest)) = beside(guard, updates(alloc, new, most, rest))?;
     Ok(((guard, updates), rest))
 }
 
@@ -267,7 +266,7 @@ fn read_effect<'t, 'a>(
 {
     let rest = word(tokens, b"gate")?;
     let (gate, rest) = expr(alloc, new, most, rest)?;
-    let ((guard, updates), rest) = guard_and_updates(alloc, new, most, rest)?;
+    let (gate, ((guard, updates), rest)) = beside(gate, guard_and_updates(alloc, new, most, rest))?;
     Ok((
         Effect {
             gate,
@@ -323,8 +322,11 @@ fn action<'t, 'a>(
     ensures { Gives (λ x. (x.0, spelled x.1.now)) result (action_at new most (spelled tokens.now)) }
 {
     let (heading, rest) = read_heading(alloc, b"action", most, tokens)?;
-    let (offer, rest) = read_offer(alloc, new, most, rest)?;
-    let (effect, rest) = read_effect(alloc, new, most, rest)?;
+    let (heading, (offer, rest)) = beside(heading, read_offer(alloc, new, most, rest))?;
+    let ((heading, offer), (effect, rest)) = beside(
+        (heading, offer),
+        read_effect(alloc, new, most, rest),
+    )?;
     Ok((action_of(heading, offer, effect), rest))
 }
 

@@ -10,7 +10,7 @@ use crate::actions::range;
 use civl_expressions::{args, ended_expr, name, sort};
 use civl_lex::Token;
 use civl_phrases::{Halt, Headed, Phrase, number, sign, word, word_flag, word_next};
-use civl_tree::{Expr, Global as GlobalItem, Invariant, Sort, Thread};
+use civl_tree::{Expr, Global as GlobalItem, Invariant, Sort, Thread, beside};
 use std::alloc::Global;
 
 /// The sort and the layers of a global, behind its name, up to the semicolon.
@@ -45,7 +45,7 @@ fn global<'t, 'a>(
     let rest = word(tokens, b"global")?;
     let (linear, rest) = word_flag(rest, b"linear");
     let (name, rest) = name(alloc, rest)?;
-    let ((sort, (first, last)), rest) = sort_and_layers(most, rest)?;
+    let (name, ((sort, (first, last)), rest)) = beside(name, sort_and_layers(most, rest))?;
     let global = GlobalItem {
         linear,
         name,
@@ -158,9 +158,8 @@ fn thread<'t, 'a>(
 {
     let rest = word(tokens, b"thread")?;
     let (callee, rest) = name(alloc, rest)?;
-    let (args, rest) = args(alloc, new, most, rest)?;
-    let rest = sign(rest, b";")?;
-    Ok((Thread { callee, args }, rest))
+    let (callee, (args, rest)) = beside(callee, args(alloc, new, most, rest))?;
+    beside(Thread { callee, args }, sign(rest, b";"))
 }
 
 /// Threads, where `most` more brackets may be open. `new` says that the version is 2.

@@ -15,7 +15,7 @@ use civl_phrases::{
     Halt, Headed, Phrase, commas, is_word, name_next, not_here, number, sign, sign_next, word,
     word_next,
 };
-use civl_tree::{Entry, List, Literal, Name, Told};
+use civl_tree::{Entry, List, Literal, Name, Told, beside};
 use std::alloc::Global;
 
 // ---- literals
@@ -152,8 +152,7 @@ fn given_value<'t, 'a>(
 {
     let rest = sign(tokens, b"=")?;
     let (value, rest) = read_value(alloc, most, rest)?;
-    let rest = sign(rest, b";")?;
-    Ok((value, rest))
+    beside(value, sign(rest, b";"))
 }
 
 #[tactic(auto, unfolding(crate::specs::readers::Steps::entry_at, civl_phrases::specs::Reader::mapped, civl_phrases::specs::Reader::both))]
@@ -165,7 +164,7 @@ fn entry<'t, 'a>(
     ensures { Gives (λ x. (x.0, spelled x.1.now)) result (entry_at most (spelled tokens.now)) }
 {
     let (name, rest) = name(alloc, tokens)?;
-    let (value, rest) = given_value(alloc, most, rest)?;
+    let (name, (value, rest)) = beside(name, given_value(alloc, most, rest))?;
     Ok((entry_of(name, value), rest))
 }
 
@@ -262,8 +261,7 @@ fn step<'t, 'a>(
     let rest = word(tokens, b"move")?;
     let (thread, rest) = number(rest)?;
     let (choices, rest) = chosens(alloc, most, rest)?;
-    let rest = sign(rest, b";")?;
-    Ok((Told { thread, choices }, rest))
+    beside(Told { thread, choices }, sign(rest, b";"))
 }
 
 /// Steps of a schedule, where `most` more brackets may be open.
