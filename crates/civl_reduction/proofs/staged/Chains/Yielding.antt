@@ -24,7 +24,7 @@ use Rattle.civl_meaning.specs.Change.{change_of, outs_in}
 use Rattle.civl_meaning.specs.Step.{thread_after, state_after, config_after, step_with, step_in, step_of}
 use Rattle.civl_meaning.specs.Failing.{IsMove}
 use Rattle.civl_meaning.specs.Layers.{program_at}
-use Rattle.civl_meaning.specs.Config.{ThreadIsSorted, IsStacked}
+use Rattle.civl_meaning.specs.Config.{ThreadIsSorted, IsStacked, moved_frame}
 use Rattle.civl_meaning.proofs.Rests.{spot_of_rest}
 use Rattle.civl_soundness.proofs.Fitting.{all_at}
 use Rattle.civl_layers.specs.declared.cut.Cut.{Cut}
@@ -37,7 +37,6 @@ use Rattle.civl_reduction.proofs.permissions.Staying.{IsKept}
 use Rattle.civl_reduction.specs.checked.Checked.{ActionsKeepPermissions, SpawnsAreInRoots}
 use Rattle.civl_reduction.specs.blocks.Blocks.{at_yield, frame_of_layer, rest_of}
 use Rattle.civl_reduction.specs.open_blocks.Following.{layer_head}
-use Rattle.civl_reduction.specs.open_blocks.Following as following
 use Rattle.civl_reduction.specs.open_blocks.Open.{IsTopmost, IsOpen, OpensInLoop, beginning}
 use Rattle.civl_reduction.proofs.open_blocks.Open.Opening.{blocks_open_in_loops}
 use Rattle.civl_reduction.specs.blocks.Cuts.{frame_in, frame_at, settled}
@@ -123,7 +122,7 @@ module _ (keep : ActionsKeepPermissions) (in_roots : SpawnsAreInRoots) (program 
     stays = ap (λ (x : Config). x.store) same
 
     abbrev frame : Activation
-    frame = following.frame_at f.1 f.1.locals in_loop.0
+    frame = moved_frame f.1 f.1.locals in_loop.0
 
     abbrev new : Running
     new = record { callee = thread.callee; args = thread.args; state = Inside top.below frame }

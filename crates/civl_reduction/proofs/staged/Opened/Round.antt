@@ -29,7 +29,7 @@ use Rattle.civl_meaning.specs.Change.{change_of, state_change, proc_change, spot
 use Rattle.civl_meaning.specs.Step.{thread_after, state_after, config_after, step_with, step_of}
 use Rattle.civl_meaning.specs.Failing.{IsMove}
 use Rattle.civl_meaning.specs.Layers.{program_at}
-use Rattle.civl_meaning.specs.Config.{IsStack, StateIsStacked}
+use Rattle.civl_meaning.specs.Config.{IsStack, StateIsStacked, moved_frame}
 use Rattle.civl_meaning.proofs.Rests.{spot_of_rest}
 use Rattle.civl_layers.specs.declared.cut.Cut.{Cut}
 use Rattle.civl_layers.specs.declared.cut.CutKind.TheVariants as kind
@@ -52,7 +52,6 @@ use Rattle.civl_reduction.specs.open_blocks.Following.{layer_head, head_there, c
 use Rattle.civl_reduction.proofs.open_blocks.Following.Leading.{led_stays}
 use Rattle.civl_reduction.specs.open_blocks.Open.{IsTopmost, IsOpen, OpensInLoop, beginning, begun_again}
 use Rattle.civl_conditions.specs.Invariants.{invariants_hold}
-use Rattle.civl_reduction.specs.open_blocks.Following as following
 use Rattle.civl_reduction.proofs.open_blocks.Open.Going.{spot_stands, frame_sorted}
 use Rattle.civl_reduction.proofs.open_blocks.Open.Opening.{blocks_open_in_loops}
 use Rattle.civl_reduction.proofs.open_blocks.Open.Ending.{open_blocks_conclude, open_blocks_go_round}
@@ -183,7 +182,7 @@ module _ (keep : ActionsKeepPermissions) (in_roots : SpawnsAreInRoots) (program 
         goes_open keep in_roots program layer store s m d r mv e o o.f.1.locals in_loop.0 (change.Goes o.f.1.locals in_loop.0)
         (ap (λ (z : State). record { callee = o.thread.callee; args = o.thread.args; state = state_after z (change.Goes o.f.1.locals in_loop.0) }) (top keep in_roots program layer store s m d r mv e o).is) (ap (λ (c : Config). c.threads) same)
         end there (begun_again o.b H again.0) (n + 1) (record { place = in_loop.0; state = beginning (begun_again o.b H again.0) })
-        (subst (λ (z : Store). IsOpen program (layer + 1) o.f.1.procedure end o.f.0 there (begun_again o.b H again.0) (n + 1) (record { place = in_loop.0; state = beginning (begun_again o.b H again.0) }) z (following.frame_at o.f.1 o.f.1.locals in_loop.0)) (sym stays) in_loop.2)
+        (subst (λ (z : Store). IsOpen program (layer + 1) o.f.1.procedure end o.f.0 there (begun_again o.b H again.0) (n + 1) (record { place = in_loop.0; state = beginning (begun_again o.b H again.0) }) z (moved_frame o.f.1 o.f.1.locals in_loop.0)) (sym stays) in_loop.2)
         refl
         (ap (λ (z : Store). record { store = z; locals = H.locals; done = H.done; again = false }) (o.store ∙ ap (λ (z : Store). merged program layer z s.shadow.store) (sym stays))
         ∙ (ap (λ (ls : List Value). record { store = merged program layer d.store s.shadow.store; locals = ls; done = H.done; again = false }) same_locals

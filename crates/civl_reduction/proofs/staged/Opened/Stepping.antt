@@ -25,7 +25,7 @@ use Rattle.civl_meaning.specs.Change.{change_of, layer_change}
 use Rattle.civl_meaning.specs.Step.{thread_after, state_after, step_with, step_in, step_of}
 use Rattle.civl_meaning.specs.Failing.{IsMove}
 use Rattle.civl_meaning.specs.Layers.{program_at}
-use Rattle.civl_meaning.specs.Config.{ThreadIsSorted, IsStacked}
+use Rattle.civl_meaning.specs.Config.{ThreadIsSorted, IsStacked, moved_frame}
 use Rattle.civl_layers.specs.declared.cut.Cut.{Cut}
 use Rattle.civl_soundness.proofs.Fitting.{all_at}
 use Rattle.civl_conditions.specs.paths.Runs.{Standing}
@@ -34,7 +34,6 @@ use Rattle.civl_conditions.specs.Values.{Begun}
 use Rattle.civl_reduction.specs.checked.Checked.{ActionsKeepPermissions, SpawnsAreInRoots}
 use Rattle.civl_reduction.specs.blocks.Blocks.{framed_in, frame_of_layer}
 use Rattle.civl_reduction.specs.open_blocks.Following.{layer_head, head_there, cut_ahead, led_here, frame_does}
-use Rattle.civl_reduction.specs.open_blocks.Following as following
 use Rattle.civl_reduction.specs.open_blocks.Open.{IsTopmost, IsOpen, StepStaysOpen, choosing}
 use Rattle.civl_reduction.proofs.open_blocks.Open.Going.{thread_does, open_blocks_go_on}
 use Rattle.civl_reduction.specs.blocks.Cuts.{frame_in, frame_at}
@@ -111,24 +110,24 @@ module _ (keep : ActionsKeepPermissions) (in_roots : SpawnsAreInRoots) (program 
 
   -- ---- on to another place
 
-  module _ (locals : List Value) (place : ℕ) (g : Change) (goes : thread_after o.thread g ≡ record { callee = o.thread.callee; args = o.thread.args; state = Inside top.below (following.frame_at o.f.1 locals place) }) (threads : d.threads ≡ slice_set s.config.threads m.thread (thread_after o.thread g)) where
+  module _ (locals : List Value) (place : ℕ) (g : Change) (goes : thread_after o.thread g ≡ record { callee = o.thread.callee; args = o.thread.args; state = Inside top.below (moved_frame o.f.1 locals place) }) (threads : d.threads ≡ slice_set s.config.threads m.thread (thread_after o.thread g)) where
     abbrev new : Running
-    new = record { callee = o.thread.callee; args = o.thread.args; state = Inside top.below (following.frame_at o.f.1 locals place) }
+    new = record { callee = o.thread.callee; args = o.thread.args; state = Inside top.below (moved_frame o.f.1 locals place) }
 
     there_now : slice_get d.threads m.thread ≡ Some new
     there_now = ap (λ (ts : List Running). slice_get ts m.thread) threads ∙ (set_same s.config.threads m.thread o.thread (thread_after o.thread g) o.there ∙ ap (λ (x : Running). Some x) goes)
 
-    framed_now : frame_of_layer program (layer + 1) new ≡ Some (o.f.0, following.frame_at o.f.1 locals place)
-    framed_now = framed_there program (layer + 1) (following.frame_at o.f.1 locals place) o.f.0 (record { there = top.of.there; refines = top.of.refines; refined = top.of.refined; layered = top.of.layered })
+    framed_now : frame_of_layer program (layer + 1) new ≡ Some (o.f.0, moved_frame o.f.1 locals place)
+    framed_now = framed_there program (layer + 1) (moved_frame o.f.1 locals place) o.f.0 (record { there = top.of.there; refines = top.of.refines; refined = top.of.refined; layered = top.of.layered })
 
     -- where the path goes on with the store of the configuration, with the shadow's values
-    pub goes_open : (c : ℕ) (cut : Cut) (b : Begun) (bound : ℕ) (here : Standing) → IsOpen program (layer + 1) o.f.1.procedure c o.f.0 cut b bound here d.store (following.frame_at o.f.1 locals place)
+    pub goes_open : (c : ℕ) (cut : Cut) (b : Begun) (bound : ℕ) (here : Standing) → IsOpen program (layer + 1) o.f.1.procedure c o.f.0 cut b bound here d.store (moved_frame o.f.1 locals place)
         → here.place ≡ place → bare here.state ≡ record { store = merged program layer d.store s.shadow.store; locals = locals; done = s.shadow.done m.thread; again = false } → b.old ≡ o.b.old
         → ((u : ℕ) (q : Proc × Activation) (y : ℕ) (other : Cut) → u ≢ m.thread → frame_at program (layer + 1) s.config.threads u ≡ Some q → StandsAt program (layer + 1) q y other
         → IsTrue (pairwise_disjoint (owned program o.f.0 c b ++ of_held (held_at program q.0 y) q.1.locals)))
         → (says : Proc → List Value → Store → Bool → List Value → Type 0) → BegunSo says o.f.0 b → LeavesSo says program layer s.config (stepped program layer s m d) m.thread
     goes_open c cut b bound here opened at state was apart says so =
-        leaves_open keep program layer store s m d r mv e (Some o.f) now o.b.old o.calm o.fits new there_now o.f.0 (following.frame_at o.f.1 locals place) framed_now c cut b bound here opened at state was apart says so
+        leaves_open keep program layer store s m d r mv e (Some o.f) now o.b.old o.calm o.fits new there_now o.f.0 (moved_frame o.f.1 locals place) framed_now c cut b bound here opened at state was apart says so
 
   -- ---- a step before no cut
 
@@ -186,7 +185,7 @@ module _ (keep : ActionsKeepPermissions) (in_roots : SpawnsAreInRoots) (program 
           let same = sym (ap (λ (z : Stepped × Config). z.1) x) in
           goes_open locals place (change.Goes locals place) (after_is (change.Goes locals place)) (ap (λ (c : Config). c.threads) same)
           o.c o.cut (choosing o.b on.chosen) on.later on.next
-          (subst (λ (z : Store). IsOpen program (layer + 1) o.f.1.procedure o.c o.f.0 o.cut (choosing o.b on.chosen) on.later on.next z (following.frame_at o.f.1 locals place)) (sym (ap (λ (c : Config). c.store) same)) on.opened)
+          (subst (λ (z : Store). IsOpen program (layer + 1) o.f.1.procedure o.c o.f.0 o.cut (choosing o.b on.chosen) on.later on.next z (moved_frame o.f.1 locals place)) (sym (ap (λ (c : Config). c.store) same)) on.opened)
           on.place
           (ap bare on.state ∙ (ap (λ (z : Store). record { store = z; locals = locals; done = H_done; again = false }) (o.store ∙ ap (λ (z : Store). merged program layer z s.shadow.store) (sym (ap (λ (c : Config). c.store) same))) ∙ ap (λ (b : Bool). record { store = merged program layer d.store s.shadow.store; locals = locals; done = b; again = false }) o.done))
           refl o.apart says so
@@ -194,14 +193,14 @@ module _ (keep : ActionsKeepPermissions) (in_roots : SpawnsAreInRoots) (program 
           H_done : Bool
           H_done = (led_here program (layer + 1) o.f.0 o.here).done
 
-          after_is : (g : Change) → thread_after o.thread (change.Goes locals place) ≡ record { callee = o.thread.callee; args = o.thread.args; state = Inside top.below (following.frame_at o.f.1 locals place) }
+          after_is : (g : Change) → thread_after o.thread (change.Goes locals place) ≡ record { callee = o.thread.callee; args = o.thread.args; state = Inside top.below (moved_frame o.f.1 locals place) }
           after_is g = ap (λ (x : State). record { callee = o.thread.callee; args = o.thread.args; state = state_after x (change.Goes locals place) }) top.is
       by_change (change.Acts after locals place) is fine x on =
           let same = sym (ap (λ (z : Stepped × Config). z.1) x) in
           let inner_is : on.0 ≡ merged program layer after s.shadow.store = acts_there after on.0 locals locals place place is (inner_does on.0 on.1) in
           goes_open locals place (change.Acts after locals place) (ap (λ (x : State). record { callee = o.thread.callee; args = o.thread.args; state = state_after x (change.Acts after locals place) }) top.is) (ap (λ (c : Config). c.threads) same)
           o.c o.cut (choosing o.b on.2.chosen) on.2.later on.2.next
-          (subst (λ (z : Store). IsOpen program (layer + 1) o.f.1.procedure o.c o.f.0 o.cut (choosing o.b on.2.chosen) on.2.later on.2.next z (following.frame_at o.f.1 locals place)) (sym (ap (λ (c : Config). c.store) same)) on.2.opened)
+          (subst (λ (z : Store). IsOpen program (layer + 1) o.f.1.procedure o.c o.f.0 o.cut (choosing o.b on.2.chosen) on.2.later on.2.next z (moved_frame o.f.1 locals place)) (sym (ap (λ (c : Config). c.store) same)) on.2.opened)
           on.2.place
           (ap bare on.2.state ∙ (ap (λ (z : Store). record { store = z; locals = locals; done = (led_here program (layer + 1) o.f.0 o.here).done; again = false }) (inner_is ∙ ap (λ (z : Store). merged program layer z s.shadow.store) (sym (ap (λ (c : Config). c.store) same))) ∙ ap (λ (b : Bool). record { store = merged program layer d.store s.shadow.store; locals = locals; done = b; again = false }) o.done))
           refl o.apart says so
