@@ -106,25 +106,6 @@ fn put_other(
     Ok(())
 }
 
-/// Behind what stands there the printed name of a goal.
-#[tactic(auto, unfolding(crate::specs::Names::goal_text))]
-fn put_goal(out: &mut Vec<u8>, program: &Program, goal: &Goal) -> Result<(), Memory>
-    ensures { OnOk result (out.new.items ≡ out.old.items ++ goal_text program.now goal.now) }
-{
-    match *goal {
-        Goal::Invariant => put(out, b"O1 invariant"),
-        Goal::Thread(number) => put_thread(out, number),
-        Goal::Linear(action) => put_linear(out, program, action),
-        Goal::Safe(proc, statement) => put_of(out, b"O2 safe ", program, proc, statement),
-        Goal::Keep(proc, statement) => put_of(out, b"O2 invariant ", program, proc, statement),
-        Goal::Spawn(proc, statement) => put_of(out, b"O2 spawn ", program, proc, statement),
-        Goal::Next(proc, statement) => put_of(out, b"O2 next ", program, proc, statement),
-        Goal::Other(proc, statement, other, at) => {
-            put_other(out, program, (proc, statement), (other, at))
-        }
-    }
-}
-
 /// The printed name of a goal: `O1 invariant`, `O1 thread` with the thread's number, `O1 linear` with the action's name; `O2`
 /// with `safe`, `invariant`, `spawn` or `next`, the root's name, `at` and the statement's number; `O3` with a root, `at` and a
 /// number, `keeps` and another root, `at` and a number. Where a number is of no action or procedure, its name is empty.
@@ -132,10 +113,25 @@ fn put_goal(out: &mut Vec<u8>, program: &Program, goal: &Goal) -> Result<(), Mem
 /// # Errors
 ///
 /// For want of memory.
+#[tactic(auto, unfolding(crate::specs::Names::goal_text))]
 pub fn goal_name(alloc: Global, src: &Layered, goal: &Goal) -> Result<Vec<u8>, Memory>
     ensures { IfOk result (λ text. text.items ≡ goal_text src.now goal.now) }
 {
+    let program = program(src);
     let mut out = Vec::new(alloc);
-    put_goal(&mut out, program(src), goal)?;
+    match *goal {
+        Goal::Invariant => put(&mut out, b"O1 invariant")?,
+        Goal::Thread(number) => put_thread(&mut out, number)?,
+        Goal::Linear(action) => put_linear(&mut out, program, action)?,
+        Goal::Safe(proc, statement) => put_of(&mut out, b"O2 safe ", program, proc, statement)?,
+        Goal::Keep(proc, statement) => {
+            put_of(&mut out, b"O2 invariant ", program, proc, statement)?
+        }
+        Goal::Spawn(proc, statement) => put_of(&mut out, b"O2 spawn ", program, proc, statement)?,
+        Goal::Next(proc, statement) => put_of(&mut out, b"O2 next ", program, proc, statement)?,
+        Goal::Other(proc, statement, other, at) => {
+            put_other(&mut out, program, (proc, statement), (other, at))?
+        }
+    }
     Ok(out)
 }
