@@ -3,67 +3,15 @@
 ghost use Rattle.std.specs.Prelude.{◌<◌, ℕ, All};
 ghost use Rattle.std.specs.List.Sorted.{IsStrictlyIncreasing};
 
-use crate::replays::ADDITIONS;
+use crate::runs::{begun, moves_of, plain};
 use civl_bits::{Value, Word};
-use civl_lex::tokens;
-use civl_meaning::{Config, Move, Plain, Store, start};
-use civl_parser::parse;
+use civl_meaning::{Config, Move, Plain};
 use civl_reduction::{Swapped, swap, to_front};
 use civl_tree::List;
 use std::alloc::Global;
-use std::test::Fail;
-
-/// The first thread's action makes the second's gate false.
-const CLEARING: &str = "civl 1; layers 1; permissions 1;
-global f : bool layers 0 to 1;
-init true;
-action Clear() -> () choose () layers 0 to 1 right gate true guard true { f := false; }
-action Need() -> () choose () layers 0 to 1 atomic gate f guard true { }
-proc A() -> () root { call Clear() -> (); }
-proc B() -> () root { call Need() -> (); }
-thread A();
-thread B();
-";
 
 /// The first thread loads 0; the second adds twice, and gets 2; the first stores 1, and the second asserts.
 const LATE_STORE: [u32; 14] = [0, 0, 0, 1, 1, 1, 1, 1, 1, 1, 1, 1, 0, 1];
-
-/// The program in which each of the procedures means its body.
-fn lowest(alloc: Global, text: &str, procedures: usize) -> Result<Plain, Fail> {
-    let tokens = tokens(alloc, text.as_bytes())?;
-    let program = parse(alloc, tokens.as_slice())?;
-    let bodies = List::from_vec(Vec::from_elem(alloc, true, procedures)?);
-    Ok(Plain { program, bodies })
-}
-
-/// The start of a program with one global.
-fn begun(alloc: Global, plain: &Plain, value: Value) -> Result<Config, Fail> {
-    let store = Store {
-        values: List::from_vec([value].to_vec(alloc)?),
-    };
-    let config = start(alloc, plain, &store)?;
-    Ok(config)
-}
-
-/// The number that the threads add to.
-fn zero() -> Value {
-    match Word::new(8, 0) {
-        Some(word) => Value::Word(word),
-        None => Value::Bool(false),
-    }
-}
-
-/// A move of each of these threads, with no choices.
-fn moves_of(alloc: Global, threads: &[u32]) -> Result<List<Move>, Fail> {
-    let mut moves = Vec::new(alloc);
-    for thread in threads {
-        moves.push(Move {
-            thread: *thread,
-            choices: List::new(alloc),
-        })?;
-    }
-    Ok(List::from_vec(moves))
-}
 
 /// Whether the moves are of these threads.
 fn are_of(moves: &List<Move>, threads: &[u32]) -> bool {
@@ -112,13 +60,13 @@ fn swaps(
     threads: &[u32],
     place: usize,
     wanted: Wanted<'_>,
-) -> Result<bool, Fail> {
+) -> Option<bool> {
     let moves = moves_of(alloc, threads)?;
     if from.threads.len() > 9 || moves.len() > 99 || place > 99 || place + 1 >= moves.len() {
-        return Ok(false);
+        return Some(false);
     }
-    let answer = swap(alloc, plain, from, &moves, place)?;
-    Ok(is_wanted(&answer, wanted))
+    let answer = swap(alloc, plain, from, &moves, place).ok()?;
+    Some(is_wanted(&answer, wanted))
 }
 
 /// Whether bringing the moves at these places to the front is what is wanted.
@@ -129,67 +77,76 @@ fn fronts(
     threads: &[u32],
     chosen: &List<usize>,
     wanted: Wanted<'_>,
-) -> Result<bool, Fail>
+) -> Option<bool>
     requires rising { IsStrictlyIncreasing chosen.now }
     requires exist { All (λ (place : ℕ). place < 14) chosen.now }
 {
     let moves = moves_of(alloc, threads)?;
     if from.threads.len() > 9 || moves.len() != 14 {
-        return Ok(false);
+        return Some(false);
     }
-    let answer = to_front(alloc, plain, from, &moves, chosen)?;
-    Ok(is_wanted(&answer, wanted))
+    let answer = to_front(alloc, plain, from, &moves, chosen).ok()?;
+    Some(is_wanted(&answer, wanted))
 }
 
 /// Loading goes before the second thread's first step, and storing doesn't go behind its assert.
-fn neighbours(alloc: Global, plain: &Plain, from: &Config) -> Result<bool, Fail> {
+fn neighbours(alloc: Global, plain: &Plain, from: &Config) -> Option<bool> {
     let loaded = [0, 0, 1, 0, 1, 1, 1, 1, 1, 1, 1, 1, 0, 1];
-    let same = swaps(alloc, plain, from, &LATE_STORE, 2, Wanted::Same(&loaded))?;
-    let differs = swaps(alloc, plain, from, &LATE_STORE, 12, Wanted::Differs(12))?;
-    Ok(same && differs)
+    let is_same = swaps(alloc, plain, from, &LATE_STORE, 2, Wanted::Same(&loaded))?;
+    let is_other = swaps(alloc, plain, from, &LATE_STORE, 12, Wanted::Differs(12))?;
+    Some(is_same && is_other)
 }
 
-/// The second thread's steps up to its load go to the front, and its store doesn't.
-fn fronted(alloc: Global, plain: &Plain, from: &Config) -> Result<bool, Fail> {
+/// The second thread's steps up to its load go to the front.
+fn fronted(alloc: Global, plain: &Plain, from: &Config) -> Option<bool> {
     let first = [1, 1, 1, 0, 0, 0, 1, 1, 1, 1, 1, 1, 0, 1];
-    let three = List::from_vec([3, 4, 5].to_vec(alloc)?);
-    let same = fronts(
+    let three = List::from_vec([3, 4, 5].to_vec(alloc).ok()?);
+    fronts(
         alloc,
         plain,
         from,
         &LATE_STORE,
         &three,
         Wanted::Same(&first),
-    )?;
-    let four = List::from_vec([3, 4, 5, 6].to_vec(alloc)?);
-    let differs = fronts(alloc, plain, from, &LATE_STORE, &four, Wanted::Differs(5))?;
-    Ok(same && differs)
+    )
 }
 
-#[test]
-fn moves_of_additions(rt: HostRuntime) -> Result<(), Fail> {
-    let plain = lowest(rt.alloc(), ADDITIONS, 3)?;
-    let from = begun(rt.alloc(), &plain, zero())?;
-    let near = neighbours(rt.alloc(), &plain, &from)?;
-    assert!(rt; near);
-    let front = fronted(rt.alloc(), &plain, &from)?;
-    assert!(rt; front);
-    Ok(())
+/// Its store doesn't.
+fn kept_behind(alloc: Global, plain: &Plain, from: &Config) -> Option<bool> {
+    let four = List::from_vec([3, 4, 5, 6].to_vec(alloc).ok()?);
+    fronts(alloc, plain, from, &LATE_STORE, &four, Wanted::Differs(5))
 }
 
-#[test]
-fn failing_before_an_exchange(rt: HostRuntime) -> Result<(), Fail> {
-    let plain = lowest(rt.alloc(), CLEARING, 2)?;
-    let from = begun(rt.alloc(), &plain, Value::Bool(true))?;
-    // A is called, B is called and needs the flag, and A clears it.
-    let fails = swaps(
-        rt.alloc(),
-        &plain,
-        &from,
-        &[0, 1, 1, 0],
-        2,
-        Wanted::Fails(&[0, 1, 0]),
-    )?;
-    assert!(rt; fails);
-    Ok(())
+/// All of these.
+fn all_exchanged(alloc: Global, plain: &Plain, from: &Config) -> Option<bool> {
+    let is_near = neighbours(alloc, plain, from)?;
+    let is_front = fronted(alloc, plain, from)?;
+    let is_behind = kept_behind(alloc, plain, from)?;
+    Some(is_near && is_front && is_behind)
+}
+
+/// The same of the program's start.
+fn exchanged_from_start(alloc: Global, plain: &Plain) -> Option<bool> {
+    let zero = Word::new(8, 0)?;
+    let from = begun(alloc, plain, Value::Word(zero))?;
+    all_exchanged(alloc, plain, &from)
+}
+
+/// Exchanges in a program of two threads that add to one number.
+pub(crate) fn moves_of_additions(alloc: Global, text: &str) -> Option<bool> {
+    let plain = plain(alloc, text, true, 3)?;
+    exchanged_from_start(alloc, &plain)
+}
+
+/// A is called, B is called and needs the flag, and A clears it.
+fn fails_before(alloc: Global, plain: &Plain) -> Option<bool> {
+    let from = begun(alloc, plain, Value::Bool(true))?;
+    let fails = Wanted::Fails(&[0, 1, 0]);
+    swaps(alloc, plain, &from, &[0, 1, 1, 0], 2, fails)
+}
+
+/// The first thread's action makes the second's gate false.
+pub(crate) fn failing_before_an_exchange(alloc: Global, text: &str) -> Option<bool> {
+    let plain = plain(alloc, text, true, 2)?;
+    fails_before(alloc, &plain)
 }

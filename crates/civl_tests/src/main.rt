@@ -1,56 +1,35 @@
-//! The cookbook: of each design in data/ what `civl` answers on it, on its broken twin, and on the schedule by which the twin fails.
+//! The cookbook, and cases that programs answer: each of them shows in the output.
 //!
-//! A design is data/NAME.civl, its twin data/NAME_broken.civl. Where the twin can fail, data/NAME_broken.schedule is the rest of a
-//! script that begins with the twin's text. Each line that is written has a name and the first line of an answer, or, of a schedule,
-//! the first two.
+//! A design is data/NAME.civl, its broken twin data/NAME_broken.civl. Where the twin can fail, data/NAME_broken.schedule is the rest of a
+//! script that begins with the twin's text. Of each design there are lines on what `civl` answers on it, on its twin, and on the schedule:
+//! a name and the first line of the answer, or, of a schedule, the first two.
 //!
-//! Beside it the tests that go through a command: an input, a report and a status, devices and provers that fail, schedules.
+//! Behind them is a line on each file of cases, data/cases/NAME.cases: texts with the reports that `civl` and `civl_lift` give on them,
+//! devices and provers that fail, schedules that are lifted and replayed. How such a file is read, `cases` says. At last there are lines on
+//! calls of the crates that no command makes: exchanges of moves, and frames of threads.
 #![tactic(auto)]
 
-#[cfg(test)]
-mod certificates;
-#[cfg(test)]
-mod checks;
-#[cfg(test)]
-mod devices;
-#[cfg(test)]
+mod asking;
+mod calls;
+mod case;
+mod cases;
 mod exchanges;
-#[cfg(test)]
-mod headline;
-#[cfg(test)]
-mod liars;
-#[cfg(test)]
-mod lifts;
-#[cfg(test)]
-mod outlines;
-#[cfg(test)]
-mod parsing;
-#[cfg(test)]
-mod replays;
-#[cfg(test)]
-mod rules;
-#[cfg(test)]
-mod schedules;
-#[cfg(test)]
-mod spinlocks;
-#[cfg(test)]
-mod surveys;
-#[cfg(test)]
+mod frames;
+mod lifted;
+mod provers;
+mod runs;
 mod texts;
-#[cfg(test)]
-mod verdicts;
+mod wanted;
 
-use civl_cnf::Bits;
-use civl_command::{Status, command};
-use civl_outside::{PlainSink, PlainSource, RealSink, Sent, write_all};
-use civl_portfolio::Prover;
-use civl_provers::{Probe, Splitter};
+use asking::{asked, report_of};
+use calls::line_on_calls;
+use case::Case;
+use cases::{line, line_of};
 use std::alloc::{AllocError, Global};
-use std::process::ExitCode;
 use std::{fs, io};
 
 /// The designs, in the order of the book.
-const DESIGNS: [&str; 21] = [
+const DESIGNS: &[&str] = &[
     "tas",
     "ttas",
     "ticket_lock",
@@ -74,109 +53,174 @@ const DESIGNS: [&str; 21] = [
     "two_phase_commit",
 ];
 
-/// As many bits as a clause set within the limits can have variables.
-const BITS: u32 = 6_400_002;
+/// The files of cases.
+const CASES: &[&str] = &[
+    "words",
+    "programs",
+    "broken_rules",
+    "gates_guards_and_updates",
+    "initial_stores",
+    "procedures_threads_and_comments",
+    "first_faults",
+    "whole_texts",
+    "limits_of_brackets",
+    "limits_of_threads",
+    "limits_of_bytes",
+    "limits_of_widths_and_locals",
+    "many_globals",
+    "fronts_of_the_flag_program",
+    "printed_programs",
+    "printed_texts",
+    "rules_on_names",
+    "rules_on_sorts",
+    "rules_on_layers",
+    "rules_on_linear",
+    "rules_on_yields",
+    "rules_that_are_kept",
+    "no_budget",
+    "usual_budget",
+    "greatest_budget",
+    "flags_are_proved",
+    "reads_are_proved",
+    "refusals_come_first",
+    "texts_are_read",
+    "tokens_at_fault",
+    "scripts_at_fault",
+    "schedules_of_the_flag_program",
+    "scripts_that_do_not_fit",
+    "schedules_of_additions",
+    "schedules_of_all_statements",
+    "an_accepted_program_that_fails",
+    "a_lock_that_fails_below_alone",
+    "a_counter_that_fails_below_alone",
+    "a_cell_that_fails_below_alone",
+    "a_flag_that_fails_twice",
+    "conditions_on_actions",
+    "conditions_on_flags",
+    "lines_of_surveys",
+    "a_permission_that_is_given",
+    "budgets_of_surveys",
+    "a_formula_weighs_too_much",
+    "a_survey_is_cut_short",
+    "devices_fail_under_surveys",
+    "all_conditions_of_a_spinlock",
+    "conditions_of_a_spinlock_that_fail",
+    "certificates_of_the_flag_program",
+    "a_certificate_with_a_search",
+    "certificates_of_a_spinlock",
+    "conditions_by_number",
+    "certificates_by_hand",
+    "each_read_fails",
+    "a_write_fails",
+    "rooms_are_too_small",
+    "a_trial_reads_nothing",
+    "one_liar",
+    "liars_about_a_spinlock",
+    "many_liars",
+    "scripts_are_answered",
+    "other_words_are_refused",
+    "blocks_are_gathered_and_completed",
+    "schedules_go_through_three_layers",
+    "waits_for_a_lock_are_lifted",
+    "choices_are_what_blocks_did",
+    "threads_that_are_started_are_lifted",
+    "blocks_that_go_on_are_told",
+];
 
-/// On how many variables the splitter splits.
-const DEPTH: u32 = 8;
+/// Calls that no command makes, each with the file of a program.
+const CALLS: &[(&str, &str)] = &[
+    ("moves_of_additions", "additions.civl"),
+    ("failing_before_an_exchange", "clearing.civl"),
+    ("both_programs_fail", "gated.civl"),
+    ("frames_before_and_inside_a_call", "gated.civl"),
+];
 
-/// How many bytes of a report are kept. Those of the cookbook have some hundreds.
-const ROOM: usize = 100_000;
+/// The provers of the program `civl`.
+const BOOK: Case<'static> = Case {
+    head: "provers: probe splitter",
+    row: "",
+};
 
-/// The prover whose one try is that all bits are false.
-fn probe(alloc: Global) -> Result<Probe, AllocError> {
-    let Ok(bits) = Bits::new(alloc, BITS) else {
-        return Err(AllocError);
-    };
-    let mut tries = Vec::new(alloc);
-    tries.push(bits)?;
-    Ok(Probe::new(tries))
-}
-
-/// What these words are answered, with the provers of the program `civl`.
+/// The line on these words and a text: the name, and the first lines of the answer.
 fn answer(
     alloc: Global,
-    words: &Vec<String>,
-    source: &mut PlainSource,
-    sink: &mut PlainSink,
-) -> Result<Status, AllocError> {
-    let mut provers: Vec<Box<dyn Prover>> = Vec::new(alloc);
-    provers.push(Box::new(alloc, probe(alloc)?)?)?;
-    provers.push(Box::new(alloc, Splitter::new(DEPTH))?)?;
-    Ok(command(alloc, words, source, sink, &mut provers))
+    name: &str,
+    words: &str,
+    text: &[u8],
+    lines: usize,
+) -> Result<String, AllocError> {
+    let given = asked(alloc, BOOK, words, text)?;
+    line(alloc, name, report_of(&given), lines)
 }
 
-/// The report of these words on a text.
-fn report(alloc: Global, all: &[&str], text: Vec<u8>) -> Result<Vec<u8>, AllocError> {
-    let mut words = Vec::new(alloc);
-    for word in all {
-        words.push(String::from_str(alloc, word)?)?;
+/// The line on a program.
+fn checked(rt: &HostRuntime, name: &str) -> io::Result<String> {
+    let path = format!(in rt.alloc(); "{name}.civl")?;
+    let text = fs::read(rt, path.as_str())?;
+    Ok(answer(rt.alloc(), name, "check", text.as_slice(), 1)?)
+}
+
+/// The text of a program and the schedule behind it.
+fn script(rt: &HostRuntime, program: &str, schedule: &str) -> io::Result<Vec<u8>> {
+    let mut script = fs::read(rt, program)?;
+    script.extend_from_slice(fs::read(rt, schedule)?.as_slice())?;
+    Ok(script)
+}
+
+/// The line on the schedule of a program.
+fn replayed(rt: &HostRuntime, name: &str) -> io::Result<String> {
+    let path = format!(in rt.alloc(); "{name}.civl")?;
+    let schedule = format!(in rt.alloc(); "{name}.schedule")?;
+    let script = script(rt, path.as_str(), schedule.as_str())?;
+    Ok(answer(
+        rt.alloc(),
+        schedule.as_str(),
+        "run low",
+        script.as_slice(),
+        2,
+    )?)
+}
+
+/// Writes a line that was made.
+fn put(rt: &HostRuntime, line: io::Result<String>) -> io::Result<()> {
+    let line = line?;
+    print!(rt; "{line}")
+}
+
+/// Writes the lines of a design.
+fn put_design(rt: &HostRuntime, design: &str) -> io::Result<()> {
+    let broken = format!(in rt.alloc(); "{design}_broken")?;
+    put(rt, checked(rt, design))?;
+    put(rt, checked(rt, broken.as_str()))?;
+    put(rt, replayed(rt, broken.as_str()))
+}
+
+/// Writes the lines of these designs.
+fn put_designs(rt: &HostRuntime, designs: &[&str]) -> io::Result<()> {
+    for design in designs {
+        put_design(rt, design)?;
     }
-    let mut source = PlainSource::new(text);
-    let Ok(mut sink) = PlainSink::new(alloc, ROOM) else {
-        return Err(AllocError);
-    };
-    let _status = answer(alloc, &words, &mut source, &mut sink)?;
-    sink.bytes().to_vec(alloc)
+    Ok(())
 }
 
-/// A name and the first lines of a report, in one line.
-fn line(alloc: Global, name: &str, report: &[u8], lines: usize) -> Result<Vec<u8>, AllocError> {
-    let mut line = Vec::new(alloc);
-    line.extend_from_slice(name.as_bytes())?;
-    line.extend_from_slice(b": ")?;
-    let mut left = lines;
-    for byte in report {
-        if *byte == b'\n' {
-            left = left.saturating_sub(1);
-            if left == 0 {
-                break;
-            }
-            line.extend_from_slice(b", ")?;
-        } else {
-            line.push(*byte)?;
-        }
+/// Writes the lines of these files of cases.
+fn put_cases(rt: &HostRuntime, names: &[&str]) -> io::Result<()> {
+    for name in names {
+        put(rt, line_of(rt, name))?;
     }
-    line.push(b'\n')?;
-    Ok(line)
+    Ok(())
 }
 
-/// The lines of one design.
-fn lines(rt: &HostRuntime, design: &str) -> io::Result<Vec<u8>> {
-    let alloc = rt.alloc();
-    let broken = format!(in alloc; "{design}_broken")?;
-    let schedule = format!(in alloc; "{design}_broken.schedule")?;
-    let text = fs::read(rt, format!(in alloc; "{design}.civl")?.as_str())?;
-    let twin = fs::read(rt, format!(in alloc; "{design}_broken.civl")?.as_str())?;
-    let mut script = twin.as_slice().to_vec(alloc)?;
-    script.extend_from_slice(fs::read(rt, schedule.as_str())?.as_slice())?;
-
-    let mut lines = Vec::new(alloc);
-    let right = report(alloc, &["check"], text)?;
-    lines.extend_from_slice(line(alloc, design, right.as_slice(), 1)?.as_slice())?;
-    let wrong = report(alloc, &["check"], twin)?;
-    lines.extend_from_slice(line(alloc, broken.as_str(), wrong.as_slice(), 1)?.as_slice())?;
-    let run = report(alloc, &["run", "low"], script)?;
-    lines.extend_from_slice(line(alloc, schedule.as_str(), run.as_slice(), 2)?.as_slice())?;
-    Ok(lines)
-}
-
-/// Writes the lines of all designs.
-fn book(rt: &HostRuntime) -> io::Result<Sent> {
-    let mut sink = RealSink::new(io::writer(rt));
-    for design in DESIGNS {
-        let lines = lines(rt, design)?;
-        match write_all(&mut sink, lines.as_slice()) {
-            Sent::All => {}
-            fault => return Ok(fault),
-        }
+/// Writes the lines of these calls.
+fn put_calls(rt: &HostRuntime, calls: &[(&str, &str)]) -> io::Result<()> {
+    for (name, file) in calls {
+        put(rt, line_on_calls(rt, name, file))?;
     }
-    Ok(Sent::All)
+    Ok(())
 }
 
-fn main(rt: HostRuntime) -> ExitCode {
-    match book(&rt) {
-        Ok(Sent::All) => ExitCode::from(0),
-        _ => ExitCode::from(1),
-    }
+fn main(rt: HostRuntime) -> io::Result<()> {
+    put_designs(&rt, DESIGNS)?;
+    put_cases(&rt, CASES)?;
+    put_calls(&rt, CALLS)
 }

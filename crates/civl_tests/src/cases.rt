@@ -1,0 +1,130 @@
+// Files of cases: a head, and behind each blank line a row (`Case`). A line is written on each file: how many rows it has, which all
+// hold, or the first that doesn't and what was given there.
+//
+// What a case says, by names in the head or parts of the row: `program`, where it is `civl_lift`, and `words`; the text, of which `base` is
+// a file that comes first, `edits` are made in it, and `text` stands behind it, or `lines` with their ends (`texts`); the number of a `read`
+// or `write` that fails, and the sink's `room`; the `provers`. What is wanted is a `report`, or one that `begins` so, `has` this in it, or has
+// this `line`; a `status` other than the report's own; how many `bytes` the report has, and how many provers are `left` (`wanted`).
+// Where there are `from` and `to`, the words are asked on each front of the text of so many bytes. Where there is `then`, these words are
+// asked on the report of the first ones, or, beside a `store` and `threads`, on the moves that this report lifted (`lifted`).
+
+use crate::asking::{Given, NOTHING, asked, report_of};
+use crate::case::{Case, number_at, text_at, value};
+use crate::lifted::unlifted;
+use crate::texts::text_of;
+use crate::wanted::{is_begun, is_wanted};
+use std::alloc::{AllocError, Global};
+use std::{fs, io};
+
+/// What is given to the case's words on a text, where it isn't wanted.
+fn unwanted(alloc: Global, case: Case<'_>, text: &[u8]) -> Result<Option<Given>, AllocError> {
+    let given = asked(alloc, case, text_at(case, "words"), text)?;
+    Ok(if is_wanted(case, &given) {
+        None
+    } else {
+        Some(given)
+    })
+}
+
+/// What is given to some front of a text, from `from` to `to` bytes long, where it isn't wanted.
+fn unwanted_front(
+    alloc: Global,
+    case: Case<'_>,
+    text: &[u8],
+    from: usize,
+) -> Result<Option<Given>, AllocError> {
+    let to = number_at(case, "to").unwrap_or(from);
+    for end in from..to.saturating_add(1) {
+        let given = unwanted(alloc, case, &text[..end.min(text.len())])?;
+        if given.is_some() {
+            return Ok(given);
+        }
+    }
+    Ok(None)
+}
+
+/// What is given where the report on a text doesn't begin as is said, or where the second command gives what isn't wanted to this report.
+fn unwanted_then(alloc: Global, case: Case<'_>, text: &[u8]) -> Result<Option<Given>, AllocError> {
+    let first = asked(alloc, case, text_at(case, "words"), text)?;
+    if first.code != 0 || !is_begun(case, report_of(&first)) {
+        return Ok(Some(first));
+    }
+    let second = asked(
+        alloc,
+        NOTHING,
+        text_at(case, "then"),
+        first.report.as_slice(),
+    )?;
+    Ok(if is_wanted(case, &second) {
+        None
+    } else {
+        Some(second)
+    })
+}
+
+/// What is given where the case doesn't hold.
+fn failure(alloc: Global, case: Case<'_>, text: &str) -> Result<Option<Given>, AllocError> {
+    if let Some(from) = number_at(case, "from") {
+        return unwanted_front(alloc, case, text.as_bytes(), from);
+    }
+    if value(case, "threads").is_some() {
+        return unlifted(alloc, case, text);
+    }
+    if value(case, "then").is_some() {
+        return unwanted_then(alloc, case, text.as_bytes());
+    }
+    unwanted(alloc, case, text.as_bytes())
+}
+
+/// The same of a case whose text is to be read.
+fn failure_of(rt: &HostRuntime, case: Case<'_>) -> io::Result<Option<Given>> {
+    let text = text_of(rt, case)?;
+    Ok(failure(rt.alloc(), case, text.as_str())?)
+}
+
+/// The first lines of a report behind a name, in one line.
+pub(crate) fn line(
+    alloc: Global,
+    name: &str,
+    report: &str,
+    lines: usize,
+) -> Result<String, AllocError> {
+    let mut line = String::from_str(alloc, name)?;
+    let mut count: usize = 0;
+    for one in report.trim().split("\n") {
+        if count < lines {
+            line.push_str(if count == 0 { ": " } else { ", " })?;
+            line.push_str(one)?;
+            count += 1;
+        }
+    }
+    line.push_str("\n")?;
+    Ok(line)
+}
+
+/// The line on the rows of a file.
+fn line_on(rt: &HostRuntime, name: &str, head: &str, rows: &str) -> io::Result<String> {
+    let mut count: usize = 0;
+    for row in rows.split("\n\n") {
+        count = count.saturating_add(1);
+        if let Some(given) = failure_of(rt, Case { head, row })? {
+            return wrong_line(rt.alloc(), name, count, &given);
+        }
+    }
+    Ok(format!(in rt.alloc(); "{name}: {count} rows hold\n")?)
+}
+
+/// The line on a row that doesn't hold.
+fn wrong_line(alloc: Global, name: &str, count: usize, given: &Given) -> io::Result<String> {
+    let code = given.code;
+    let name = format!(in alloc; "{name}: row {count} is given {code}")?;
+    Ok(line(alloc, name.as_str(), report_of(given), usize::MAX)?)
+}
+
+/// The line on a file of cases.
+pub(crate) fn line_of(rt: &HostRuntime, name: &str) -> io::Result<String> {
+    let path = format!(in rt.alloc(); "cases/{name}.cases")?;
+    let file = fs::read_to_string(rt, path.as_str())?;
+    let (head, rows) = file.as_str().split_once("\n\n").unwrap_or(("", ""));
+    line_on(rt, name, head, rows)
+}
