@@ -1,6 +1,10 @@
-//! Tests of words, gates, clauses and the search, on small tables that were worked out by hand.
+//! Tests of words, gates, clauses, the search and the text of certificates, on small tables that were worked out by hand.
 #![tactic(auto)]
 
+#[cfg(test)]
+mod certificate_bytes;
+#[cfg(test)]
+mod certificate_texts;
 #[cfg(test)]
 mod circuits;
 #[cfg(test)]

@@ -54,8 +54,7 @@ struct Row<'a> {
 fn split_to(rt: &impl Abort, alloc: Global, cnf: &Cnf, depth: u32) -> Result<Found, AllocError> {
     let mut splitter = Splitter::new(depth);
     let attempt = splitter.attempt(alloc, cnf, 0);
-    let found = found_of(rt, alloc, cnf, &attempt)?;
-    Ok(found)
+    found_of(rt, alloc, cnf, &attempt)
 }
 
 /// Whether splitting answers what the row says.
@@ -235,8 +234,7 @@ fn asked_of(
     let mut provers: Vec<Box<dyn Prover>> = Vec::new(alloc);
     provers.push(Box::new(alloc, probe)?)?;
     provers.push(Box::new(alloc, Splitter::new(depth))?)?;
-    let found = asked(alloc, &mut provers, cnf)?;
-    Ok(found)
+    asked(alloc, &mut provers, cnf)
 }
 
 #[test]

@@ -57,8 +57,7 @@ fn product(terms: &mut Terms, inputs: Inputs) -> Result<Id, Memory>
 {
     let product = terms.two(Two::Mul, inputs.x, inputs.y)?;
     let cell = terms.get(inputs.row, inputs.at)?;
-    let same = terms.two(Two::Eq, product, cell)?;
-    Ok(same)
+    terms.two(Two::Eq, product, cell)
 }
 
 fn rows(terms: &mut Terms, inputs: Inputs) -> Result<Id, Memory>
@@ -73,8 +72,7 @@ fn rows(terms: &mut Terms, inputs: Inputs) -> Result<Id, Memory>
 {
     let written = terms.set(inputs.row, inputs.at, inputs.x)?;
     let filled = terms.fill(1, inputs.y)?;
-    let same = terms.two(Two::Eq, written, filled)?;
-    Ok(same)
+    terms.two(Two::Eq, written, filled)
 }
 
 fn signed(terms: &mut Terms, inputs: Inputs) -> Result<Id, Memory>
@@ -91,8 +89,7 @@ fn signed(terms: &mut Terms, inputs: Inputs) -> Result<Id, Memory>
     let other = terms.one(One::Flip, inputs.at)?;
     let cell = terms.get(written, other)?;
     let quotient = terms.two(Two::Udiv, inputs.x, inputs.y)?;
-    let less = terms.two(Two::Slt, cell, quotient)?;
-    Ok(less)
+    terms.two(Two::Slt, cell, quotient)
 }
 
 fn term(terms: &mut Terms, shape: Shape) -> Result<Option<Id>, Memory> {
