@@ -19,7 +19,7 @@ use Rattle.civl_rup.specs.declared.answer.Replay.TheVariants.{Refutes}
 use Rattle.civl_proofs.specs.Text.{IsCertificate}
 use Rattle.civl_conditions.specs.declared.condition.Condition.{Condition}
 use Rattle.civl_conditions.specs.Listed.{conditions}
-use Rattle.civl_conditions.specs.Violated.{Violates}
+use Rattle.civl_conditions.specs.Violated.{Violates, AllHold}
 use Rattle.civl_verdicts.specs.declared.survey.Survey.{Survey}
 use Rattle.civl_verdicts.specs.declared.verdict.Counter.{Counter}
 use Rattle.civl_verdicts.specs.Surveys.{IsSurvey}
@@ -40,7 +40,7 @@ use Rattle.civl_certify.specs.proof_reports.Replaying.{IsReplay}
 use Rattle.civl_certify.specs.proof_reports.Reports.{making_text, replaying_text}
 use Rattle.civl_certify.specs.proof_reports.Laws.{StandsAlone}
 use Rattle.civl_words.specs.Words.{usual_budget}
-use Rattle.civl_verdicts.specs.Verdicts.{HasInitial, IsReached, AllHold, IsSpentOn, IsUndecided}
+use Rattle.civl_verdicts.specs.Verdicts.{HasInitial, IsReached, IsSpentOn, IsUndecided}
 use Rattle.civl_verdicts.specs.reports.Lines.{HasLineThatBegins}
 use Rattle.civl_verdicts.specs.reports.Findings.{survey_text}
 use Rattle.civl_verdicts.specs.verdict_reports.Verdicts.{accepted_text, rejected_text, undecided_text}

@@ -1,5 +1,5 @@
 -- When values violate a condition, and when a condition holds.
-use Rattle.std.specs.Prelude.{◌+◌, ◌-◌, ◌≡◌, Bool, false, IsTrue, List, map}
+use Rattle.std.specs.Prelude.{◌+◌, ◌-◌, ◌≡◌, Bool, false, IsTrue, List, map, Contains}
 use Rattle.civl_bits.specs.declared.value.Value.{Value}
 use Rattle.civl_firing.specs.values.Values.{HaveSorts}
 use Rattle.civl_tree.specs.declared.program.Program.{Program}
@@ -7,6 +7,7 @@ use Rattle.civl_conditions.specs.footprints.Agreement.{exists_at}
 use Rattle.civl_conditions.specs.paths.Seen.{exists_near}
 use Rattle.civl_conditions.specs.declared.condition.Condition.{Condition}
 use Rattle.civl_conditions.specs.declared.condition.Condition.TheVariants.{Start, Keep, Pair, Fire, Path, Block, Act}
+use Rattle.civl_conditions.specs.Listed.{conditions}
 use Rattle.civl_conditions.specs.Steps.{of_action, of_cut}
 use Rattle.civl_conditions.specs.Variables.{variables}
 use Rattle.civl_conditions.specs.Values.{store_of, count_of, invoked, instance_count, layout, begun}
@@ -49,3 +50,7 @@ pub record Violates (program : Program) (condition : Condition) (values : List V
 -- no values for its variables violate it
 abbrev pub Holds : Program → Condition → Type 0
 Holds program condition = (values : List Value) → AreValuesOf program condition values → violated program condition values ≡ false
+
+-- all conditions of a program hold
+abbrev pub AllHold : Program → Type 0
+AllHold program = (condition : Condition) → Contains (conditions program) condition → Holds program condition

@@ -1,7 +1,6 @@
 -- A program that is taken and all of whose conditions hold preserves failures.
-use Rattle.std.specs.Prelude.{Contains, IsTrue}
-use Rattle.std.proofs.Common.{ℕ, ◌≤◌, List, ◌++◌, length, refl, sym}
-use Rattle.std.proofs.lemmas.Option.{slice_get_read}
+use Rattle.std.specs.Prelude.{IsTrue}
+use Rattle.std.proofs.Common.{ℕ, ◌≤◌, List, ◌++◌, length}
 use Rattle.civl_tree.specs.SpellingDomain.{allows_program}
 use Rattle.civl_tree.specs.Numbered.{IsNumbered}
 use Rattle.civl_tree.specs.declared.program.Program.{Program}
@@ -13,18 +12,13 @@ use Rattle.civl_linear.specs.LinearRules.{linear_rules}
 use Rattle.civl_yields.specs.YieldRules.{yield_rules}
 use Rattle.civl_yields.specs.verify.Admitted.{admission_rules}
 use Rattle.civl_yields.proofs.verify.Admitting.{keeps_first, keeps_second}
-use Rattle.civl_conditions.specs.declared.condition.Condition.{Condition}
-use Rattle.civl_conditions.specs.Listed.{conditions}
-use Rattle.civl_conditions.specs.Violated.{Holds}
-use Rattle.civl_verdicts.specs.Verdicts.{HasInitial, AllHold}
+use Rattle.civl_conditions.specs.Violated.{AllHold}
+use Rattle.civl_verdicts.specs.Verdicts.{HasInitial}
 use Rattle.civl_reduction.specs.simulation.Followed.{IsAccepted}
 use Rattle.civl_reduction.specs.simulation.Preserved.{AcceptedProgramsPreserve}
 use Rattle.civl_frontend.specs.Rules.{IsLawful}
 use Rattle.civl_frontend.specs.Texts.{SpellsProgram, limit}
 use Rattle.civl_frontend.proofs.Lawful.{text_numbered, text_written}
-
-holds_of : (program : Program) → AllHold program → (condition : Condition) → Contains (conditions program) condition → Holds program condition
-holds_of program hold condition listed = hold listed.0 condition (slice_get_read (conditions program) (length (conditions program)) listed.0 condition refl listed.1 (sym listed.2))
 
 -- what a lawful program is of which a text can spell each part, and all of whose conditions hold
 pub accepted_by : (program : Program) → IsTrue (allows_program program) → IsNumbered program → IsLawful program → AllHold program → IsAccepted program
@@ -40,7 +34,7 @@ accepted_by program written numbered rules hold =
       };
       linear = keeps_first linear_rules yield_rules program admission;
       yields = keeps_second linear_rules yield_rules program admission;
-      hold = holds_of program hold;
+      hold = hold;
     }
 
 pub preserved : AcceptedProgramsPreserve → (input : List ℕ) (program : Program) → length input ≤ limit → SpellsProgram input program → IsLawful program → AllHold program → HasInitial program → Preserves program

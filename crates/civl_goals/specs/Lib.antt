@@ -8,6 +8,5 @@ pub mod Weights
 pub mod Sayings
 pub mod Told
 pub mod Spots
-pub mod Wants
 pub mod examples
 pub mod GoalHolds

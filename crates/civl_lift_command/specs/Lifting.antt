@@ -13,7 +13,8 @@ use Rattle.civl_meaning.specs.Run.{RunsTo}
 use Rattle.civl_meaning.specs.Step.{start}
 use Rattle.civl_script.specs.Schedules.{IsSchedule}
 use Rattle.civl_script.specs.declared.schedule.Schedule.TheVariants.{Fits}
-use Rattle.civl_verdicts.specs.Verdicts.{HasInitial, AllHold}
+use Rattle.civl_conditions.specs.Violated.{AllHold}
+use Rattle.civl_verdicts.specs.Verdicts.{HasInitial}
 use Rattle.civl_lifting.specs.Lifted.{FailsBy, IsLifted}
 use Rattle.civl_lifting.specs.declared.lifted.Lifted.TheVariants.{Spent}
 use Rattle.civl_frontend.specs.Rules.{IsTaken}

@@ -30,9 +30,8 @@ use Rattle.civl_yields.specs.YieldRules.{yield_rules}
 use Rattle.civl_yields.proofs.Examples as yields
 use Rattle.civl_conditions.specs.Listed.{conditions}
 use Rattle.civl_conditions.specs.Variables.{variables}
-use Rattle.civl_conditions.specs.Violated.{violated}
+use Rattle.civl_conditions.specs.Violated.{violated, AllHold}
 use Rattle.civl_condition_laws.proofs.Going.{passes, flows}
-use Rattle.civl_reduction.specs.checked.Checked.{AllHold}
 use Rattle.civl_safety.specs.examples.Held.{gated, held, GatedIsAccepted, HeldIsOutlined, GatedIsSafe}
 use Rattle.civl_safety.specs.Safe.{LowestIsSafe}
 use Rattle.civl_safety.proofs.Gated.{one_bool}

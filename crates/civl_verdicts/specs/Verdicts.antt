@@ -8,7 +8,7 @@ use Rattle.civl_cnf.specs.ClauseSet.{ClauseSet}
 use Rattle.civl_rup.specs.Rup.{Spends}
 use Rattle.civl_conditions.specs.declared.condition.Condition.{Condition}
 use Rattle.civl_conditions.specs.Listed.{conditions}
-use Rattle.civl_conditions.specs.Violated.{Violates, Holds}
+use Rattle.civl_conditions.specs.Violated.{Violates, Holds, AllHold}
 use Rattle.civl_verdicts.specs.declared.verdict.Counter.{Counter}
 use Rattle.civl_verdicts.specs.declared.verdict.Verdict.{Verdict}
 use Rattle.civl_verdicts.specs.declared.verdict.Verdict.TheVariants.{Accepted, Rejected, Undecided, NoInitial}
@@ -22,10 +22,6 @@ pub record IsReached (program : Program) (condition : Condition) (place : ℕ) :
   pub initial : HasInitial program
   pub there : slice_get (conditions program) place ≡ Some condition
   pub before : (i : ℕ) (c : Condition) → i < place → slice_get (conditions program) i ≡ Some c → Holds program c
-
--- all conditions of the list hold
-abbrev pub AllHold : Program → Type 0
-AllHold program = (i : ℕ) (c : Condition) → slice_get (conditions program) i ≡ Some c → Holds program c
 
 -- the log spends the budget on clauses that stand for the formula, which is wide for it
 abbrev pub IsSpentOn : ℕ → Formula → List (List Literal) → Type 0

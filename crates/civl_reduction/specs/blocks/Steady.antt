@@ -2,7 +2,7 @@
 -- or a block of one thread keeps them, and what other threads rely on at their yields. (Interference freedom: Owicki, Gries,
 -- An axiomatic proof technique for parallel programs, 1976; rely and guarantee: Jones, 1983; with linear permissions: Kragl,
 -- Qadeer, Layered concurrent programs, CAV 2018.)
-use Rattle.std.specs.Prelude.{ℕ, ◌≤◌, ◌≡◌, List, ◌++◌, Some, IsTrue, Contains}
+use Rattle.std.specs.Prelude.{ℕ, ◌≤◌, ◌≡◌, List, ◌++◌, Some, IsTrue}
 use Rattle.civl_bits.specs.declared.value.Value.{Value}
 use Rattle.civl_firing.specs.values.Values.{HaveSorts}
 use Rattle.civl_tree.specs.declared.program.Proc.{Proc}
@@ -15,9 +15,7 @@ use Rattle.civl_layers.specs.declared.cut.Cut.{Cut}
 use Rattle.civl_layers.specs.Layered.{IsLayered}
 use Rattle.civl_conditions.specs.paths.Paths.{progress_of}
 use Rattle.civl_conditions.specs.paths.Ends.{is_yield_cut, arrived, ends_block}
-use Rattle.civl_conditions.specs.declared.condition.Condition.{Condition}
 use Rattle.civl_conditions.specs.Steps.{lasts_through}
-use Rattle.civl_conditions.specs.Listed.{conditions}
 use Rattle.civl_conditions.specs.Values.{Invoked, Begun}
 use Rattle.civl_conditions.specs.Permissions.{in_store, of_inputs, held_at, of_held}
 use Rattle.civl_conditions.specs.Invariants.{invariants_hold}
@@ -25,7 +23,7 @@ use Rattle.civl_conditions.specs.Movers.{gate_of, fires_of}
 use Rattle.civl_conditions.specs.Assumed.{owned, assumed}
 use Rattle.civl_conditions.specs.Parts.{outcome_of}
 use Rattle.civl_conditions.specs.Targets.{Other, yield_holds}
-use Rattle.civl_conditions.specs.Violated.{Holds}
+use Rattle.civl_conditions.specs.Violated.{AllHold}
 use Rattle.civl_condition_laws.specs.States.{IsInvoked, frame_sorts, IsBegun, IsCutOf}
 
 -- the frame of another thread stands at the yield with this number, in the procedure with this number, with values of its sorts
@@ -44,7 +42,7 @@ pub record IsSteady (program : Program) (step : ℕ) (owns : List (List ℕ)) (b
 -- a layered program all of whose conditions hold, and a step of it
 pub record HoldsAt (program : Program) (step : ℕ) : Type 0 where
   pub layered : IsLayered program
-  pub hold : (condition : Condition) → Contains (conditions program) condition → Holds program condition
+  pub hold : AllHold program
   pub low : 1 ≤ step
   pub high : step ≤ program.layers
 

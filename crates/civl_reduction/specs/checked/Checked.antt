@@ -1,6 +1,6 @@
 -- Programs whose conditions hold. (Movers: Lipton, Reduction: a method of proving properties of parallel programs, 1975;
 -- of layers: Hawblitzel, Petrank, Qadeer, Tasiran, CAV 2015.)
-use Rattle.std.specs.Prelude.{ℕ, ◌<◌, ◌≡◌, ◌≢◌, List, ◌∷◌, ◌++◌, length, Some, slice_get, IsTrue, All, Contains, ◌⊎◌}
+use Rattle.std.specs.Prelude.{ℕ, ◌<◌, ◌≡◌, ◌≢◌, List, ◌∷◌, ◌++◌, length, Some, slice_get, IsTrue, All, ◌⊎◌}
 use Rattle.civl_tree.specs.declared.action.Action.{Action}
 use Rattle.civl_tree.specs.declared.program.Program.{Program}
 use Rattle.civl_tree.specs.SpellingDomain.{allows_program}
@@ -17,10 +17,8 @@ use Rattle.civl_meaning.specs.Layers.{program_at}
 use Rattle.civl_meaning.specs.Initial.{IsInitial}
 use Rattle.civl_layers.specs.Layered.{IsLayered}
 use Rattle.civl_linear.specs.LinearRules.{linear_rules}
-use Rattle.civl_conditions.specs.declared.condition.Condition.{Condition}
-use Rattle.civl_conditions.specs.Listed.{conditions}
 use Rattle.civl_layers.specs.Movers.{is_left, is_right}
-use Rattle.civl_conditions.specs.Violated.{Holds}
+use Rattle.civl_conditions.specs.Violated.{AllHold}
 use Rattle.civl_reduction.specs.exchanges.Doing.{doing}
 use Rattle.civl_reduction.specs.exchanges.Exchange.{Exchanged}
 use Rattle.civl_reduction.specs.permissions.Owned.{IsParted}
@@ -36,9 +34,6 @@ use Rattle.civl_reduction.specs.Never.{IsNoDifference}
 -- where E52 is kept
 abbrev pub SpawnsAreInRoots : Type 0
 SpawnsAreInRoots = (program : Program) → Keeps yield_rules program → SpawnsStandInRoots program
-
-abbrev pub AllHold : Program → Type 0
-AllHold program = (condition : Condition) → Contains (conditions program) condition → Holds program condition
 
 -- K2 of states: of each action whose first layer is below the top
 abbrev pub ActionsKeepPermissions : Type 0

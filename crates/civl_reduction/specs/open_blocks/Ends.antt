@@ -23,14 +23,13 @@ use Rattle.civl_conditions.specs.footprints.Agreement.{exists_at}
 use Rattle.civl_conditions.specs.paths.NoteValues.{plain_note_values}
 use Rattle.civl_conditions.specs.paths.Paths.{Progress, progress_of, has_failed}
 use Rattle.civl_conditions.specs.paths.Ends.{is_rank_loop, is_exit, ends_block, arrived}
-use Rattle.civl_conditions.specs.declared.condition.Condition.{Condition}
 use Rattle.civl_conditions.specs.declared.condition.Target.{Target}
-use Rattle.civl_conditions.specs.Listed.{targets, conditions}
+use Rattle.civl_conditions.specs.Listed.{targets}
 use Rattle.civl_conditions.specs.Values.{Begun, same_values, same_stores}
 use Rattle.civl_conditions.specs.Assumed.{cut_invariant, cut_rank, note_holds, refined_action, with_of, inputs_of, owned, assumed}
 use Rattle.civl_conditions.specs.Parts.{outcome_of, end_values}
 use Rattle.civl_conditions.specs.Targets.{target_owned, target_lost}
-use Rattle.civl_conditions.specs.Violated.{Holds}
+use Rattle.civl_conditions.specs.Violated.{AllHold}
 use Rattle.civl_condition_laws.specs.States.{IsBegun, IsCutOf, AreOthersOf}
 
 -- a path's beginning at the cut with this number, with all that conditions assume there
@@ -74,11 +73,11 @@ pub record Concludes (program : Program) (step c : ℕ) (proc : Proc) (cut : Cut
 -- where all conditions hold, a path that begins so doesn't fail
 abbrev pub PathsDoNotFail : Type 0
 PathsDoNotFail =
-    (program : Program) (step q c : ℕ) (proc : Proc) (cut : Cut) (b : Begun) → IsLayered program → ((condition : Condition) → Contains (conditions program) condition → Holds program condition)
+    (program : Program) (step q c : ℕ) (proc : Proc) (cut : Cut) (b : Begun) → IsLayered program → AllHold program
     → IsAssumed program step q c proc cut b → has_failed (outcome_of program step proc cut b) ≡ false
 
 -- and where it ends, it concludes
 abbrev pub PathsConclude : Type 0
 PathsConclude =
-    (program : Program) (step q c : ℕ) (proc : Proc) (cut : Cut) (b : Begun) (end : ℕ) (p : Progress) → IsLayered program → ((condition : Condition) → Contains (conditions program) condition → Holds program condition)
+    (program : Program) (step q c : ℕ) (proc : Proc) (cut : Cut) (b : Begun) (end : ℕ) (p : Progress) → IsLayered program → AllHold program
     → IsAssumed program step q c proc cut b → Arrives program step proc cut b end p → Concludes program step c proc cut b end p

@@ -35,12 +35,10 @@ use Rattle.civl_conditions.specs.paths.Paths.{Progress}
 use Rattle.civl_conditions.specs.paths.Runs.{Standing, begins_at, Stands, advance}
 use Rattle.civl_conditions.specs.paths.Ends.{is_rank_loop, exit_of, cut_number}
 use Rattle.civl_conditions.specs.paths.Seen.{IsProcOf, lower_course}
-use Rattle.civl_conditions.specs.declared.condition.Condition.{Condition}
-use Rattle.civl_conditions.specs.Listed.{conditions}
 use Rattle.civl_conditions.specs.Variables.{passed_choices}
 use Rattle.civl_conditions.specs.Values.{Begun}
 use Rattle.civl_conditions.specs.Assumed.{inputs_of, owned}
-use Rattle.civl_conditions.specs.Violated.{Holds}
+use Rattle.civl_conditions.specs.Violated.{AllHold}
 use Rattle.civl_reduction.specs.open_blocks.Ends.{IsAssumed, Concludes}
 use Rattle.civl_reduction.specs.open_blocks.Following.{layer_head, cut_ahead, led_here, StandsAlike, Follows, frame_does}
 
@@ -51,7 +49,7 @@ pub record IsSound (program : Program) : Type 0 where
   pub layered : IsLayered program
   pub linear : Keeps linear_rules program
   pub yields : Keeps yield_rules program
-  pub hold : (condition : Condition) → Contains (conditions program) condition → Holds program condition
+  pub hold : AllHold program
 
 -- the topmost frame of a thread of the lower program is this one, of the procedure with this number; all values have their
 -- sorts

@@ -14,11 +14,12 @@ use Rattle.civl_meaning.specs.Preserves.{Preserves}
 use Rattle.civl_layers.specs.Layered.{IsLayered}
 use Rattle.civl_linear.specs.LinearRules.{linear_rules}
 use Rattle.civl_yields.specs.YieldRules.{yield_rules}
+use Rattle.civl_conditions.specs.Violated.{AllHold}
 use Rattle.civl_reduction.specs.interleavings.Simulation.{Simulates}
 use Rattle.civl_reduction.specs.interleavings.Threads.{Config, Move, stepping_of}
 use Rattle.civl_reduction.specs.exchanges.Interleavings.{Chosen}
 use Rattle.civl_reduction.specs.blocks.Reduces.{plain_move, plain_config, layer_threads, layer_system}
-use Rattle.civl_reduction.specs.checked.Checked.{AllHold, IsChecked}
+use Rattle.civl_reduction.specs.checked.Checked.{IsChecked}
 use Rattle.civl_reduction.specs.blocks.Challenged.{challenged}
 use Rattle.civl_reduction.specs.simulation.Meets.{Meets}
 use Rattle.civl_reduction.specs.simulation.Sound.{BlocksAreSound}

@@ -3,6 +3,7 @@ use Rattle.std.specs.Prelude.{slice_get, length, Option, None, Some}
 use Rattle.std.proofs.Common.{◌≡◌, ◌∙◌, ℕ, suc, ◌+◌, inl, inr, List, [], ◌∷◌, refl, sym, ap, subst, arith}
 use Rattle.std.proofs.lemmas.Bool.{cases_lt}
 use Rattle.civl_tree.specs.declared.program.Program.{Program}
+use Rattle.civl_tree.proofs.Pairs.{contains_at}
 use Rattle.civl_cnf.specs.Literal.{Literal}
 use Rattle.civl_conditions.specs.declared.condition.Condition.{Condition}
 use Rattle.civl_conditions.specs.Listed.{conditions}
@@ -94,10 +95,10 @@ module _ (program : Program) where
 
   agree : (budget limit : ℕ) (first second : Verdict) → IsVerdict program budget first → IsVerdict program limit second → VerdictsAgree program first second
   agree budget limit (Accepted count) (Accepted other) a b = a.2 ∙ sym b.2
-  agree budget limit (Accepted count) (Rejected counter) a b = not_both program counter.condition counter.values (a.1 b.0.0 counter.condition b.0.1.there) b.1
+  agree budget limit (Accepted count) (Rejected counter) a b = not_both program counter.condition counter.values (a.1 counter.condition (contains_at (conditions program) b.0.0 counter.condition b.0.1.there)) b.1
   agree budget limit (Accepted count) (Undecided formula log) a b = tt
   agree budget limit (Accepted count) NoInitial a b = none_initial program limit a.0 b
-  agree budget limit (Rejected counter) (Accepted count) a b = not_both program counter.condition counter.values (b.1 a.0.0 counter.condition a.0.1.there) a.1
+  agree budget limit (Rejected counter) (Accepted count) a b = not_both program counter.condition counter.values (b.1 counter.condition (contains_at (conditions program) a.0.0 counter.condition a.0.1.there)) a.1
   agree budget limit (Rejected counter) (Rejected other) a b = same_place program counter.condition other.condition a.0.0 b.0.0 counter.values other.values a.0.1 b.0.1 a.1 b.1
   agree budget limit (Rejected counter) (Undecided formula log) a b = open_by limit budget formula log counter b a
   agree budget limit (Rejected counter) NoInitial a b = none_initial program limit a.0.1.initial b

@@ -1,16 +1,15 @@
 -- From decided formulas to verdicts.
 use Rattle.std.specs.Prelude.{slice_get, get_or, ◌&&◌}
-use Rattle.std.proofs.Common.{◌≡◌, ◌∙◌, ℕ, ◌+◌, ◌<◌, ◌≤◌, Bool, true, false, List, length, sym, ap, subst, arith, inl, inr, Some}
-use Rattle.std.proofs.lemmas.Bool.{false≢true, cases_lt}
-use Rattle.std.proofs.lemmas.Option.{slice_get_within, slice_get-get_or}
+use Rattle.std.proofs.Common.{◌≡◌, ◌∙◌, ℕ, ◌+◌, ◌<◌, ◌≤◌, Bool, true, false, List, length, refl, sym, ap, subst, arith, inl, inr, Some}
+use Rattle.std.proofs.lemmas.Bool.{false≢true, cases_lt, and_parts as both}
+use Rattle.std.proofs.lemmas.Option.{slice_get_read, slice_get-get_or, same_Some}
 use Rattle.civl_bits.specs.declared.value.Value.{Value}
 use Rattle.civl_tree.specs.declared.program.Program.{Program}
-use Rattle.civl_firing.proofs.values.Sorting.{both}
 use Rattle.civl_firing.specs.declared.store.Store.{Store}
 use Rattle.civl_meaning.specs.Initial.{IsInitial}
 use Rattle.civl_conditions.specs.declared.condition.Condition.{Condition}
 use Rattle.civl_conditions.specs.Listed.{conditions}
-use Rattle.civl_conditions.specs.Violated.{Violates, Holds}
+use Rattle.civl_conditions.specs.Violated.{Violates, Holds, AllHold}
 use Rattle.civl_verdicts.specs.Formulas.{initial_formula, violation_formula}
 use Rattle.civl_verdicts.specs.Verdicts.{HasInitial, IsReached}
 use Rattle.civl_verdicts.specs.decisions.Decided.{IsDecided}
@@ -38,19 +37,17 @@ HoldBefore program place = (i : ℕ) (c : Condition) → i < place → slice_get
 pub none_before : (program : Program) → HoldBefore program 0
 none_before program i c l e = absurd (omega arith)
 
-same_condition : (c d : Condition) → Some c ≡ Some d → c ≡ d
-same_condition c d e = cc
-
 pub one_more : (program : Program) (place : ℕ) (c : Condition) → HoldBefore program place → slice_get (conditions program) place ≡ Some c → Holds program c → HoldBefore program (place + 1)
 one_more program place c before here holds i d l e = elim (cases_lt i place) [
   | inl low ↦ before i d low e
   | inr high ↦
       let same : i ≡ place = omega arith in
-      subst (Holds program) (same_condition c d (sym here ∙ ap (slice_get (conditions program)) (sym same) ∙ e)) holds
+      subst (Holds program) (same_Some c d (sym here ∙ ap (slice_get (conditions program)) (sym same) ∙ e)) holds
 ]
 
-pub all_hold : (program : Program) (place : ℕ) → HoldBefore program place → length (conditions program) ≤ place → (i : ℕ) (c : Condition) → slice_get (conditions program) i ≡ Some c → Holds program c
-all_hold program place before past i c e = let l : i < length (conditions program) = slice_get_within (conditions program) i c e in before i c (omega (arith, l, past)) e
+pub all_hold : (program : Program) (place : ℕ) → HoldBefore program place → length (conditions program) ≤ place → AllHold program
+all_hold program place before past c listed =
+    before listed.0 c (let l = listed.1 in omega (arith, l, past)) (slice_get_read (conditions program) (length (conditions program)) listed.0 c refl listed.1 (sym listed.2))
 
 -- ---- the condition at a place of the list
 
