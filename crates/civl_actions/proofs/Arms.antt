@@ -1,7 +1,7 @@
 -- The arms of the recursion over an expression.
 use Rattle.std.specs.Prelude.{slice_get, IsSome}
 use Rattle.std.proofs.Common.{◌≡◌, ◌∙◌, ℕ, ◌<◌, true, false, List, length, sym, ap, subst, Some}
-use Rattle.std.proofs.lemmas.Option.{slice_get_within}
+use Rattle.std.proofs.lemmas.Option.{slice_get_within, same_Some}
 use Rattle.civl_bits.specs.declared.value.Value.{Value}
 use Rattle.civl_bits.specs.declared.value.Value.TheVariants as value
 use Rattle.civl_tree.specs.declared.name.Name.{Name}
@@ -93,21 +93,18 @@ module _ (sc : Scope) where
   pub asks_old : (ns : List Node) (e : Expr) (name : Name) → e ≡ tree.Old name → HasTyping ns sc e → place_of (names_in sc) name < length sc.old.now
   asks_old ns e name is h = let k = old_there ns sc name (typing_is ns e (roll-Expr (expr.Old name)) (is ∙ rolled_Old name) h) in slice_get_within sc.old.now (place_of (names_in sc) name) k.0 k.1
 
-  some_same : (i j : ℕ) → Some i ≡ Some j → i ≡ j
-  some_same i j e = cc
-
   pub built_name : (ns : List Node) (e : Expr) (name : Name) (place id : ℕ) → e ≡ tree.Name name → place ≡ place_of (names_in sc) name → HasTyping ns sc e → slice_get sc.values.now place ≡ Some id → Means ns ns sc e id
   built_name ns e name place id is at h found =
       let k = name_there ns sc name (typing_is ns e (roll-Expr (expr.Name name)) (is ∙ rolled_Name name) h) in
       let f : slice_get sc.values.now (place_of (names_in sc) name) ≡ Some id = ap (slice_get sc.values.now) (sym at) ∙ found in
-      let same : k.0 ≡ id = some_same k.0 id (sym k.1 ∙ f) in
+      let same : k.0 ≡ id = same_Some k.0 id (sym k.1 ∙ f) in
       means_is ns ns (roll-Expr (expr.Name name)) e id (sym (is ∙ rolled_Name name)) (means_name ns sc name id f (subst (λ (j : ℕ). j < length ns) same k.2))
 
   pub built_old : (ns : List Node) (e : Expr) (name : Name) (place id : ℕ) → e ≡ tree.Old name → place ≡ place_of (names_in sc) name → HasTyping ns sc e → slice_get sc.old.now place ≡ Some id → Means ns ns sc e id
   built_old ns e name place id is at h found =
       let k = old_there ns sc name (typing_is ns e (roll-Expr (expr.Old name)) (is ∙ rolled_Old name) h) in
       let f : slice_get sc.old.now (place_of (names_in sc) name) ≡ Some id = ap (slice_get sc.old.now) (sym at) ∙ found in
-      let same : k.0 ≡ id = some_same k.0 id (sym k.1 ∙ f) in
+      let same : k.0 ≡ id = same_Some k.0 id (sym k.1 ∙ f) in
       means_is ns ns (roll-Expr (expr.Old name)) e id (sym (is ∙ rolled_Old name)) (means_old ns sc name id f (subst (λ (j : ℕ). j < length ns) same k.2))
 
   pub built_done : (ns : List Node) → IsGraph ns → (e : Expr) → e ≡ tree.Done → HasTyping ns sc e → Means ns ns sc e sc.done

@@ -1,13 +1,11 @@
 -- The term of an expression, from the terms of its parts.
-use Rattle.std.specs.Prelude.{map, slice_get, IsSome}
-use Rattle.std.proofs.Common.{◌≡◌, ◌∙◌, ℕ, ◌+◌, ◌<◌, ◌≤◌, List, length, refl, sym, ap, arith, Option, Some, None}
-use Rattle.std.proofs.lemmas.Bool.{false≢true}
+use Rattle.std.specs.Prelude.{map, slice_get}
+use Rattle.std.proofs.Common.{◌≡◌, ◌∙◌, ℕ, ◌+◌, ◌<◌, ◌≤◌, List, length, sym, ap, arith, Some}
 use Rattle.std.proofs.lemmas.List.{get_or-map}
 use Rattle.std.proofs.lemmas.Option.{get_or_from_slice_get, slice_get_within}
 use Rattle.civl_bits.specs.declared.value.Value.{Value}
 use Rattle.civl_bits.specs.declared.value.Value.TheVariants as value
 use Rattle.civl_tree.specs.declared.name.Name.{Name}
-use Rattle.civl_tree.specs.declared.expr.Sort.{Sort}
 use Rattle.civl_tree.specs.declared.expr.Sort.TheVariants.{Bool as Truth}
 use Rattle.civl_tree.specs.declared.expr.Expr.{Expr, roll-Expr}
 use Rattle.civl_tree.specs.declared.expr.Expr.TheFolds.{fold-roll-Expr}
@@ -25,6 +23,7 @@ use Rattle.civl_terms.specs.Graphs.{value_at, sort_at, sorts, IsGraph, Fits}
 use Rattle.civl_terms.specs.Weights.{graph_weight}
 use Rattle.civl_terms.specs.Building.{Grows}
 use Rattle.civl_terms.proofs.Soundness.{nodes_have_their_sorts}
+use Rattle.civl_terms.proofs.Operations.{the_sort}
 use Rattle.civl_actions.specs.declared.scope.Scope.{Scope}
 use Rattle.civl_actions.specs.Scopes.{names_in, meant, ScopeFits, IsTyped, HasTyping, Means}
 use Rattle.civl_actions.proofs.Typing.{sort_layer}
@@ -53,10 +52,6 @@ same_id ids place i j e f = let q : Some i ≡ Some j = sym e ∙ f in some q
   where
     some : Some i ≡ Some j → i ≡ j
     some q = cc
-
-the_sort : (o : Option Sort) → IsSome o → (s : Sort) × (o ≡ Some s)
-the_sort None e = absurd (false≢true e)
-the_sort (Some s) e = (s, refl)
 
 -- the term that a name stands for
 pub name_there : (ns : List Node) (scope : Scope) (name : Name) → HasTyping ns scope (roll-Expr (expr.Name name)) → (id : ℕ) × (slice_get scope.values.now (place_of (names_in scope) name) ≡ Some id) × (id < length ns)

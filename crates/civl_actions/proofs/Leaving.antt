@@ -7,9 +7,10 @@ use Rattle.std.proofs.lemmas.Slice.Eq.{bytes_eq-Decides}
 use Rattle.civl_tree.specs.declared.name.Name.{Name}
 use Rattle.civl_tree.specs.declared.action.Update.{Update}
 use Rattle.civl_tree.specs.rules.Names.{same_name, has_name}
+use Rattle.civl_tree.proofs.Naming.{bytes_same}
 use Rattle.civl_firing.specs.Truth.{place_of}
 use Rattle.civl_actions.specs.Actions.{LeavesOthers}
-use Rattle.civl_actions.proofs.Rules.{bytes_same, has_same}
+use Rattle.civl_actions.proofs.Rules.{has_same}
 
 pub leaves_none : (names written : List Name) (ids : List ℕ) → LeavesOthers names written ids ids
 leaves_none names written ids place name at missing = refl

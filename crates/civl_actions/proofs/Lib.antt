@@ -9,3 +9,4 @@ pub mod Scoping
 pub mod Listing
 pub mod Leaving
 pub mod Making
+pub mod Nodes

@@ -3,7 +3,7 @@ use Rattle.std.specs.Prelude.{map, slice_get, All, IsTrue}
 use Rattle.std.specs.Str.{bytes_eq}
 use Rattle.std.proofs.Common.{◌≡◌, ◌∙◌, ℕ, zero, suc, ◌+◌, ◌<◌, Bool, true, false, ◌||◌, List, [], ◌∷◌, ◌++◌, length, get_or, take, set, refl, sym, ap, ap₂, subst, arith, add-one, Option, Some}
 use Rattle.std.specs.Prelude.{if◌then◌else◌}
-use Rattle.std.proofs.lemmas.Bool.{false≢true, or_parts}
+use Rattle.std.proofs.lemmas.Bool.{false≢true, or_parts, or_left, or_right}
 use Rattle.std.proofs.lemmas.List.{map-append, append-nil, take_more}
 use Rattle.std.proofs.lemmas.Option.{slice_get_within, get_or_from_slice_get, slice_get-get_or}
 use Rattle.std.proofs.lemmas.List.Elements.{All-get_or}
@@ -20,6 +20,7 @@ use Rattle.civl_tree.specs.declared.program.Program.{Program}
 use Rattle.civl_tree.specs.rules.Names.{same_name, has_name, global_names, param_names}
 use Rattle.civl_tree.specs.rules.Scopes.{Scope as Sorts, Binding, sort_in, bind_globals, bind_params, gate_scope, guard_scope}
 use Rattle.civl_tree.specs.rules.Sorts.{sort_of}
+use Rattle.civl_tree.proofs.Naming.{bytes_same}
 use Rattle.civl_firing.specs.values.Values.{zero_of, is_sort, sort_of_value}
 use Rattle.civl_firing.specs.values.Weights.{weight_of}
 use Rattle.civl_firing.specs.values.ActionWeights.{update_weights, offer_weights}
@@ -37,7 +38,7 @@ use Rattle.civl_actions.specs.Scopes.{AreOf, meant, ScopeFits, IsTyped, Means}
 use Rattle.civl_actions.specs.Actions.{values_at}
 use Rattle.civl_actions.specs.Steps.{AreZeros, AreOffered, AreUpdated}
 use Rattle.civl_actions.proofs.Staying.{are_stay, values_stay, meant_stays, fits_stay}
-use Rattle.civl_actions.proofs.Rules.{Kept, out_apart, bytes_same, offer_typed, offer_sorted, update_typed, update_sorted}
+use Rattle.civl_actions.proofs.Rules.{Kept, out_apart, offer_typed, offer_sorted, update_typed, update_sorted}
 
 -- ---- zeros
 
@@ -151,19 +152,11 @@ placed : {A : Type 0} (name_of : A → Name) (sort_at : A → Sort) (xs : List A
 placed name_of sort_at [] t s e = absurd (cc)
 placed name_of sort_at (x ∷ xs) t s e = by (bytes_eq (name_of x).bytes t.bytes) refl (placed name_of sort_at xs t s) e
   where
-    first : (b c : Bool) → b ≡ true → (b || c) ≡ true
-    first true c q = refl
-    first false c q = absurd (false≢true q)
-
-    second : (b c : Bool) → c ≡ true → (b || c) ≡ true
-    second true c q = refl
-    second false c q = q
-
     by : (b : Bool) → bytes_eq (name_of x).bytes t.bytes ≡ b → (slice_get (map sort_at xs) (place_of (map name_of xs) t) ≡ Some s → has_name (map name_of xs) t ≡ true)
         → slice_get (sort_at x ∷ map sort_at xs) (if b then 0 else place_of (map name_of xs) t + 1) ≡ Some s
         → (same_name t (name_of x) || has_name (map name_of xs) t) ≡ true
-    by true r f q = first (same_name t (name_of x)) (has_name (map name_of xs) t) (bytes_same t (name_of x) (sym ((bytes_eq-Decides (name_of x).bytes t.bytes).0 r)))
-    by false r f q = second (same_name t (name_of x)) (has_name (map name_of xs) t) (f (sym (ap (slice_get (sort_at x ∷ map sort_at xs)) (add-one (place_of (map name_of xs) t))) ∙ q))
+    by true r f q = or_left (same_name t (name_of x)) (has_name (map name_of xs) t) (bytes_same t (name_of x) (sym ((bytes_eq-Decides (name_of x).bytes t.bytes).0 r)))
+    by false r f q = or_right (same_name t (name_of x)) (has_name (map name_of xs) t) (f (sym (ap (slice_get (sort_at x ∷ map sort_at xs)) (add-one (place_of (map name_of xs) t))) ∙ q))
 
 past_globals : (gs : List Global) (rest : List Binding) (t : Name) → has_name (global_names gs) t ≡ false → sort_in (bind_globals gs ++ rest) t ≡ sort_in rest t
 past_globals [] rest t h = refl

@@ -1,6 +1,6 @@
 -- The terms of an action, put together.
 use Rattle.std.specs.Prelude.{map, slice_get, take}
-use Rattle.std.proofs.Common.{◌≡◌, ◌∙◌, ℕ, ◌<◌, Bool, false, List, [], ◌++◌, length, refl, sym, ap, ap₂, subst, arith, Option, Some}
+use Rattle.std.proofs.Common.{◌≡◌, ◌∙◌, ℕ, ◌<◌, Bool, false, List, [], ◌++◌, length, refl, sym, ap, ap₂, subst, arith, Some}
 use Rattle.std.proofs.lemmas.List.{map-append, append-nil, take_all}
 use Rattle.civl_bits.specs.declared.value.Value.{Value}
 use Rattle.civl_bits.specs.declared.value.Value.TheVariants as value
@@ -35,12 +35,9 @@ use Rattle.civl_actions.proofs.Building.{truth_value}
 use Rattle.civl_actions.proofs.Staying.{are_within, are_stay, values_stay}
 use Rattle.civl_actions.proofs.Rules.{Kept, gate_typed, gate_sort, guard_typed, guard_sort}
 use Rattle.civl_actions.proofs.Scoping.{Found, all_names, Listed, names_found, olds_found}
+use Rattle.civl_actions.proofs.Nodes.{are_joined}
 
 -- ---- the scope
-
-are_joined : (ns : List Node) (xs ys : List ℕ) (ss ts : List Sort) → AreOf ns xs ss → AreOf ns ys ts → AreOf ns (xs ++ ys) (ss ++ ts)
-are_joined ns xs ys ss ts h k =
-    map-append (sort_at ns) xs ys ∙ ap₂ (λ (a b : List (Option Sort)). a ++ b) h k ∙ sym (map-append (λ (s : Sort). Some s) ss ts)
 
 -- the terms for an action's names, with these choices: those of the globals, the parameters and the choices, the zeros of its
 -- outputs, and that of `done`, which is false

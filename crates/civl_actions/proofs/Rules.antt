@@ -1,14 +1,13 @@
 -- What the static rules say of an action.
-use Rattle.std.specs.Prelude.{not, ◌||◌, map, slice_get, IsSome, IsTrue, All}
+use Rattle.std.specs.Prelude.{not, ◌||◌, map, slice_get, IsTrue, All}
 use Rattle.std.specs.List.{list_any}
 use Rattle.std.specs.Str.{bytes_eq}
-use Rattle.std.proofs.Common.{◌≡◌, ◌∙◌, ℕ, zero, suc, Bool, true, false, List, [], ◌∷◌, ◌++◌, refl, sym, ap, ap₂, subst, Option, Some, None}
-use Rattle.std.proofs.lemmas.Bool.{false≢true, not-false, or_parts}
+use Rattle.std.proofs.Common.{◌≡◌, ◌∙◌, ℕ, zero, suc, Bool, true, false, List, [], ◌∷◌, ◌++◌, refl, sym, ap, ap₂, subst, Option, Some}
+use Rattle.std.proofs.lemmas.Bool.{false≢true, not-false, or_parts, or_from, false_from_ne_true}
 use Rattle.std.proofs.lemmas.List.Elements.{All-nil, All-cons}
-use Rattle.std.proofs.lemmas.Slice.Eq.{bytes_eq-Decides}
 use Rattle.civl_tree.specs.declared.name.Name.{Name}
 use Rattle.civl_tree.specs.declared.expr.Sort.{Sort}
-use Rattle.civl_tree.specs.declared.expr.Sort.TheVariants.{Bool as Truth, Word, Row}
+use Rattle.civl_tree.specs.declared.expr.Sort.TheVariants.{Bool as Truth}
 use Rattle.civl_tree.specs.declared.action.Action.{Action}
 use Rattle.civl_tree.specs.declared.action.Choice.{Choice}
 use Rattle.civl_tree.specs.declared.action.Param.{Param}
@@ -17,8 +16,8 @@ use Rattle.civl_tree.specs.declared.program.Program.{Program}
 use Rattle.civl_tree.specs.rules.Names.{same_name, has_name, any_twice, global_names, param_names, names_in_action}
 use Rattle.civl_tree.specs.rules.Scopes.{gate_scope, guard_scope}
 use Rattle.civl_tree.specs.rules.Sorts.{sort_of}
-use Rattle.civl_tree.specs.rules.Exprs.{widths_fit, indices_fit, is_index}
-use Rattle.civl_tree.specs.rules.Uses.{Use, Need, Only, serves, need_of, truth_use, target_use, update_sort, action_uses}
+use Rattle.civl_tree.specs.rules.Exprs.{widths_fit, indices_fit}
+use Rattle.civl_tree.specs.rules.Uses.{Use, serves, need_of, truth_use, target_use, update_sort, action_uses}
 use Rattle.civl_tree.specs.rules.Width.{sort_width_fits, param_width, action_width}
 use Rattle.civl_tree.specs.rules.Index.{sort_index, action_index}
 use Rattle.civl_tree.specs.rules.Sorted.{any_missorted}
@@ -26,18 +25,14 @@ use Rattle.civl_tree.specs.rules.Twice.{declared_twice}
 use Rattle.civl_tree.specs.rules.Rules.{Keeps}
 use Rattle.civl_tree.specs.rules.Typing.{typing_rules, twice_rule, width_rule, sort_rule, index_rule}
 use Rattle.civl_tree.proofs.Kept.{action_kept, twice_among, width_among, sort_among, index_among}
+use Rattle.civl_tree.proofs.Parts.{any_split}
+use Rattle.civl_tree.proofs.Naming.{same_bytes, has_first, has_second, twice_behind}
 use Rattle.civl_firing.specs.values.Values.{is_sort}
-use Rattle.civl_firing.proofs.values.Sorting.{same_sort-true}
+use Rattle.civl_firing.proofs.Serving.{served_only, served_some}
+use Rattle.civl_firing.proofs.SortLimits.{limits}
 use Rattle.civl_actions.specs.Scopes.{IsTyped}
 
 -- ---- lists of which none passes
-
-any_append : {A : Type 0} (p : A → Bool) (xs ys : List A) → list_any p (xs ++ ys) ≡ false → (list_any p xs ≡ false) × (list_any p ys ≡ false)
-any_append p [] ys e = (refl, e)
-any_append p (x ∷ xs) ys e =
-    let o = or_parts (p x) (list_any p (xs ++ ys)) e in
-    let r = any_append p xs ys o.1 in
-    (rw (o.0) r.0, r.1)
 
 any_map : {A B : Type 0} (p : B → Bool) (f : A → B) (xs : List A) → list_any p (map f xs) ≡ false → (i : ℕ) (x : A) → slice_get xs i ≡ Some x → p (f x) ≡ false
 any_map p f [] e i x at = absurd (cc)
@@ -66,21 +61,13 @@ kept program none i a at = record {
 
 -- ---- its expressions
 
-served_only : (o : Option Sort) (s : Sort) → serves o (Only s) ≡ true → o ≡ Some s
-served_only None s e = absurd (false≢true e)
-served_only (Some t) s e = ap (λ (r : Sort). Some r) (same_sort-true t s e)
-
-served_some : (o : Option Sort) (n : Need) → serves o n ≡ true → IsSome o
-served_some None n e = absurd (false≢true e)
-served_some (Some t) n e = refl
-
 -- what the rules say of one of these expressions
-record Sound (u : Use) : Type 0 where
+pub record Sound (u : Use) : Type 0 where
   pub serves_it : serves (sort_of u.scope u.expression) u.need ≡ true
   pub widths_it : widths_fit u.scope u.expression ≡ true
   pub indices_it : indices_fit u.expression ≡ true
 
-typed_use : (u : Use) → Sound u → IsTyped u.scope u.expression
+pub typed_use : (u : Use) → Sound u → IsTyped u.scope u.expression
 typed_use u h = record { sorted = served_some (sort_of u.scope u.expression) u.need h.serves_it; widths = h.widths_it; indices = h.indices_it }
 
 module _ (program : Program) (a : Action) (k : Kept program a) where
@@ -110,13 +97,13 @@ module _ (program : Program) (a : Action) (k : Kept program a) where
 
   rest : (p : Use → Bool) → list_any p (action_uses program a) ≡ false → (p (truth_use (gate_scope program a) a.gate) ≡ false) × (p (truth_use (guard_scope program a) a.guard) ≡ false) × (list_any p changes ≡ false)
   rest p e =
-      let b = (any_append p offers two e).1 in
+      let b = (any_split p offers two e).1 in
       let c = or_parts (p (truth_use (gate_scope program a) a.gate)) _ b in
       let d = or_parts (p (truth_use (guard_scope program a) a.guard)) _ c.1 in
       (c.0, d.0, d.1)
 
   offered : (p : Use → Bool) → list_any p (action_uses program a) ≡ false → list_any p offers ≡ false
-  offered p e = (any_append p offers two e).0
+  offered p e = (any_split p offers two e).0
 
   gate_sound : Sound (truth_use (gate_scope program a) a.gate)
   gate_sound = record { serves_it = not-false _ (rest missorted k.sorted).0; widths_it = not-false _ (rest miswide wide).0; indices_it = not-false _ (rest misindexed indexed).0 }
@@ -172,11 +159,6 @@ module _ (program : Program) (a : Action) (k : Kept program a) where
 
   -- ---- its outputs' sorts
 
-  limits : (s : Sort) → sort_width_fits s ≡ true → sort_index s ≡ false → is_sort s ≡ true
-  limits Truth e f = refl
-  limits (Word w) e f = e
-  limits (Row i w) e f = rw (not-false (is_index i) f, e) refl
-
   both_none : {A : Type 0} (p q : A → Bool) (xs : List A) → list_any p xs ≡ false → list_any q xs ≡ false → list_any (λ x. p x || q x) xs ≡ false
   both_none p q [] e f = refl
   both_none p q (x ∷ xs) e f =
@@ -186,8 +168,8 @@ module _ (program : Program) (a : Action) (k : Kept program a) where
 
   pub outs_limits : All (λ (p : Param). IsTrue (is_sort p.sort)) a.outs
   outs_limits =
-      let e = (any_append (param_width program) a.params a.outs (or_parts _ _ k.widths).0).1 in
-      let f = (any_append (λ (p : Param). sort_index p.sort) a.params a.outs (or_parts _ _ k.indices).0).1 in
+      let e = (any_split (param_width program) a.params a.outs (or_parts _ _ k.widths).0).1 in
+      let f = (any_split (λ (p : Param). sort_index p.sort) a.params a.outs (or_parts _ _ k.indices).0).1 in
       any_all (λ (p : Param). param_width program p || sort_index p.sort) (λ (p : Param). IsTrue (is_sort p.sort))
       (λ p e.
       let c = or_parts (param_width program p) (sort_index p.sort) e in
@@ -197,57 +179,24 @@ module _ (program : Program) (a : Action) (k : Kept program a) where
 
 -- ---- names that stand once
 
-same_bytes : (x y : Name) → same_name x y ≡ true → x.bytes ≡ y.bytes
-same_bytes x y e = (bytes_eq-Decides x.bytes y.bytes).0 e
-
-pub bytes_same : (x y : Name) → x.bytes ≡ y.bytes → same_name x y ≡ true
-bytes_same x y e = (bytes_eq-Decides x.bytes y.bytes).1 e
-
 -- a list has a name, or another with its bytes
 pub has_same : (names : List Name) (x y : Name) → x.bytes ≡ y.bytes → has_name names x ≡ has_name names y
 has_same [] x y e = refl
 has_same (n ∷ names) x y e = ap₂ (λ (b c : Bool). b || c) (ap (λ bs. bytes_eq bs n.bytes) e) (has_same names x y e)
-
-or_true : (a b : Bool) → b ≡ true → (a || b) ≡ true
-or_true true b e = refl
-or_true false b e = e
-
-or_false : (a b : Bool) → a ≡ false → b ≡ false → (a || b) ≡ false
-or_false a b e f = rw (e) f
-
-has_second : (xs ys : List Name) (x : Name) → has_name ys x ≡ true → has_name (xs ++ ys) x ≡ true
-has_second [] ys x e = e
-has_second (n ∷ xs) ys x e = or_true (same_name x n) (has_name (xs ++ ys) x) (has_second xs ys x e)
-
-false_if : (b : Bool) → (b ≡ true → ⊥) → b ≡ false
-false_if true f = absurd (f refl)
-false_if false f = refl
 
 -- of names that stand once, none of the first is among the others
 pub apart : (xs ys : List Name) (x : Name) → any_twice (xs ++ ys) ≡ false → has_name ys x ≡ true → has_name xs x ≡ false
 apart [] ys x e h = refl
 apart (n ∷ xs) ys x e h =
     let o = or_parts (has_name (xs ++ ys) n) (any_twice (xs ++ ys)) e in
-    or_false (same_name x n) (has_name xs x)
-    (false_if (same_name x n) (λ s.
+    or_from (same_name x n) (has_name xs x)
+    (false_from_ne_true (same_name x n) (λ s.
     let t : has_name (xs ++ ys) n ≡ true = has_second xs ys n (sym (has_same ys x n (same_bytes x n s)) ∙ h) in
     false≢true (sym o.0 ∙ t)))
     (apart xs ys x o.1 h)
 
-twice_second : (xs ys : List Name) → any_twice (xs ++ ys) ≡ false → any_twice ys ≡ false
-twice_second [] ys e = e
-twice_second (n ∷ xs) ys e = twice_second xs ys (or_parts (has_name (xs ++ ys) n) (any_twice (xs ++ ys)) e).1
-
-has_first : (xs ys : List Name) (x : Name) → has_name xs x ≡ true → has_name (xs ++ ys) x ≡ true
-has_first [] ys x e = absurd (false≢true e)
-has_first (n ∷ xs) ys x e = by (same_name x n) e (has_first xs ys x)
-  where
-    by : (b : Bool) → (b || has_name xs x) ≡ true → (has_name xs x ≡ true → has_name (xs ++ ys) x ≡ true) → (b || has_name (xs ++ ys) x) ≡ true
-    by true q f = refl
-    by false q f = f q
-
 pub apart_after : (xs ys : List Name) (x : Name) → any_twice (xs ++ ys) ≡ false → has_name xs x ≡ true → has_name ys x ≡ false
-apart_after xs ys x e h = false_if (has_name ys x) (λ t. false≢true (sym (apart xs ys x e t) ∙ h))
+apart_after xs ys x e h = false_from_ne_true (has_name ys x) (λ t. false≢true (sym (apart xs ys x e t) ∙ h))
 
 -- the name of an output is that of no parameter, no choice and no global
 pub record OutApart (program : Program) (a : Action) (x : Name) : Type 0 where
@@ -271,6 +220,6 @@ out_apart program a k x h =
     let behind : has_name (param_names a.outs ++ map (λ c. c.name) a.choices) x ≡ true = has_first (param_names a.outs) (map (λ c. c.name) a.choices) x h in
     record {
       params = apart (param_names a.params) (param_names a.outs ++ map (λ c. c.name) a.choices) x o.0 behind;
-      choices = apart_after (param_names a.outs) (map (λ c. c.name) a.choices) x (twice_second (param_names a.params) (param_names a.outs ++ map (λ c. c.name) a.choices) o.0) h;
+      choices = apart_after (param_names a.outs) (map (λ c. c.name) a.choices) x (twice_behind (param_names a.params) (param_names a.outs ++ map (λ c. c.name) a.choices) o.0) h;
       globals = none_passes (has_name (global_names program.globals)) (names_in_action a) x (has_same (global_names program.globals)) o.1 (has_second (param_names a.params) (param_names a.outs ++ map (λ c. c.name) a.choices) x behind);
     }

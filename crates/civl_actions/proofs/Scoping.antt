@@ -1,8 +1,8 @@
 -- The scopes of an action's gate, and of its guard and updates.
 use Rattle.std.specs.Prelude.{map, slice_get, if◌then◌else◌}
 use Rattle.std.specs.Str.{bytes_eq}
-use Rattle.std.proofs.Common.{◌≡◌, ◌∙◌, ℕ, ◌+◌, Bool, true, false, ◌||◌, List, [], ◌∷◌, ◌++◌, length, refl, sym, ap, subst, arith, add-one, Option, Some}
-use Rattle.std.proofs.lemmas.Bool.{false≢true, or_parts}
+use Rattle.std.proofs.Common.{◌≡◌, ◌∙◌, ℕ, ◌+◌, Bool, true, false, ◌||◌, List, [], ◌∷◌, ◌++◌, length, refl, sym, ap, subst, arith, add-one, Some}
+use Rattle.std.proofs.lemmas.Bool.{false≢true, or_parts, or_left, or_right}
 use Rattle.std.proofs.lemmas.List.{append-nil, length-map}
 use Rattle.std.proofs.lemmas.Slice.Eq.{bytes_eq-Decides}
 use Rattle.civl_tree.specs.declared.name.Name.{Name}
@@ -14,22 +14,25 @@ use Rattle.civl_tree.specs.declared.program.Global.{Global}
 use Rattle.civl_tree.specs.declared.program.Program.{Program}
 use Rattle.civl_tree.specs.rules.Names.{same_name, has_name, global_names, param_names}
 use Rattle.civl_tree.specs.rules.Scopes.{Binding, sort_in, bind_globals, bind_params, bind_choices}
+use Rattle.civl_tree.proofs.Lists.{heads}
+use Rattle.civl_tree.proofs.Naming.{bytes_same}
 use Rattle.civl_firing.specs.Truth.{place_of}
 use Rattle.civl_firing.specs.Scope.{choice_names}
 use Rattle.civl_terms.specs.declared.node.Node.{Node}
 use Rattle.civl_terms.specs.Graphs.{sort_at}
 use Rattle.civl_actions.specs.Scopes.{StandsAt, AreOf}
-use Rattle.civl_actions.proofs.Rules.{Kept, out_apart, bytes_same}
+use Rattle.civl_actions.proofs.Rules.{Kept, out_apart}
+use Rattle.civl_actions.proofs.Nodes.{are_long}
 
 -- each name that has a sort stands for a term of it
 abbrev pub Found : List Node → List Name → List ℕ → List Binding → Type 0
 Found ns names ids bindings = (name : Name) (s : Sort) → sort_in bindings name ≡ Some s → StandsAt ns ids (place_of names name) s
 
-nothing_found : (ns : List Node) (names : List Name) (ids : List ℕ) → Found ns names ids []
+pub nothing_found : (ns : List Node) (names : List Name) (ids : List ℕ) → Found ns names ids []
 nothing_found ns names ids name s e = absurd (cc)
 
 -- one name more
-found_by : (ns : List Node) (k : Name) (names : List Name) (i : ℕ) (ids : List ℕ) (t : Sort) (bindings : List Binding) → sort_at ns i ≡ Some t → Found ns names ids bindings → (name : Name) (s : Sort) (same : Bool) →
+pub found_by : (ns : List Node) (k : Name) (names : List Name) (i : ℕ) (ids : List ℕ) (t : Sort) (bindings : List Binding) → sort_at ns i ≡ Some t → Found ns names ids bindings → (name : Name) (s : Sort) (same : Bool) →
     bytes_eq k.bytes name.bytes ≡ same → (if same then Some t else sort_in bindings name) ≡ Some s → StandsAt ns (i ∷ ids) (if same then 0 else place_of names name + 1) s
 found_by ns k names i ids t bindings h f name s true q e = (i, refl, h ∙ e)
 found_by ns k names i ids t bindings h f name s false q e =
@@ -38,9 +41,6 @@ found_by ns k names i ids t bindings h f name s false q e =
 
 found_more : (ns : List Node) (k : Name) (names : List Name) (i : ℕ) (ids : List ℕ) (t : Sort) (bindings : List Binding) → sort_at ns i ≡ Some t → Found ns names ids bindings → Found ns (k ∷ names) (i ∷ ids) (record { name = k; sort = t } ∷ bindings)
 found_more ns k names i ids t bindings h f name s e = found_by ns k names i ids t bindings h f name s (bytes_eq k.bytes name.bytes) refl e
-
-heads : (a b : Option Sort) (os ps : List (Option Sort)) → a ∷ os ≡ b ∷ ps → (a ≡ b) × (os ≡ ps)
-heads a b os ps e = (cc, cc)
 
 -- the names of some declarations, before others
 found_all : (ns : List Node) {A : Type 0} (name_of : A → Name) (sort_of : A → Sort) (xs : List A) (ids : List ℕ) (names : List Name) (others : List ℕ) (bindings : List Binding) →
@@ -54,13 +54,13 @@ found_all ns name_of sort_of (x ∷ xs) (i ∷ ids) names others bindings h f =
     (found_all ns name_of sort_of xs ids names others bindings p.1 f)
 
 -- names that have no sort, before others
-passed : (skipped names : List Name) (ids others : List ℕ) (ns : List Node) (name : Name) (s : Sort) → length ids ≡ length skipped → has_name skipped name ≡ false → StandsAt ns others (place_of names name) s → StandsAt ns (ids ++ others) (place_of (skipped ++ names) name) s
-passed [] names [] others ns name s l n h = h
-passed [] names (i ∷ ids) others ns name s l n h = absurd (omega (arith, l))
-passed (k ∷ skipped) names [] others ns name s l n h = absurd (omega (arith, l))
-passed (k ∷ skipped) names (i ∷ ids) others ns name s l n h =
+pub found_past : (skipped names : List Name) (ids others : List ℕ) (ns : List Node) (name : Name) (s : Sort) → length ids ≡ length skipped → has_name skipped name ≡ false → StandsAt ns others (place_of names name) s → StandsAt ns (ids ++ others) (place_of (skipped ++ names) name) s
+found_past [] names [] others ns name s l n h = h
+found_past [] names (i ∷ ids) others ns name s l n h = absurd (omega (arith, l))
+found_past (k ∷ skipped) names [] others ns name s l n h = absurd (omega (arith, l))
+found_past (k ∷ skipped) names (i ∷ ids) others ns name s l n h =
     let o = or_parts (same_name name k) (has_name skipped name) n in
-    let g = passed skipped names ids others ns name s (omega (arith, l)) o.1 h in
+    let g = found_past skipped names ids others ns name s (omega (arith, l)) o.1 h in
     let q : bytes_eq k.bytes name.bytes ≡ false = apart (bytes_eq k.bytes name.bytes) o.0 (λ e. bytes_same name k (sym ((bytes_eq-Decides k.bytes name.bytes).0 e))) in
     subst (λ (b : Bool). StandsAt ns (i ∷ (ids ++ others)) (if b then 0 else place_of (skipped ++ names) name + 1) s) (sym q)
     (g.0, ap (slice_get (i ∷ (ids ++ others))) (add-one (place_of (skipped ++ names) name)) ∙ g.1, g.2)
@@ -77,19 +77,11 @@ bound name_of sort_of (x ∷ xs) name s e = by (same_name (name_of x) name) refl
     turned : (b : Bool) → same_name (name_of x) name ≡ b → b ≡ true → same_name name (name_of x) ≡ true
     turned b q t = bytes_same name (name_of x) (sym ((bytes_eq-Decides (name_of x).bytes name.bytes).0 (q ∙ t)))
 
-    first : (b c : Bool) → b ≡ true → (b || c) ≡ true
-    first true c e = refl
-    first false c e = absurd (false≢true e)
-
-    second : (b c : Bool) → c ≡ true → (b || c) ≡ true
-    second true c e = refl
-    second false c e = e
-
     by : (b : Bool) → same_name (name_of x) name ≡ b → (if b then Some (sort_of x) else sort_in (map (λ y. record { name = name_of y; sort = sort_of y }) xs) name) ≡ Some s
         → (sort_in (map (λ y. record { name = name_of y; sort = sort_of y }) xs) name ≡ Some s → has_name (map name_of xs) name ≡ true)
         → (same_name name (name_of x) || has_name (map name_of xs) name) ≡ true
-    by true q k r = first (same_name name (name_of x)) (has_name (map name_of xs) name) (turned true q refl)
-    by false q k r = second (same_name name (name_of x)) (has_name (map name_of xs) name) (r k)
+    by true q k r = or_left (same_name name (name_of x)) (has_name (map name_of xs) name) (turned true q refl)
+    by false q k r = or_right (same_name name (name_of x)) (has_name (map name_of xs) name) (r k)
 
 -- ---- the names of an action's places, with these choices: globals, parameters, choices, outputs
 
@@ -102,9 +94,6 @@ pub record Listed (ns : List Node) (program : Program) (a : Action) (choices : L
   pub inputs_are : AreOf ns inputs (map (λ p. p.sort) a.params)
   pub chosen_are : AreOf ns chosen (map (λ c. c.sort) choices)
   pub zeros_are : AreOf ns zeros (map (λ p. p.sort) a.outs)
-
-are_length : (ns : List Node) (ids : List ℕ) (ss : List Sort) → AreOf ns ids ss → length ids ≡ length ss
-are_length ns ids ss h = sym (length-map ids (sort_at ns)) ∙ ap length h ∙ length-map ss (λ (s : Sort). Some s)
 
 module _ (ns : List Node) (program : Program) (a : Action) (choices : List Choice) (globals inputs chosen zeros : List ℕ) (l : Listed ns program a choices globals inputs chosen zeros) where
   pub names_found : Found ns (all_names program a choices) (globals ++ (inputs ++ (chosen ++ zeros))) (bind_globals program.globals ++ (bind_params a.params ++ bind_choices choices))
@@ -129,6 +118,6 @@ module _ (ns : List Node) (program : Program) (a : Action) (choices : List Choic
   olds_found k some =
       let f : Found ns (param_names a.params ++ (choice_names choices ++ param_names a.outs)) (inputs ++ (chosen ++ zeros)) (bind_params a.outs) = λ name s e.
       let o = out_apart program a k name (bound (λ (p : Param). p.name) (λ (p : Param). p.sort) a.outs name s e) in
-      let c = passed (choice_names choices) (param_names a.outs) chosen zeros ns name s (are_length ns chosen (map (λ c. c.sort) choices) l.chosen_are ∙ length-map choices (λ (c : Choice). c.sort) ∙ sym (length-map choices (λ (c : Choice). c.name))) (some name o.choices) (outs_found name s e) in
-      passed (param_names a.params) (choice_names choices ++ param_names a.outs) inputs (chosen ++ zeros) ns name s (are_length ns inputs (map (λ p. p.sort) a.params) l.inputs_are ∙ length-map a.params (λ (p : Param). p.sort) ∙ sym (length-map a.params (λ (p : Param). p.name))) o.params c in
+      let c = found_past (choice_names choices) (param_names a.outs) chosen zeros ns name s (are_long ns chosen (map (λ c. c.sort) choices) l.chosen_are ∙ length-map choices (λ (c : Choice). c.sort) ∙ sym (length-map choices (λ (c : Choice). c.name))) (some name o.choices) (outs_found name s e) in
+      found_past (param_names a.params) (choice_names choices ++ param_names a.outs) inputs (chosen ++ zeros) ns name s (are_long ns inputs (map (λ p. p.sort) a.params) l.inputs_are ∙ length-map a.params (λ (p : Param). p.sort) ∙ sym (length-map a.params (λ (p : Param). p.name))) o.params c in
       found_all ns (λ (g : Global). g.name) (λ (g : Global). g.sort) program.globals globals (param_names a.params ++ (choice_names choices ++ param_names a.outs)) (inputs ++ (chosen ++ zeros)) (bind_params a.outs) l.globals_are f

@@ -13,6 +13,7 @@ use Rattle.civl_tree.specs.declared.action.Action.{Action}
 use Rattle.civl_tree.specs.declared.program.Program.{Program}
 use Rattle.civl_tree.specs.rules.Scopes.{Scope as Sorts}
 use Rattle.civl_tree.specs.rules.Sorts.{sort_of}
+use Rattle.civl_tree.proofs.Lists.{heads}
 use Rattle.civl_firing.specs.values.Values.{is_true}
 use Rattle.civl_firing.specs.declared.scope.Scope.{Scope as Meant}
 use Rattle.civl_firing.specs.Eval.{value_of}
@@ -46,9 +47,6 @@ sort_stays old new id s h g = g.sorts id (sorted_within old id s h) ∙ h
 pub value_stays : (env : ℕ → Value) (old new : List Node) (id : ℕ) (s : Sort) → sort_at old id ≡ Some s → Grows old new → value_at env new id ≡ value_at env old id
 value_stays env old new id s h g = g.values env id (sorted_within old id s h)
 
-heads : (a b : Option Sort) (os ps : List (Option Sort)) → a ∷ os ≡ b ∷ ps → (a ≡ b) × (os ≡ ps)
-heads a b os ps e = (cc, cc)
-
 -- terms that have sorts are there
 pub are_within : (ns : List Node) (ids : List ℕ) (ss : List Sort) → AreOf ns ids ss → (place id : ℕ) → slice_get ids place ≡ Some id → id < length ns
 are_within ns [] ss h place id e = absurd (cc)
@@ -59,7 +57,7 @@ are_within ns (i ∷ ids) (s ∷ ss) h zero id e =
 are_within ns (i ∷ ids) (s ∷ ss) h (suc place) id e =
     are_within ns ids ss (heads (sort_at ns i) (Some s) (map (sort_at ns) ids) (map (λ (t : Sort). Some t) ss) h).1 place id e
 
-map_sorts : (ns ms : List Node) (ids : List ℕ) → ((place id : ℕ) → slice_get ids place ≡ Some id → id < length ns) → Grows ns ms → map (sort_at ms) ids ≡ map (sort_at ns) ids
+pub map_sorts : (ns ms : List Node) (ids : List ℕ) → ((place id : ℕ) → slice_get ids place ≡ Some id → id < length ns) → Grows ns ms → map (sort_at ms) ids ≡ map (sort_at ns) ids
 map_sorts ns ms [] h g = refl
 map_sorts ns ms (i ∷ ids) h g = ap₂ (λ (v : Option Sort) (vs : List (Option Sort)). v ∷ vs) (g.sorts i (h zero i refl)) (map_sorts ns ms ids (λ k j e. h (suc k) j e) g)
 

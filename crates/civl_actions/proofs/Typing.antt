@@ -1,7 +1,7 @@
 -- An expression that has a sort has parts that have one.
 use Rattle.std.specs.Prelude.{◌&&◌, IsSome, if◌then◌else◌}
 use Rattle.std.proofs.Common.{◌≡◌, ◌∙◌, ℕ, Bool, true, false, refl, sym, ap, subst, Option, Some, None}
-use Rattle.std.proofs.lemmas.Bool.{false≢true}
+use Rattle.std.proofs.lemmas.Bool.{false≢true, and_parts}
 use Rattle.civl_tree.specs.declared.expr.One.{One}
 use Rattle.civl_tree.specs.declared.expr.One.TheVariants.{Not, Flip, Minus}
 use Rattle.civl_tree.specs.declared.expr.Two.{Two}
@@ -16,7 +16,6 @@ use Rattle.civl_tree.specs.rules.Sorts.{sort_of, sort_step, is_truth, is_word, w
 use Rattle.civl_tree.specs.rules.Exprs.{is_index, widths_fit, indices_fit, index_step}
 use Rattle.civl_tree.proofs.Layers.{width_layer, widths_is}
 use Rattle.civl_firing.specs.values.Weights.{weight_of, weight_step}
-use Rattle.civl_firing.proofs.values.Sorting.{both}
 use Rattle.civl_actions.specs.Scopes.{IsTyped}
 
 -- ---- the sorts of operands
@@ -58,7 +57,7 @@ equals o p e = two_common o p (of_over (common_sort o p) e)
 truths : (o p : Option Sort) → IsSome (truths_sort o p) → IsSome o × IsSome p
 truths o p e =
     let c = chosen (is_truth o && is_truth p) (Some Truth) e in
-    let b = both (is_truth o) (is_truth p) c.0 in
+    let b = and_parts (is_truth o) (is_truth p) c.0 in
     (of_truth o b.0, of_truth p b.1)
 
 one_part : (op : One) (o : Option Sort) → IsSome (one_sort op o) → IsSome o
@@ -105,7 +104,7 @@ set_parts None p q e = absurd (false≢true e)
 set_parts (Some Truth) p q e = absurd (false≢true e)
 set_parts (Some (Word w)) p q e = absurd (false≢true e)
 set_parts (Some (Row i w)) p q e =
-    let b = both (is_word i p) (is_word w q) (chosen (is_word i p && is_word w q) (Some (Row i w)) e).0 in
+    let b = and_parts (is_word i p) (is_word w q) (chosen (is_word i p && is_word w q) (Some (Row i w)) e).0 in
     (refl, of_width i p b.0, of_width w q b.1)
 
 fill_part : (i : ℕ) (o : Option Sort) → IsSome (fill_sort i o) → IsSome o
@@ -170,61 +169,61 @@ module _ (sorts : Sorts) where
   typed_two op a b t =
       let l = layer_typed sorts (expr.Two op a b) t in
       let s = two_parts op (sort_of sorts a) (sort_of sorts b) l.sorted in
-      let w = both (widths_fit sorts a) (widths_fit sorts b) l.widths in
-      let i = both (indices_fit a) (indices_fit b) l.indices in
+      let w = and_parts (widths_fit sorts a) (widths_fit sorts b) l.widths in
+      let i = and_parts (indices_fit a) (indices_fit b) l.indices in
       (part sorts a s.0 w.0 i.0, part sorts b s.1 w.1 i.1)
 
   pub typed_pick : (c a b : Expr) → IsTyped sorts (roll-Expr (expr.Pick c a b)) → IsTyped sorts c × IsTyped sorts a × IsTyped sorts b
   typed_pick c a b t =
       let l = layer_typed sorts (expr.Pick c a b) t in
       let s = pick_parts (sort_of sorts c) (sort_of sorts a) (sort_of sorts b) l.sorted in
-      let w = both (widths_fit sorts c) (widths_fit sorts a && widths_fit sorts b) l.widths in
-      let v = both (widths_fit sorts a) (widths_fit sorts b) w.1 in
-      let i = both (indices_fit c) (indices_fit a && indices_fit b) l.indices in
-      let j = both (indices_fit a) (indices_fit b) i.1 in
+      let w = and_parts (widths_fit sorts c) (widths_fit sorts a && widths_fit sorts b) l.widths in
+      let v = and_parts (widths_fit sorts a) (widths_fit sorts b) w.1 in
+      let i = and_parts (indices_fit c) (indices_fit a && indices_fit b) l.indices in
+      let j = and_parts (indices_fit a) (indices_fit b) i.1 in
       (part sorts c s.0 w.0 i.0, part sorts a s.1 v.0 j.0, part sorts b s.2 v.1 j.1)
 
   pub typed_get : (a b : Expr) → IsTyped sorts (roll-Expr (expr.Get a b)) → IsTyped sorts a × IsTyped sorts b
   typed_get a b t =
       let l = layer_typed sorts (expr.Get a b) t in
       let s = get_parts (sort_of sorts a) (sort_of sorts b) l.sorted in
-      let w = both (widths_fit sorts a) (widths_fit sorts b) l.widths in
-      let i = both (indices_fit a) (indices_fit b) l.indices in
+      let w = and_parts (widths_fit sorts a) (widths_fit sorts b) l.widths in
+      let i = and_parts (indices_fit a) (indices_fit b) l.indices in
       (part sorts a s.0 w.0 i.0, part sorts b s.1 w.1 i.1)
 
   pub typed_set : (c a b : Expr) → IsTyped sorts (roll-Expr (expr.Set c a b)) → IsTyped sorts c × IsTyped sorts a × IsTyped sorts b
   typed_set c a b t =
       let l = layer_typed sorts (expr.Set c a b) t in
       let s = set_parts (sort_of sorts c) (sort_of sorts a) (sort_of sorts b) l.sorted in
-      let w = both (widths_fit sorts c) (widths_fit sorts a && widths_fit sorts b) l.widths in
-      let v = both (widths_fit sorts a) (widths_fit sorts b) w.1 in
-      let i = both (indices_fit c) (indices_fit a && indices_fit b) l.indices in
-      let j = both (indices_fit a) (indices_fit b) i.1 in
+      let w = and_parts (widths_fit sorts c) (widths_fit sorts a && widths_fit sorts b) l.widths in
+      let v = and_parts (widths_fit sorts a) (widths_fit sorts b) w.1 in
+      let i = and_parts (indices_fit c) (indices_fit a && indices_fit b) l.indices in
+      let j = and_parts (indices_fit a) (indices_fit b) i.1 in
       (part sorts c s.0 w.0 i.0, part sorts a s.1 v.0 j.0, part sorts b s.2 v.1 j.1)
 
   pub typed_fill : (n : ℕ) (a : Expr) → IsTyped sorts (roll-Expr (expr.Fill n a)) → (is_index n ≡ true) × IsTyped sorts a
   typed_fill n a t =
       let l = layer_typed sorts (expr.Fill n a) t in
-      let i = both (is_index n) (indices_fit a) l.indices in
+      let i = and_parts (is_index n) (indices_fit a) l.indices in
       (i.0, part sorts a (fill_part n (sort_of sorts a) l.sorted) l.widths i.1)
 
   pub typed_slice : (a : Expr) (high low : ℕ) → IsTyped sorts (roll-Expr (expr.Slice a high low)) → IsTyped sorts a
   typed_slice a high low t =
       let l = layer_typed sorts (expr.Slice a high low) t in
-      let w = both (widths_fit sorts a) _ l.widths in
+      let w = and_parts (widths_fit sorts a) _ l.widths in
       part sorts a (slice_part (sort_of sorts a) high low l.sorted) w.0 l.indices
 
   pub typed_widen : (a : Expr) (n : ℕ) → IsTyped sorts (roll-Expr (expr.Widen a n)) → IsTyped sorts a
   typed_widen a n t =
       let l = layer_typed sorts (expr.Widen a n) t in
-      let w = both (widths_fit sorts a) _ l.widths in
+      let w = and_parts (widths_fit sorts a) _ l.widths in
       part sorts a (widen_part (sort_of sorts a) n l.sorted) w.0 l.indices
 
   pub typed_join : (a b : Expr) → IsTyped sorts (roll-Expr (expr.Join a b)) → IsTyped sorts a × IsTyped sorts b
   typed_join a b t =
       let l = layer_typed sorts (expr.Join a b) t in
       let s = join_parts (sort_of sorts a) (sort_of sorts b) l.sorted in
-      let w = both (widths_fit sorts a) _ l.widths in
-      let v = both (widths_fit sorts b) _ w.1 in
-      let i = both (indices_fit a) (indices_fit b) l.indices in
+      let w = and_parts (widths_fit sorts a) _ l.widths in
+      let v = and_parts (widths_fit sorts b) _ w.1 in
+      let i = and_parts (indices_fit a) (indices_fit b) l.indices in
       (part sorts a s.0 w.0 i.0, part sorts b s.1 v.0 i.1)

@@ -13,7 +13,7 @@ signed_at-clear w a h = cond-true (nat_lt a (2 ^ (w - 1))) (pos a) (pos a -ℤ p
 pub signed_at-set : (w a : ℕ) → 2 ^ (w - 1) ≤ a → signed_at w a ≡ pos a -ℤ pos (2 ^ w)
 signed_at-set w a h = cond-false (nat_lt a (2 ^ (w - 1))) (pos a) (pos a -ℤ pos (2 ^ w)) (le-ltb a (2 ^ (w - 1)) h)
 
-above_negative : (a b p : ℕ) → b < p → int_lt (pos a) (pos b -ℤ pos p) ≡ false
+pub above_negative : (a b p : ℕ) → b < p → int_lt (pos a) (pos b -ℤ pos p) ≡ false
 above_negative a b p h = grind (arith, ints)
 
 below_positive : (a b p : ℕ) → a < p → int_lt (pos a -ℤ pos p) (pos b) ≡ true

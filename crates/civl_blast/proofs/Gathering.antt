@@ -4,7 +4,7 @@ use Rattle.std.specs.List.{range_with_len}
 use Rattle.std.proofs.Common.{◌≡◌, ℕ, zero, suc, ◌^◌, ◌%◌, ◌<◌, List, [], ◌∷◌, map, refl, sym, ◌∙◌, ap, subst, inl, inr, arith, true, ◌&&◌, Some}
 use Rattle.std.proofs.Math.Nat.{mod-eq_of_lt}
 use Rattle.std.proofs.lemmas.Nat.{mod_below, pow_pos}
-use Rattle.std.proofs.lemmas.Bool.{cases_Bool, false≢true, cond-true, cond-false, eq-eqb, eqb-true, and_from}
+use Rattle.std.proofs.lemmas.Bool.{cases_Bool, false≢true, cond-true, cond-false, eq-eqb, eqb-true, and_from, and_parts}
 use Rattle.std.proofs.lemmas.List.FromFn.{length-map-range_with_len, get_or-map-range_with_len}
 use Rattle.civl_bits.specs.Row.{Cells, IsRow}
 use Rattle.civl_bits.specs.declared.value.Value.{Value}
@@ -12,7 +12,7 @@ use Rattle.civl_bits.specs.declared.value.Value.TheVariants as value
 use Rattle.civl_tree.specs.declared.expr.Sort.{Sort}
 use Rattle.civl_tree.specs.declared.expr.Sort.TheVariants as sort
 use Rattle.civl_firing.specs.values.Values.{HasSort}
-use Rattle.civl_firing.proofs.values.Sorting.{both, word_of, row_of}
+use Rattle.civl_firing.proofs.values.Sorting.{word_of, row_of}
 use Rattle.civl_blast.specs.reach.Reaching.{is_plain}
 use Rattle.civl_blast.specs.rows.Cells.{cell_of}
 use Rattle.civl_blast.specs.declared.rows.flat.Cell.{Cell}
@@ -82,7 +82,7 @@ number_found (c ∷ cs) env zero e once g =
     cond-true (nat_eq c.variable e.variable && nat_eq c.cell e.cell) (number_in (env c.number)) (number_for cs env e.variable e.cell) hit ∙ ap (λ (x : Cell). number_in (env x.number)) same
 number_found (c ∷ cs) env (suc p) e once g = elim (cases_Bool (nat_eq c.variable e.variable && nat_eq c.cell e.cell)) [
   | inl on ↦
-      let parts = both (nat_eq c.variable e.variable) (nat_eq c.cell e.cell) on in
+      let parts = and_parts (nat_eq c.variable e.variable) (nat_eq c.cell e.cell) on in
       cond-true (nat_eq c.variable e.variable && nat_eq c.cell e.cell) (number_in (env c.number)) (number_for cs env e.variable e.cell) on
       ∙ ap (λ n. number_in (env n)) (once 0 (suc p) c e refl g (eqb-true c.variable e.variable parts.0) (eqb-true c.cell e.cell parts.1))
   | inr off ↦

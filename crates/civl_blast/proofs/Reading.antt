@@ -36,7 +36,7 @@ read_value v first sort.Bool = value.Bool (v first)
 read_value v first (sort.Word w) = value.Word (w, number_of_bits w (λ j. bit (v (first + j))))
 read_value v first (sort.Row i w) = value.Bool false
 
-small_bits : (v : ℕ → Bool) (first j : ℕ) → bit (v (first + j)) < 2
+pub small_bits : (v : ℕ → Bool) (first j : ℕ) → bit (v (first + j)) < 2
 small_bits v first j = omega (arith, bit-small (v (first + j)))
 
 read_value-shows : (v : ℕ → Bool) (first : ℕ) (s : Sort) → IsTrue (is_sort s) → IsTrue (is_plain (Some s)) → HasSort (read_value v first s) s × Shows v first (read_value v first s)

@@ -3,33 +3,27 @@ use Rattle.std.proofs.Common.{ℕ, ◌+◌, ◌<◌, ◌≤◌, ◌≡◌, ◌�
 use Rattle.std.specs.Prelude.{All, IfSome, IfNone, is_some}
 use Rattle.std.proofs.lemmas.Bool.{false≢true}
 use Rattle.std.proofs.lemmas.List.{get_or_default}
-use Rattle.std.proofs.lemmas.List.Elements.{All-nil, All-cons, All-head, All-tail}
+use Rattle.std.proofs.lemmas.List.Elements.{All-nil, All-cons, All-tail, All-append}
+use Rattle.civl_tree.proofs.Lists.{all_left, drop_is}
 use Rattle.civl_meaning.specs.declared.config.Move.{Move}
 use Rattle.civl_meaning.specs.declared.config.Config.{Config}
 use Rattle.civl_meaning.specs.Failing.{IsMove}
 use Rattle.civl_reduction.specs.interleavings.Systems.{Failing, System}
-use Rattle.civl_reduction.specs.interleavings.Runs.{RunsTo, Opens}
+use Rattle.civl_reduction.specs.interleavings.Runs.{Opens}
 use Rattle.civl_reduction.specs.gathering.Gathered.{others, Passes, FailsBehind, FailsSooner, AllPass}
-use Rattle.civl_reduction.proofs.gathering.Gathering.{others_other, all_join}
+use Rattle.civl_reduction.proofs.gathering.Gathering.{others_other}
 use Rattle.civl_reduction.proofs.gathering.Counting.{others_more, counted_behind, counted_opens_then}
 use Rattle.civl_reduction.proofs.gathering.Standing.{opens_run}
 use Rattle.civl_blocked.specs.declared.ground.Ground.{Ground}
 use Rattle.civl_blocked.specs.Segments.{over, IsShortened}
 use Rattle.civl_blocked.specs.Shortened.{IsFront, FailsBehindOther}
 use Rattle.civl_blocked.proofs.Strides.{same_end, run_more, runs_join}
-use Rattle.civl_blocked.proofs.Picking.{drop_is, all_item}
-
-pub all_left : {A : Type 0} (V : A → Type 0) (xs ys : List A) → All V (xs ++ ys) → All V xs
-all_left V [] ys v = All-nil V
-all_left V (x ∷ xs) ys v = All-cons V x xs (All-head V x (xs ++ ys) v) (all_left V xs ys (All-tail V x (xs ++ ys) v))
+use Rattle.civl_blocked.proofs.Picking.{all_item}
+use Rattle.civl_blocked.proofs.Rooms.{pass_runs}
 
 pub all_right : {A : Type 0} (V : A → Type 0) (xs ys : List A) → All V (xs ++ ys) → All V ys
 all_right V [] ys v = v
 all_right V (x ∷ xs) ys v = all_right V xs ys (All-tail V x (xs ++ ys) v)
-
-pass_runs : {C M : Type 0} (S : System C M) (t : ℕ) (ms : List M) (c e : C) → AllPass S t ms c e → RunsTo S.steps ms c e
-pass_runs S t [] c e a = a
-pass_runs S t (m ∷ ms) c e a = (a.0, a.1.0, pass_runs S t ms a.0 e a.2)
 
 module _ (g : Ground) (t : ℕ) where
   abbrev S : System Config Move
@@ -50,7 +44,7 @@ module _ (g : Ground) (t : ℕ) where
     fails = (y, run_more S front m from x y (opens_run S t front from x o) s, f);
     short = (let n = length-append front (m ∷ []) in omega (arith, n, short, h));
     own = counted_opens_then S t front m from x y o w s;
-    are_moves = λ v. all_join IsMove front (m ∷ []) (valid v) (All-cons IsMove m [] (all_item IsMove ms i m h e v) (All-nil IsMove));
+    are_moves = λ v. All-append IsMove front (m ∷ []) (valid v) (All-cons IsMove m [] (all_item IsMove ms i m h e v) (All-nil IsMove));
   }
 
   pub behind_on : (m : Move) (ms : List Move) (c x : Config) → S.step c m ≡ Some x → (Failing S.steps x → ⊥) → FailsBehind S t (m ∷ ms) c → (S.inside x t ≡ true) × FailsBehind S t ms x
@@ -86,5 +80,5 @@ module _ (g : Ground) (t : ℕ) where
       fewer_others = (let n = counted_behind S t (take i ms) front from c a in let z = f.own in
           let q = ap (λ l. length (others S.mover t l)) parts ∙ (ap length (others_more S.mover t (take i ms) (m ∷ drop (i + 1) ms)) ∙ length-append (others S.mover t (take i ms)) (others S.mover t (m ∷ drop (i + 1) ms))) in
           let p = ap length (others_other S.mover t m (drop (i + 1) ms) w) in omega (arith, n, z, q, p));
-      are_moves = λ v. (let u = subst (All IsMove) parts v in all_join IsMove (take i ms) front (all_left IsMove (take i ms) (m ∷ drop (i + 1) ms) u) (f.are_moves (All-tail IsMove m (drop (i + 1) ms) (all_right IsMove (take i ms) (m ∷ drop (i + 1) ms) u))));
+      are_moves = λ v. (let u = subst (All IsMove) parts v in All-append IsMove (take i ms) front (all_left IsMove (take i ms) (m ∷ drop (i + 1) ms) u) (f.are_moves (All-tail IsMove m (drop (i + 1) ms) (all_right IsMove (take i ms) (m ∷ drop (i + 1) ms) u))));
     })

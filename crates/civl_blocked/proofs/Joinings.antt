@@ -2,7 +2,7 @@
 use Rattle.std.proofs.Common.{ℕ, ◌+◌, ◌<◌, ◌≤◌, ◌≡◌, Bool, true, false, List, [], ◌∷◌, ◌++◌, length, Option, None, Some, refl, sym, ap, subst, ◌∙◌, arith, inr, length-append}
 use Rattle.std.specs.Prelude.{All, if◌then◌else◌}
 use Rattle.std.proofs.lemmas.Option.{same_Some, none-some}
-use Rattle.std.proofs.lemmas.List.Elements.{All-nil, All-cons}
+use Rattle.std.proofs.lemmas.List.Elements.{All-nil, All-cons, All-append}
 use Rattle.civl_meaning.specs.declared.config.Move.{Move}
 use Rattle.civl_meaning.specs.declared.config.Config.{Config}
 use Rattle.civl_meaning.specs.Failing.{IsMove}
@@ -13,7 +13,7 @@ use Rattle.civl_reduction.proofs.interleavings.Staging.{staged_runs, inside_more
 use Rattle.civl_reduction.specs.blocks.Challenged.{challenged}
 use Rattle.civl_shadows.specs.declared.shadow.Shadowed as kept
 use Rattle.civl_reduction.specs.gathering.Gathered.{own, others, blocks}
-use Rattle.civl_reduction.proofs.gathering.Gathering.{all_join, own_all, others_all}
+use Rattle.civl_reduction.proofs.gathering.Gathering.{own_all, others_all}
 use Rattle.civl_reduction.proofs.gathering.Counting.{split_length, counted_few, blocks_more, blocks_opens, blocks_step}
 use Rattle.civl_reduction.proofs.gathering.Standing.{staged_joined}
 use Rattle.civl_reduction.specs.gathered.Laws.{IsReached, PlacesAreInside, OthersLeave, by_thread}
@@ -94,7 +94,7 @@ module _ (g : Ground) (ground : IsGround g) (inside_law : PlacesAreInside) (leav
   middle_run = blocks_run S (done ++ own by_thread u ms) None joined.0 S.start j.middle (staged_runs S joined.2)
 
   all_done : All IsMove done2
-  all_done = subst (All IsMove) (sym j.done_is) (all_join IsMove (done ++ own by_thread u ms) (m ∷ []) (all_join IsMove done (own by_thread u ms) j.standing.done_moves (own_all IsMove by_thread u ms j.moves)) (All-cons IsMove m [] j.last (All-nil IsMove)))
+  all_done = subst (All IsMove) (sym j.done_is) (All-append IsMove (done ++ own by_thread u ms) (m ∷ []) (All-append IsMove done (own by_thread u ms) j.standing.done_moves (own_all IsMove by_thread u ms j.moves)) (All-cons IsMove m [] j.last (All-nil IsMove)))
 
   reached : IsReached (program_of g) g.layer g.store.now new.config
   reached = record { moves = done2; are_moves = all_done; runs = subst (λ l. RunsTo S.steps l S.start new.config) (sym j.done_is) (run_more S (done ++ own by_thread u ms) m S.start j.middle new.config middle_run j.step) }
@@ -110,7 +110,7 @@ module _ (g : Ground) (ground : IsGround g) (inside_law : PlacesAreInside) (leav
   rest_fails = subst (λ l. FailsTo S l new.config) (sym j.rest_is) (j.fails.0, runs_join S (others by_thread u ms) rest new.config e j.fails.0 j.run j.fails.1, j.fails.2)
 
   rest_all : All IsMove rest2
-  rest_all = subst (All IsMove) (sym j.rest_is) (all_join IsMove (others by_thread u ms) rest (others_all IsMove by_thread u ms j.moves) j.rest_moves)
+  rest_all = subst (All IsMove) (sym j.rest_is) (All-append IsMove (others by_thread u ms) rest (others_all IsMove by_thread u ms j.moves) j.rest_moves)
 
   -- how many blocks
   before_runs : RunsTo S.steps done S.start beside.config

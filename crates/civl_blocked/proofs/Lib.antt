@@ -1,5 +1,5 @@
 mod Meanings
-mod Failures
+pub mod Failures
 mod Strides
 mod Besides
 mod Picking

@@ -5,14 +5,11 @@ use Rattle.civl_bits.specs.declared.value.Value.{Value}
 use Rattle.civl_tree.specs.declared.name.Name.{Name}
 use Rattle.civl_tree.specs.declared.program.Proc.{Proc}
 use Rattle.civl_tree.specs.declared.stmt.Stmt.{Stmt, out-Stmt}
-use Rattle.civl_tree.specs.Numbering.{sizes_of}
 use Rattle.civl_firing.specs.declared.store.Store.{Store}
 use Rattle.civl_meaning.specs.declared.config.Activation.{Activation}
 use Rattle.civl_meaning.specs.declared.config.Plain.{Plain}
 use Rattle.civl_meaning.specs.Change.{outs_in}
 use Rattle.civl_meaning.specs.Places.{Spot, spot_at}
-use Rattle.civl_meaning.specs.Rest.{Rest, rest_at, head_of}
-use Rattle.civl_meaning.proofs.Rests.{spot_of_rest}
 use Rattle.civl_meaning.specs.Meaning.{Meaning, Does, Runs, Missing}
 use Rattle.civl_reduction.specs.exchanges.Doing.{call_doing, layer_doing, leaving, spot_doing, proc_doing}
 use Rattle.civl_reduction.specs.gathered.Offered.{offers_of}
@@ -25,10 +22,6 @@ pub call_so : (plain : Plain) (store : Store) (names : List Name) (locals : List
 call_so plain store names locals results at next (Does action) args = refl
 call_so plain store names locals results at next (Runs number proc) args = refl
 call_so plain store names locals results at next Missing args = refl
-
--- the statement at a place is the first one of what is still to run
-pub head_at : (proc : Proc) (place : ℕ) (k : Rest) (o : Option Stmt) → k ≡ rest_at proc.body place → ((end : ℕ) → o ≡ stmt_of (head_of end k)) → stmt_of (spot_at proc.body place) ≡ o
-head_at proc place k o e h = ap stmt_of (spot_of_rest proc.body place) ∙ (ap (λ (r : Rest). stmt_of (head_of (sizes_of proc.body) r)) (sym e) ∙ sym (h (sizes_of proc.body)))
 
 module _ (plain : Plain) (store : Store) (frame : Activation) (proc : Proc) (there : slice_get plain.program.procs frame.procedure ≡ Some proc) where
   abbrev Does_so : Option Activation → List Value

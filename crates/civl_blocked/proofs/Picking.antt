@@ -1,20 +1,19 @@
 -- The moves of a thread, one after the other.
-use Rattle.std.proofs.Common.{ℕ, suc, ◌+◌, ◌<◌, ◌≡◌, ◌≢◌, true, List, [], ◌∷◌, ◌++◌, length, take, drop, get_or, Option, Some, sym, ap, subst, ◌∙◌, arith, drop-cons}
+use Rattle.std.proofs.Common.{ℕ, ◌+◌, ◌<◌, ◌≡◌, ◌≢◌, true, List, [], ◌∷◌, ◌++◌, length, take, drop, get_or, Option, Some, sym, ap, subst, ◌∙◌}
 use Rattle.std.specs.Prelude.{All, IfSome}
 use Rattle.std.proofs.lemmas.List.{append-nil, take_more}
 use Rattle.std.proofs.lemmas.List.Elements.{All-get_or}
+use Rattle.civl_tree.proofs.Lists.{drop_is}
 use Rattle.civl_reduction.specs.interleavings.Systems.{System}
 use Rattle.civl_reduction.specs.interleavings.Runs.{RunsTo, Opens}
 use Rattle.civl_reduction.specs.gathering.Gathered.{own, others}
 use Rattle.civl_reduction.proofs.gathering.Gathering.{own_mine, own_other, others_mine, others_other, own_more}
 use Rattle.civl_reduction.proofs.gathering.Counting.{others_more}
-use Rattle.civl_blocked.proofs.Strides.{open_more, opens_step, run_more, runs_step}
+use Rattle.civl_reduction.proofs.interleavings.Staging.{opens_more}
+use Rattle.civl_blocked.proofs.Strides.{opens_step, run_more, runs_step}
 
 pub if_some : {A : Type 0} (P : A → Type 0) (o : Option A) (x : A) → o ≡ Some x → IfSome o P → P x
 if_some P o x e h = subst (λ z. IfSome z P) e h
-
-pub drop_is : {A : Type 0} (xs : List A) (i : ℕ) (x : A) → i < length xs → x ≡ get_or xs i x → drop i xs ≡ x ∷ drop (i + 1) xs
-drop_is xs i x h e = let one : suc i ≡ i + 1 = omega arith in drop-cons xs i x h ∙ (ap (λ y. y ∷ drop (suc i) xs) (sym e) ∙ ap (λ n. x ∷ drop n xs) one)
 
 pub take_is : {A : Type 0} (xs : List A) (i : ℕ) (x : A) → i < length xs → x ≡ get_or xs i x → take (i + 1) xs ≡ take i xs ++ x ∷ []
 take_is xs i x h e = take_more xs i x h ∙ ap (λ y. take i xs ++ y ∷ []) (sym e)
@@ -48,7 +47,7 @@ module _ {C M : Type 0} (S : System C M) (t : ℕ) (ms : List M) (i : ℕ) (m : 
   skips_left w c d o = subst (λ l. Opens S t l c d) (own_passed w) o
 
   pub goes_made : S.mover m ≡ t → (c d x : C) → Opens S t (own S.mover t (take i ms)) c d → S.step d m ≡ Some x → S.inside x t ≡ true → Opens S t (own S.mover t (take (i + 1) ms)) c x
-  goes_made w c d x o s k = subst (λ l. Opens S t l c x) (sym (own_take w)) (open_more S t (own S.mover t (take i ms)) m c d x o w s k)
+  goes_made w c d x o s k = subst (λ l. Opens S t l c x) (sym (own_take w)) (opens_more S t (own S.mover t (take i ms)) m c d x o w s k)
 
   pub goes_left : S.mover m ≡ t → (c d x : C) → S.step c m ≡ Some d → Opens S t (own S.mover t (drop i ms)) c x → Opens S t (own S.mover t (drop (i + 1) ms)) d x
   goes_left w c d x s o = opens_step S t m (own S.mover t (drop (i + 1) ms)) c d x s (subst (λ l. Opens S t l c x) (own_left w) o)

@@ -1,10 +1,11 @@
 -- Room for blocks, and where a run stands.
-use Rattle.std.proofs.Common.{ℕ, ◌+◌, ◌≤◌, ◌≡◌, ◌≢◌, Bool, true, false, ◌||◌, List, [], ◌∷◌, ◌++◌, length, Option, None, Some, refl, sym, ap, subst, ◌∙◌, arith, inl, inr, ◌⊎◌, zero, suc, slice_get, length-append, Result, Ok, Err}
+use Rattle.std.proofs.Common.{ℕ, ◌+◌, ◌≤◌, ◌≡◌, ◌≢◌, true, false, List, [], ◌∷◌, ◌++◌, length, Option, None, Some, refl, sym, ap, subst, ◌∙◌, arith, inl, inr, ◌⊎◌, slice_get, length-append, Result, Ok, Err}
 use Rattle.std.specs.Prelude.{All, IsTrue, IfOk}
-use Rattle.std.specs.List.{list_any}
 use Rattle.std.proofs.lemmas.List.{append-nil}
 use Rattle.std.proofs.lemmas.Bool.{false≢true}
 use Rattle.std.proofs.lemmas.Option.{same_Some, none-some}
+use Rattle.std.proofs.lemmas.Map.Keys.{any_passes_from_place}
+use Rattle.std.proofs.lemmas.List.Elements.{All-append}
 use Rattle.civl_meaning.specs.declared.config.Move.{Move}
 use Rattle.civl_meaning.specs.declared.config.Config.{Config}
 use Rattle.civl_meaning.specs.declared.config.Stepped.{Stepped}
@@ -19,7 +20,7 @@ use Rattle.civl_reduction.specs.interleavings.Reduction.{Place, Between, Early, 
 use Rattle.civl_reduction.proofs.interleavings.Staging.{staged_runs}
 use Rattle.civl_shadows.specs.declared.shadow.Shadowed as kept
 use Rattle.civl_reduction.specs.gathering.Gathered.{others, counted, AllPass}
-use Rattle.civl_reduction.proofs.gathering.Gathering.{others_mine, all_join}
+use Rattle.civl_reduction.proofs.gathering.Gathering.{others_mine}
 use Rattle.civl_reduction.proofs.gathering.Counting.{others_more, counted_behind, counted_last}
 use Rattle.civl_reduction.specs.gathered.System.{made, there_fails}
 use Rattle.civl_reduction.specs.gathered.Laws.{IsReached, PlacesAreInside, by_thread}
@@ -85,7 +86,7 @@ module _ (g : Ground) where
 
   pub end_reached : (done : List Move) (o : Option ℕ) (beside : kept.Shadowed) (t : ℕ) (ms : List Move) (e : Config) → Standing g done o beside → All IsMove ms → AllPass (over g) t ms beside.config e → IsReached (program_of g) g.layer g.store.now e
   end_reached done o beside t ms e s v a =
-      record { moves = done ++ ms; are_moves = all_join IsMove done ms s.done_moves v; runs = runs_join (over g) done ms (over g).start beside.config e (blocks_run (over g) done None o (over g).start beside.config (staged_runs (over g) s.staged)) (pass_runs (over g) t ms beside.config e a) }
+      record { moves = done ++ ms; are_moves = All-append IsMove done ms s.done_moves v; runs = runs_join (over g) done ms (over g).start beside.config e (blocks_run (over g) done None o (over g).start beside.config (staged_runs (over g) s.staged)) (pass_runs (over g) t ms beside.config e a) }
 
   -- ---- as the program has it
 
@@ -101,25 +102,12 @@ module _ (g : Ground) where
   plain_runs [] c e r = r
   plain_runs (m ∷ ms) c e r = (r.0, moved_is (step_of (program_at (program_of g) g.layer) c m) r.0 r.1, plain_runs ms r.0 e r.2)
 
-  any_there : {A : Type 0} (p : A → Bool) (xs : List A) (i : ℕ) (x : A) → slice_get xs i ≡ Some x → p x ≡ true → list_any p xs ≡ true
-  any_there p [] i x e h = absurd (none-some x e)
-  any_there p (y ∷ xs) zero x e h = by_first (p y) (ap p (same_Some y x e) ∙ h)
-    where
-      by_first : (b : Bool) → b ≡ true → (b || list_any p xs) ≡ true
-      by_first true q = refl
-      by_first false q = absurd (false≢true q)
-  any_there p (y ∷ xs) (suc i) x e h = by_rest (p y) (any_there p xs i x e h)
-    where
-      by_rest : (b : Bool) → list_any p xs ≡ true → (b || list_any p xs) ≡ true
-      by_rest true q = refl
-      by_rest false q = q
-
   pub plain_fails : (e : Config) → Failing (over g).steps e → IsTrue (is_failing (program_at (program_of g) g.layer) e)
   plain_fails e f = go (slice_get e.threads f.0) refl f.1
     where
       go : (o : Option _) → slice_get e.threads f.0 ≡ o → there_fails (program_at (program_of g) g.layer) e.store o ≡ true → IsTrue (is_failing (program_at (program_of g) g.layer) e)
       go None q h = absurd (false≢true h)
-      go (Some x) q h = any_there (thread_fails (program_at (program_of g) g.layer) e.store) e.threads f.0 x q h
+      go (Some x) q h = any_passes_from_place (thread_fails (program_at (program_of g) g.layer) e.store) e.threads f.0 x q h
 
   -- ---- places
 

@@ -37,10 +37,6 @@ module _ {C M : Type 0} (S : System C M) where
   runs_join [] ns c d e r q = subst (λ x. RunsTo S.steps ns x e) (sym r) q
   runs_join (m ∷ ms) ns c d e r q = (r.0, r.1, runs_join ms ns r.0 d e r.2 q)
 
-  pub open_more : (t : ℕ) (ms : List M) (m : M) (c d e : C) → Opens S t ms c d → S.mover m ≡ t → S.step d m ≡ Some e → S.inside e t ≡ true → Opens S t (ms ++ m ∷ []) c e
-  open_more t [] m c d e o w s i = (e, w, subst (λ x. S.step x m ≡ Some e) (sym o) s, i, refl)
-  open_more t (n ∷ ms) m c d e o w s i = (o.0, o.1, o.2, o.3, open_more t ms m o.0 d e o.4 w s i)
-
   -- ---- there is one end
 
   pub one_end : (ms : List M) (c d e : C) → RunsTo S.steps ms c d → RunsTo S.steps ms c e → d ≡ e

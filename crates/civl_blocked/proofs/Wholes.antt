@@ -2,8 +2,9 @@
 use Rattle.std.proofs.Common.{ℕ, ◌+◌, ◌<◌, ◌≤◌, ◌≡◌, Bool, true, false, List, [], ◌∷◌, ◌++◌, length, take, drop, Option, None, Some, refl, sym, ap, subst, ◌∙◌, arith, inr, length-append, get_or, take-append-drop}
 use Rattle.std.specs.Prelude.{All}
 use Rattle.std.proofs.lemmas.List.{append-nil, length-drop}
-use Rattle.std.proofs.lemmas.List.Elements.{All-nil, All-cons}
+use Rattle.std.proofs.lemmas.List.Elements.{All-nil, All-cons, All-append}
 use Rattle.std.proofs.lemmas.Option.{none-some}
+use Rattle.civl_tree.proofs.Lists.{drop_is}
 use Rattle.civl_meaning.specs.declared.config.Move.{Move}
 use Rattle.civl_meaning.specs.declared.config.Config.{Config}
 use Rattle.civl_meaning.specs.Failing.{IsMove}
@@ -11,7 +12,6 @@ use Rattle.civl_reduction.specs.interleavings.Systems.{System}
 use Rattle.civl_reduction.specs.interleavings.Runs.{RunsTo, MayStep, opened, BlocksTo, Staged, goes, ends}
 use Rattle.civl_reduction.proofs.interleavings.Staging.{staged_runs, blocks_more}
 use Rattle.civl_reduction.specs.gathering.Gathered.{blocks}
-use Rattle.civl_reduction.proofs.gathering.Gathering.{all_join}
 use Rattle.civl_reduction.proofs.gathering.Counting as counting
 use Rattle.civl_shadows.specs.declared.shadow.Shadowed as kept
 use Rattle.civl_blocked.specs.declared.ground.Ground.{Ground}
@@ -21,7 +21,6 @@ use Rattle.civl_blocked.specs.Blocked.{IsTurned}
 use Rattle.civl_blocked.specs.Segments.{over, program_of, FailsTo}
 use Rattle.civl_blocked.specs.Turning.{IsBeside, Standing, Going, Bounded, ended, measure_of}
 use Rattle.civl_blocked.proofs.Joinings.{blocks_run}
-use Rattle.civl_blocked.proofs.Picking.{drop_is}
 use Rattle.civl_blocked.proofs.Strides.{same_end, runs_join}
 
 pub joins_none : (g : Ground) (done : List Move) (beside : kept.Shadowed) (blocks : List Move) → Standing g done None beside → (e : Config) × BlocksTo (over g) None blocks beside.config None e
@@ -56,7 +55,7 @@ module _ (g : Ground) (before : List Move) (from : Config) (joined left done : L
     run = blocks_run S done None j.owner S.start beside.config (staged_runs S j.staged)
 
     all_done : All IsMove done2
-    all_done = subst (All IsMove) (sym done_is) (all_join IsMove done (m ∷ []) j.done_moves (All-cons IsMove m [] one (All-nil IsMove)))
+    all_done = subst (All IsMove) (sym done_is) (All-append IsMove done (m ∷ []) j.done_moves (All-cons IsMove m [] one (All-nil IsMove)))
 
     at_most_one : (b : Bool) → counting.block_end S b ≤ 1
     at_most_one true = omega arith
@@ -146,7 +145,7 @@ module _ (g : Ground) (before done : List Move) (old new : kept.Shadowed) (rest 
   pub wholes_go : Going g done None new rest2
   wholes_go = record {
     standing = longer.standing;
-    rest_moves = subst (All IsMove) (sym rest_is) (all_join IsMove a.others.items (drop (count_of a) rest) is.other_moves left_moves);
+    rest_moves = subst (All IsMove) (sym rest_is) (All-append IsMove a.others.items (drop (count_of a) rest) is.other_moves left_moves);
     fails = subst (λ l. FailsTo (over g) l new.config) (sym rest_is) fails_so;
   }
 

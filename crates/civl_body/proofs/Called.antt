@@ -1,39 +1,28 @@
 -- What a call means takes and gives values of the sorts of its callee's signature.
-use Rattle.std.proofs.Common.{◌≡◌, ℕ, Bool, true, false, ◌&&◌, List, [], ◌∷◌, map, refl, sym, ap, ap₂, ◌∙◌, subst, Option, Some, None, slice_get, arith}
-use Rattle.std.proofs.lemmas.Bool.{false≢true, not-false}
+use Rattle.std.proofs.Common.{◌≡◌, ℕ, Bool, true, false, List, map, refl, sym, ap, ◌∙◌, subst, Option, Some, None, slice_get, arith}
+use Rattle.std.proofs.lemmas.Bool.{not-false, and_parts}
 use Rattle.civl_tree.specs.declared.name.Name.{Name}
 use Rattle.civl_tree.specs.declared.expr.Sort.{Sort}
 use Rattle.civl_tree.specs.declared.action.Action.{Action}
-use Rattle.civl_tree.specs.declared.action.Param.{Param}
 use Rattle.civl_tree.specs.declared.program.Proc.{Proc}
 use Rattle.civl_tree.specs.declared.program.Refines.{Refines}
 use Rattle.civl_tree.specs.declared.program.Program.{Program}
 use Rattle.civl_tree.specs.rules.Names.{Signature, action_named, proc_named, action_signature, proc_signature, proc_signature_of, first_signature, callee_signature}
-use Rattle.civl_tree.specs.rules.Signature.{same_mode, same_params, signature_differs, refined_differs, proc_signature_differs}
-use Rattle.civl_tree.specs.rules.Sorts.{same_sort}
+use Rattle.civl_tree.specs.rules.Signature.{same_params, signature_differs, refined_differs, proc_signature_differs}
 use Rattle.civl_tree.specs.rules.Typing.{signature_rule}
 use Rattle.civl_tree.specs.rules.Uses.{param_sorts}
 use Rattle.civl_tree.proofs.Kept.{proc_kept}
-use Rattle.civl_firing.proofs.values.Sorting.{both, same_sort-true}
 use Rattle.civl_meaning.specs.declared.config.Plain.{Plain}
 use Rattle.civl_firing.specs.Truth.{place_of}
 use Rattle.civl_meaning.specs.Layers.{program_at}
 use Rattle.civl_meaning.specs.Meaning.{Meaning, Does, Runs, Missing, proc_number, meaning_of_action, refined, meaning_by, meaning_of, meaning_else, called}
 use Rattle.civl_firing.proofs.Finding.{found_at}
+use Rattle.civl_firing.proofs.SortLimits.{same_sorts}
 use Rattle.civl_meaning.proofs.Begun.{proc_is}
 use Rattle.civl_layers.specs.LayerRules.{layer_rules}
 use Rattle.civl_layers.specs.Layered.{IsLayered}
 
 -- ---- signatures
-
-same_sorts : (params others : List Param) → same_params params others ≡ true → param_sorts params ≡ param_sorts others
-same_sorts [] [] e = refl
-same_sorts [] (q ∷ qs) e = absurd (false≢true e)
-same_sorts (p ∷ ps) [] e = absurd (false≢true e)
-same_sorts (p ∷ ps) (q ∷ qs) e =
-    let h = both (same_mode p.mode q.mode) (same_sort p.sort q.sort && same_params ps qs) e in
-    let k = both (same_sort p.sort q.sort) (same_params ps qs) h.1 in
-    ap₂ (λ (s : Sort) (ss : List Sort). s ∷ ss) (same_sort-true p.sort q.sort k.0) (same_sorts ps qs k.1)
 
 -- a meaning that the program has, which takes and gives values of these sorts
 abbrev pub Serves : Program → List Sort → List Sort → Meaning → Type 0
@@ -55,7 +44,7 @@ module _ (program : Program) (layered : IsLayered program) (layer : ℕ) where
       by_action : (r : Refines) (o : Option Action) → action_named program r.action ≡ o → signature_differs proc o ≡ false → Serves program (param_sorts proc.params) (param_sorts proc.outs) (meaning_of_action o)
       by_action r None e h = tt
       by_action r (Some action) e h =
-          let same = both (same_params proc.params action.params) (same_params proc.outs action.outs) (not-false _ h) in
+          let same = and_parts (same_params proc.params action.params) (same_params proc.outs action.outs) (not-false _ h) in
           (place_of (map (λ a. a.name) program.actions) r.action, found_at (λ (a : Action). a.name) program.actions r.action ∙ e, sym (same_sorts proc.params action.params same.0), sym (same_sorts proc.outs action.outs same.1))
 
       by_refines : (o : Option Refines) → refined_differs program proc o ≡ false → Serves program (param_sorts proc.params) (param_sorts proc.outs) (refined program o)

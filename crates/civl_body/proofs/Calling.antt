@@ -1,6 +1,7 @@
 -- Calls at terms: what is called, and what its terms make of a sweep.
-use Rattle.std.specs.Prelude.{map, slice_get, All}
-use Rattle.std.proofs.Common.{◌≡◌, ◌∙◌, ℕ, zero, suc, ◌<◌, ◌^◌, List, [], ◌∷◌, length, refl, sym, ap, ap₂, subst, Some, None, arith}
+use Rattle.std.specs.Prelude.{map, All}
+use Rattle.std.proofs.Common.{◌≡◌, ◌∙◌, ℕ, ◌<◌, ◌^◌, List, length, refl, sym, ap, ap₂, subst, Some, None, arith}
+use Rattle.std.proofs.lemmas.Option.{same_Some}
 use Rattle.civl_bits.specs.declared.value.Value.{Value}
 use Rattle.civl_tree.specs.declared.name.Name.{Name}
 use Rattle.civl_tree.specs.declared.expr.Expr.{Expr}
@@ -40,11 +41,8 @@ use Rattle.civl_body.proofs.Called.{Serves, called_serves}
 pub few_actions : (program : Program) → IsLayered program → length program.actions < 2 ^ 32
 few_actions program layered = omega (arith, layered.numbered.items)
 
-does_is : (m : Meaning) (a : Action) → action_meant m ≡ Some a → m ≡ Does a
-does_is (Does b) a e = ap Does (same b a e)
-  where
-    same : (x y : Action) → Some x ≡ Some y → x ≡ y
-    same x y q = cc
+pub does_is : (m : Meaning) (a : Action) → action_meant m ≡ Some a → m ≡ Does a
+does_is (Does b) a e = ap Does (same_Some b a e)
 does_is (Runs n p) a e = absurd (cc)
 does_is Missing a e = absurd (cc)
 
@@ -93,11 +91,6 @@ module _ (program : Program) (layered : IsLayered program) (layer : ℕ) (proc :
           ∙ ap₂ (λ (us ws : List Value). with_action (body_of program proc) rs a us ws d) (terms.are env fits1) given
           ∙ ap (λ (x : Meaning). with_meaning c rs x (values_of (frame_values program.globals proc d.locals) es) (v env at) d) (sym (does_is (called (program_at program layer) f) a meant));
     }
-
-pub some_at : {A : Type 0} (xs : List A) (i : ℕ) → i < length xs → (a : A) × (slice_get xs i ≡ Some a)
-some_at [] i l = absurd (omega arith)
-some_at (x ∷ xs) zero l = (x, refl)
-some_at (x ∷ xs) (suc i) l = some_at xs i (omega (arith, l))
 
 pub terms_of : (old new : List Node) (program : Program) (proc : Proc) (locals us : List ℕ) (es fs : List Expr) (ids : List ℕ) → us ≡ locals → fs ≡ es → AreBodyTerms old new program proc us fs ids → AreBodyTerms old new program proc locals es ids
 terms_of old new program proc locals us es fs ids p q t =

@@ -1,22 +1,23 @@
 -- The terms that differ behind the branches of an `if` are of names that some statement in them may write.
 use Rattle.std.specs.Prelude.{slice_get, map, filter, nat_eq, if◌then◌else◌, not, ◌&&◌}
-use Rattle.std.proofs.Common.{◌≡◌, ℕ, suc, ◌+◌, ◌≤◌, Bool, true, false, ◌||◌, List, [], ◌∷◌, ◌++◌, refl, ap, arith, Some, Option}
-use Rattle.std.proofs.lemmas.Bool.{false≢true, eq-eqb}
+use Rattle.std.proofs.Common.{◌≡◌, ℕ, suc, ◌+◌, ◌≤◌, Bool, true, false, List, [], ◌∷◌, ◌++◌, refl, ap, arith, Some, Option}
+use Rattle.std.proofs.lemmas.Bool.{false≢true, eq-eqb, or_left, or_right}
+use Rattle.std.proofs.lemmas.Option.{same_Some}
 use Rattle.civl_tree.specs.declared.name.Name.{Name}
 use Rattle.civl_tree.specs.declared.expr.Sort.{Sort}
 use Rattle.civl_tree.specs.declared.action.Param.{Param}
 use Rattle.civl_tree.specs.declared.program.Proc.{Proc}
 use Rattle.civl_tree.specs.rules.Names.{same_name, has_name, param_names}
 use Rattle.civl_tree.specs.rules.Scopes.{Binding, bind_params, bind_locals, bind_proc}
+use Rattle.civl_tree.proofs.Naming.{bytes_same}
 use Rattle.civl_linear.specs.Places.{is_param}
 use Rattle.civl_firing.specs.values.Weights.{bits_in}
+use Rattle.civl_meaning.proofs.Bindings.{names_of, sorts_of}
 use Rattle.civl_terms.specs.declared.node.Node.{Node}
 use Rattle.civl_terms.specs.Graphs.{sort_at}
 use Rattle.civl_actions.specs.Scopes.{AreOf}
-use Rattle.civl_actions.proofs.Rules.{bytes_same}
 use Rattle.civl_conditions.specs.Weights.{summed, written_bits}
 use Rattle.civl_moves.specs.Branches.{differing}
-use Rattle.civl_moves.proofs.Bindings.{names_of, sorts_of}
 use Rattle.civl_body.specs.Weights.{may_change}
 
 -- the bits of those of these names that pass the test
@@ -51,16 +52,9 @@ bits_less p q f (b ∷ bs) =
 pub bits_none : (test : Name → Bool) (ps : List Param) → ((n : Name) → has_name (param_names ps) n ≡ true → test n ≡ false) → bits_by test (bind_params ps) ≡ 0
 bits_none test [] f = refl
 bits_none test (p ∷ ps) f =
-    let own = ap (λ (t : Bool). if t then bits_in (Some p.sort) else 0) (f p.name (first (same_name p.name p.name) (has_name (param_names ps) p.name) (bytes_same p.name p.name refl))) in
-    let others = bits_none test ps (λ n e. f n (second (same_name n p.name) (has_name (param_names ps) n) e)) in
+    let own = ap (λ (t : Bool). if t then bits_in (Some p.sort) else 0) (f p.name (or_left (same_name p.name p.name) (has_name (param_names ps) p.name) (bytes_same p.name p.name refl))) in
+    let others = bits_none test ps (λ n e. f n (or_right (same_name n p.name) (has_name (param_names ps) n) e)) in
     omega (arith, own, others, bits_more test (record { name = p.name; sort = p.sort }) (bind_params ps))
-  where
-    first : (a b : Bool) → a ≡ true → (a || b) ≡ true
-    first a b e = ap (λ (c : Bool). c || b) e
-
-    second : (a b : Bool) → b ≡ true → (a || b) ≡ true
-    second true b e = refl
-    second false b e = e
 
 -- ---- terms for these names
 
@@ -83,12 +77,9 @@ differ_few ns test (b ∷ bs) (x ∷ xs) [] h f = omega arith
 differ_few ns test (b ∷ bs) (x ∷ xs) (y ∷ ys) h f =
     let parts = heads (sort_at ns x) (Some b.sort) _ _ h in
     let others = differ_few ns test bs xs ys parts.1 (λ place n e t. f (suc place) n e t) in
-    let own = by (test b.name) (nat_eq x y) (λ t. let same : x ≡ y = equal x y (f 0 b.name refl t) in eq-eqb x y same) refl parts.0 in
+    let own = by (test b.name) (nat_eq x y) (λ t. let same : x ≡ y = same_Some x y (f 0 b.name refl t) in eq-eqb x y same) refl parts.0 in
     omega (arith, others, own, bits_more test b bs)
   where
-    equal : (u v : ℕ) → Some u ≡ Some v → u ≡ v
-    equal u v q = cc
-
     by : (t e : Bool) → (test b.name ≡ false → e ≡ true) → test b.name ≡ t → sort_at ns x ≡ Some b.sort → (if e then 0 else bits_in (sort_at ns x)) ≤ (if t then bits_in (Some b.sort) else 0)
     by t true g q s = omega arith
     by true false g q s = let w = ap bits_in s in omega (arith, w)

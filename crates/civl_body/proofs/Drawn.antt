@@ -4,12 +4,15 @@ use Rattle.std.specs.List.{Contains, list_any}
 use Rattle.std.specs.Option.{option_map}
 use Rattle.std.proofs.lemmas.List.Elements.{Contains-append_right}
 use Rattle.std.proofs.Common.{◌≡◌, ◌∙◌, ◌⊎◌, inl, inr, ℕ, zero, suc, ◌<◌, ◌≤◌, Bool, true, false, ◌||◌, List, [], ◌∷◌, map, refl, sym, ap, subst, arith, Some}
-use Rattle.std.proofs.lemmas.Bool.{false≢true, eq-eqb, ne_eqb, eqb-true, and_parts}
+use Rattle.std.proofs.lemmas.Bool.{false≢true, eq-eqb, ne_eqb, eqb-true, and_parts, and_right}
 use Rattle.std.proofs.lemmas.Option.{none-some, slice_get_within, slice_get-map}
 use Rattle.civl_bits.specs.declared.value.Value.TheVariants as value
 use Rattle.civl_tree.specs.declared.program.Proc.{Proc}
 use Rattle.civl_tree.specs.declared.program.Program.{Program}
 use Rattle.civl_tree.specs.declared.program.Refines.{Refines}
+use Rattle.civl_tree.proofs.Bools.{same_truth}
+use Rattle.civl_tree.proofs.Pairs.{contains_at}
+use Rattle.civl_tree.proofs.Lists.{all_at}
 use Rattle.civl_layers.specs.declared.cut.Cut.{Cut}
 use Rattle.civl_layers.specs.Cuts.{proc_cuts}
 use Rattle.civl_firing.specs.declared.store.Store.{Store}
@@ -31,7 +34,7 @@ use Rattle.civl_moves.specs.States.{bool_at, stop_at, swept_at, CanStop, CanSwee
 use Rattle.civl_body.specs.declared.way.Way.{Way}
 use Rattle.civl_body.specs.Walks.{ends_at, IsWay, IsWalk, CanTake}
 use Rattle.civl_body.specs.Ways.{way_from, exit_way, ways_from}
-use Rattle.civl_body.proofs.Listing.{contains_at, all_at, any_where, any_none, numbers, stops_at, ways_ends, each_way}
+use Rattle.civl_body.proofs.Listing.{any_where, any_none, numbers, stops_at, ways_ends, each_way}
 
 -- ---- stops that are taken
 
@@ -111,21 +114,12 @@ ended_by proc (Comes m p) end h = inr (m, eq-eqb m m refl, eqb-true end (cut_num
 ended_by proc (Fails p) end h = absurd (false≢true h)
 ended_by proc (Stops p) end h = absurd (false≢true h)
 
-both_ways : (a b : Bool) → (a ≡ true → b ≡ true) → (b ≡ true → a ≡ true) → a ≡ b
-both_ways true b f g = sym (f refl)
-both_ways false true f g = g refl
-both_ways false false f g = refl
-
 statement_is : (n : ℕ) (cut : Cut) → is_statement n cut ≡ true → n ≡ cut.statement
 statement_is n cut h = eqb-true n cut.statement (and_parts _ (nat_eq n cut.statement) h).1
 
 not_not : (a b : Bool) → not a ≡ b → a ≡ not b
 not_not true b e = ap not e
 not_not false b e = ap not e
-
-and_false : (a b : Bool) → b ≡ false → (a && b) ≡ false
-and_false true b e = e
-and_false false b e = refl
 
 and_true : (a b : Bool) → b ≡ true → (a && b) ≡ a
 and_true true b e = e
@@ -157,7 +151,7 @@ module _ (ns : List Node) (program : Program) (proc : Proc) (cut : Cut) (s : Swe
       let no_exit : nat_eq i (exit_of proc) ≡ false = ne_eqb i (exit_of proc) (λ q. let l = slice_get_within (proc_cuts proc) i k e in absurd (omega (arith, l, q))) in
       ap (list_any (λ (n : ℕ). is_statement n k)) stops_are
       ∙ any_where (λ n. is_statement n k) (λ n. nat_eq i (cut_number proc n)) flows.ends (λ n c. at_cut n c i k e)
-      ∙ ap (λ (b : Bool). b || list_any (λ (n : ℕ). nat_eq i (cut_number proc n)) flows.ends) (sym (and_false flows.onward (is_exit proc i) no_exit))
+      ∙ ap (λ (b : Bool). b || list_any (λ (n : ℕ). nat_eq i (cut_number proc n)) flows.ends) (sym (and_right flows.onward (is_exit proc i) no_exit))
 
   reaches_exit : s.onward ≡ reaches proc flows (exit_of proc)
   reaches_exit =
@@ -218,7 +212,7 @@ module _ (ns : List Node) (program : Program) (proc : Proc) (cut : Cut) (s : Swe
         ]
 
         pub stop_taken : bool_at env ns t.taken ≡ ends_at proc (o env) i
-        stop_taken = both_ways _ _ taken_ends ends_taken
+        stop_taken = same_truth _ _ taken_ends ends_taken
 
         pub stop_there : ends_at proc (o env) i ≡ true → IsThere (progress_of (o env)) (stop_at env ns t)
         stop_there h = a_stop.there (ends_taken h)
@@ -230,7 +224,7 @@ module _ (ns : List Node) (program : Program) (proc : Proc) (cut : Cut) (s : Swe
       ]
 
       pub exit_taken : bool_at env ns s.live ≡ ends_at proc (o env) (exit_of proc)
-      exit_taken = both_ways _ _ (λ h. past_ends proc (o env) (sym draws.live ∙ h)) ends_live
+      exit_taken = same_truth _ _ (λ h. past_ends proc (o env) (sym draws.live ∙ h)) ends_live
 
       pub exit_there : ends_at proc (o env) (exit_of proc) ≡ true → progress_of (o env) ≡ standing d
       exit_there h = draws.here (ends_live h)

@@ -9,7 +9,7 @@ use Rattle.civl_tree.specs.declared.stmt.Stmt as tree
 use Rattle.civl_tree.specs.declared.stmt.Stmt.TheOpen as stmt
 use Rattle.civl_tree.specs.Numbering.{size_of, sizes_of}
 use Rattle.civl_tree.proofs.Pairs.{contains_here}
-use Rattle.civl_meaning.proofs.Spots.{size_is}
+use Rattle.civl_tree.proofs.Sizes.{size_is}
 use Rattle.civl_conditions.specs.paths.Flows.{Flow, flow}
 use Rattle.civl_conditions.proofs.paths.Passing.{flow_of_layer, flow_is}
 use Rattle.civl_conditions.proofs.paths.Walked.{sizes_behind}

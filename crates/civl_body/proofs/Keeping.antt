@@ -1,9 +1,9 @@
 -- Which terms statements leave as they were.
 use Rattle.std.specs.Prelude.{slice_get, map, filter, not, ◌&&◌, if◌then◌else◌}
 use Rattle.std.proofs.Common.{◌≡◌, ◌∙◌, ℕ, zero, suc, Bool, true, false, ◌||◌, List, [], ◌∷◌, ◌++◌, length, refl, sym, ap, subst, arith, Some}
-use Rattle.std.proofs.lemmas.Bool.{false≢true, or_parts}
+use Rattle.std.proofs.lemmas.Bool.{false≢true, or_parts, or_left, or_right}
 use Rattle.std.proofs.lemmas.List.{length-map}
-use Rattle.std.proofs.lemmas.Option.{none-some, slice_get_within}
+use Rattle.std.proofs.lemmas.Option.{none-some, slice_get_within, same_Some}
 use Rattle.std.proofs.lemmas.Slice.Eq.{bytes_eq-Decides}
 use Rattle.civl_tree.specs.declared.name.Name.{Name}
 use Rattle.civl_tree.specs.declared.expr.Sort.{Sort}
@@ -16,20 +16,21 @@ use Rattle.civl_tree.specs.Numbering.{inner_of, statements_of, statement_at}
 use Rattle.civl_tree.specs.rules.Names.{same_name, has_name, global_names, names_in_proc}
 use Rattle.civl_tree.specs.rules.Rules.{Keeps}
 use Rattle.civl_tree.proofs.Kept.{statement_kept}
+use Rattle.civl_tree.proofs.Naming.{bytes_same, has_first, has_second}
+use Rattle.civl_tree.proofs.Lists.{get_there}
 use Rattle.civl_meaning.specs.Layers.{program_at}
 use Rattle.civl_linear.specs.LinearRules.{assigned_rule, linear_rules}
 use Rattle.civl_linear.specs.Places.{is_param, any_misgiven, form_assigned, stmt_assigned}
 use Rattle.civl_terms.specs.declared.node.Node.{Node}
 use Rattle.civl_actions.specs.Scopes.{AreOf}
 use Rattle.civl_actions.specs.Actions.{LeavesOthers}
-use Rattle.civl_actions.proofs.Rules.{bytes_same, has_same}
+use Rattle.civl_actions.proofs.Rules.{has_same}
+use Rattle.civl_actions.proofs.Nodes.{are_long}
 use Rattle.civl_conditions.specs.Weights.{layer_written}
 use Rattle.civl_states.specs.Notes.{IsProcIn}
 use Rattle.civl_moves.specs.declared.sweep.Sweep.{Sweep}
 use Rattle.civl_moves.specs.Branches.{KeepsSame}
-use Rattle.civl_moves.proofs.Picking.{are_length}
 use Rattle.civl_body.specs.Weights.{written, may_change, Leaves}
-use Rattle.civl_body.proofs.Calling.{some_at}
 
 -- ---- names
 
@@ -41,25 +42,6 @@ less_and : (a b p : Bool) → (a ≡ true → b ≡ true) → (b && not p) ≡ f
 less_and false b p f e = refl
 less_and true true p f e = e
 less_and true false p f e = absurd (false≢true (f refl))
-
-or_first : (a b : Bool) → a ≡ true → (a || b) ≡ true
-or_first a b e = ap (λ (c : Bool). c || b) e
-
-or_second : (a b : Bool) → b ≡ true → (a || b) ≡ true
-or_second true b e = refl
-or_second false b e = e
-
-pub in_first : (xs ys : List Name) (n : Name) → has_name xs n ≡ true → has_name (xs ++ ys) n ≡ true
-in_first [] ys n e = absurd (false≢true e)
-in_first (x ∷ xs) ys n e = by (same_name n x) (in_first xs ys n) e
-  where
-    by : (b : Bool) → (has_name xs n ≡ true → has_name (xs ++ ys) n ≡ true) → (b || has_name xs n) ≡ true → (b || has_name (xs ++ ys) n) ≡ true
-    by true f q = refl
-    by false f q = f q
-
-pub in_second : (xs ys : List Name) (n : Name) → has_name ys n ≡ true → has_name (xs ++ ys) n ≡ true
-in_second [] ys n e = e
-in_second (x ∷ xs) ys n e = or_second (same_name n x) (has_name (xs ++ ys) n) (in_second xs ys n e)
 
 -- the only name of a list
 pub one_name : (x n : Name) → has_name (x ∷ []) n ≡ true → n.bytes ≡ x.bytes
@@ -75,11 +57,11 @@ filtered p same [] n h t = absurd (false≢true h)
 filtered p same (x ∷ xs) n h t = by_name (same_name n x) refl h (filtered p same xs n)
   where
     kept : (b : Bool) → b ≡ true → n.bytes ≡ x.bytes → has_name (if b then x ∷ filter p xs else filter p xs) n ≡ true
-    kept true e q = or_first (same_name n x) (has_name (filter p xs) n) (bytes_same n x q)
+    kept true e q = or_left (same_name n x) (has_name (filter p xs) n) (bytes_same n x q)
     kept false e q = absurd (false≢true e)
 
     other : (b : Bool) → has_name (filter p xs) n ≡ true → has_name (if b then x ∷ filter p xs else filter p xs) n ≡ true
-    other true e = or_second (same_name n x) (has_name (filter p xs) n) e
+    other true e = or_right (same_name n x) (has_name (filter p xs) n) e
     other false e = e
 
     by_name : (b : Bool) → same_name n x ≡ b → (b || has_name xs n) ≡ true → (has_name xs n ≡ true → p n ≡ true → has_name (filter p xs) n ≡ true) → has_name (filter p (x ∷ xs)) n ≡ true
@@ -89,11 +71,11 @@ filtered p same (x ∷ xs) n h t = by_name (same_name n x) refl h (filtered p sa
 -- a name of a list stands in it
 stands_there : (names : List Name) (place : ℕ) (n : Name) → slice_get names place ≡ Some n → has_name names n ≡ true
 stands_there [] place n e = absurd (none-some n e)
-stands_there (x ∷ names) zero n e = or_first (same_name n x) (has_name names n) (bytes_same n x (same x n e))
+stands_there (x ∷ names) zero n e = or_left (same_name n x) (has_name names n) (bytes_same n x (same x n e))
   where
     same : (a b : Name) → Some a ≡ Some b → b.bytes ≡ a.bytes
     same a b q = let s : a ≡ b = cc in ap (λ (m : Name). m.bytes) (sym s)
-stands_there (x ∷ names) (suc place) n e = or_second (same_name n x) (has_name names n) (stands_there names place n e)
+stands_there (x ∷ names) (suc place) n e = or_right (same_name n x) (has_name names n) (stands_there names place n e)
 
 -- ---- sweeps
 
@@ -136,8 +118,8 @@ module _ (program : Program) (proc : Proc) where
       let l = slice_get_within (map name_of xs) place n e in
       let a = length-map xs name_of in
       let b = length-map xs sort_at in
-      let c = are_length ns ids (map sort_at xs) h in
-      some_at ids place (omega (arith, l, a, b, c))
+      let c = are_long ns ids (map sort_at xs) h in
+      get_there ids place (omega (arith, l, a, b, c))
 
   pub both_leave : (before first second after : List ℕ) (place id : ℕ) → slice_get before place ≡ Some id → slice_get first place ≡ slice_get before place → slice_get second place ≡ slice_get before place → KeepsSame first second after → slice_get after place ≡ slice_get before place
   both_leave before first second after place id e f g k = k place id (f ∙ e) (g ∙ e) ∙ sym e
@@ -159,20 +141,17 @@ module _ (program : Program) (layer : ℕ) where
 
   pub written_second : (xs ys : List Stmt) (n : Name) → has_name (written program layer ys) n ≡ true → has_name (written program layer (xs ++ ys)) n ≡ true
   written_second [] ys n e = e
-  written_second (x ∷ xs) ys n e = in_second (layer_written (program_at program layer) (out-Stmt x)) (written program layer (xs ++ ys)) n (written_second xs ys n e)
+  written_second (x ∷ xs) ys n e = has_second (layer_written (program_at program layer) (out-Stmt x)) (written program layer (xs ++ ys)) n (written_second xs ys n e)
 
   -- a statement's own names
   pub own_written : (s : Stmt) (d : stmt.Stmt-F Stmt) (n : Name) → out-Stmt s ≡ d → has_name (layer_written (program_at program layer) d) n ≡ true → has_name (written program layer (s ∷ inner_of s)) n ≡ true
   own_written s d n o e =
-      in_first (layer_written (program_at program layer) (out-Stmt s)) (written program layer (inner_of s)) n (ap (λ (x : stmt.Stmt-F Stmt). has_name (layer_written (program_at program layer) x) n) o ∙ e)
+      has_first (layer_written (program_at program layer) (out-Stmt s)) (written program layer (inner_of s)) n (ap (λ (x : stmt.Stmt-F Stmt). has_name (layer_written (program_at program layer) x) n) o ∙ e)
 
   -- one of some statements, with those in it
   pub item_written : (ss : List Stmt) (i : ℕ) (s : Stmt) (n : Name) → slice_get ss i ≡ Some s → has_name (written program layer (s ∷ inner_of s)) n ≡ true → has_name (written program layer (statements_of ss)) n ≡ true
   item_written [] i s n e h = absurd (none-some s e)
-  item_written (x ∷ ss) zero s n e h = written_first (x ∷ inner_of x) (statements_of ss) n (subst (λ (y : Stmt). has_name (written program layer (y ∷ inner_of y)) n ≡ true) (same s x (sym e)) h)
-    where
-      same : (a b : Stmt) → Some a ≡ Some b → a ≡ b
-      same a b q = cc
+  item_written (x ∷ ss) zero s n e h = written_first (x ∷ inner_of x) (statements_of ss) n (subst (λ (y : Stmt). has_name (written program layer (y ∷ inner_of y)) n ≡ true) (same_Some s x (sym e)) h)
   item_written (x ∷ ss) (suc i) s n e h = written_second (x ∷ inner_of x) (statements_of ss) n (item_written ss i s n e h)
 
 -- ---- the rule on targets

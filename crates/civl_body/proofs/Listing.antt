@@ -1,10 +1,9 @@
 -- The ways of a sweep, one for each end.
 use Rattle.std.specs.Prelude.{slice_get, get_or, drop, if◌then◌else◌, All}
 use Rattle.std.specs.List.{Contains, list_any}
-use Rattle.std.proofs.Common.{◌≡◌, ◌∙◌, ℕ, zero, suc, ◌+◌, ◌<◌, Bool, true, false, ◌||◌, List, [], ◌∷◌, ◌++◌, length, map, refl, sym, ap, ap₂, subst, arith, append_assoc, Some}
+use Rattle.std.proofs.Common.{◌≡◌, ◌∙◌, ℕ, suc, ◌+◌, ◌<◌, Bool, true, false, ◌||◌, List, [], ◌∷◌, ◌++◌, length, map, refl, sym, ap, ap₂, subst, arith, append_assoc, Some}
 use Rattle.std.proofs.lemmas.List.{map-append, drop_more, drop_all}
-use Rattle.std.proofs.lemmas.List.Elements.{All-nil, All-cons, All-append, All-get_or, Contains-append_right}
-use Rattle.std.proofs.lemmas.Option.{none-some, slice_get_within, get_or_from_slice_get}
+use Rattle.std.proofs.lemmas.List.Elements.{All-nil, All-cons, All-append, Contains-append_right}
 use Rattle.civl_tree.proofs.Pairs.{contains_here}
 use Rattle.civl_layers.specs.declared.cut.Cut.{Cut}
 use Rattle.civl_conditions.specs.paths.Ends.{ends_among}
@@ -15,17 +14,6 @@ use Rattle.civl_body.specs.declared.way.Way.{Way}
 use Rattle.civl_body.specs.Ways.{way_from, ways_before, exit_way, exit_ways, ways_from}
 
 -- ---- lists
-
-pub contains_at : {A : Type 0} (xs : List A) (k : ℕ) (x : A) → slice_get xs k ≡ Some x → Contains xs x
-contains_at [] k x e = absurd (none-some x e)
-contains_at {A = A} (y ∷ ys) zero x e = subst (λ (z : A). Contains (z ∷ ys) x) (same x y (sym e)) (contains_here x ys)
-  where
-    same : (a b : A) → Some a ≡ Some b → a ≡ b
-    same a b q = cc
-contains_at (y ∷ ys) (suc k) x e = Contains-append_right (y ∷ []) ys x (contains_at ys k x e)
-
-pub all_at : {A : Type 0} (P : A → Type 0) (xs : List A) (k : ℕ) (x : A) → All P xs → slice_get xs k ≡ Some x → P x
-all_at P xs k x h e = subst P (get_or_from_slice_get xs k x x e) (All-get_or P xs k x (slice_get_within xs k x e) h)
 
 -- two tests that agree on the elements
 pub any_where : (p q : ℕ → Bool) (xs : List ℕ) → ((x : ℕ) → Contains xs x → p x ≡ q x) → list_any p xs ≡ list_any q xs

@@ -8,6 +8,7 @@ use Rattle.civl_tree.specs.declared.program.Program.{Program}
 use Rattle.civl_tree.specs.declared.stmt.Stmt.{Stmt}
 use Rattle.civl_tree.specs.Numbering.{statements_of, size_of, sizes_of, inner_of}
 use Rattle.civl_tree.proofs.Numbers.{sizes_are_counts}
+use Rattle.civl_tree.proofs.Lists.{get_there}
 use Rattle.civl_meaning.specs.Rest.{Rest}
 use Rattle.civl_terms.specs.declared.node.Node.{Node}
 use Rattle.civl_terms.specs.Graphs.{IsGraph}
@@ -24,13 +25,12 @@ use Rattle.civl_body.specs.declared.rests.Numbered.{Numbered}
 use Rattle.civl_body.specs.Rests.{rest_of}
 use Rattle.civl_body.specs.Passing.{course_in, StandIn, Ready, ReadyRest, Passes, UnderRest}
 use Rattle.civl_body.proofs.Passing.{has_less, says_less, has_stay, says_stay, first_passed, others_passed, goes_on, own_choices}
-use Rattle.civl_body.proofs.Calling.{some_at}
 
 -- a statement that stands in the body ends there
 pub ends_within : (proc : Proc) (n : ℕ) (s : Stmt) → StandIn proc n (s ∷ inner_of s) → n + size_of s ≤ sizes_of proc.body
 ends_within proc n s h =
     let size = counted s in
-    let last = some_at (s ∷ inner_of s) (length (inner_of s)) (omega arith) in
+    let last = get_there (s ∷ inner_of s) (length (inner_of s)) (omega arith) in
     let at = h (length (inner_of s)) (n + length (inner_of s)) last.0 refl last.1 in
     let within = slice_get_within (statements_of proc.body) (n + length (inner_of s)) last.0 at in
     omega (arith, size, within, sizes_are_counts proc.body)

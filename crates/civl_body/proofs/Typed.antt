@@ -1,10 +1,11 @@
 -- The expressions of a body's statements have the sorts that they need.
-use Rattle.std.specs.Prelude.{map, IsSome, not, All, is_none, nat_eq}
+use Rattle.std.specs.Prelude.{map, not, All, is_none, nat_eq}
 use Rattle.std.specs.List.{list_any}
 use Rattle.std.proofs.Common.{◌≡◌, ◌∙◌, ℕ, true, false, List, [], ◌∷◌, length, refl, sym, ap, ap₂, subst, arith, Some, None, Option}
 use Rattle.std.proofs.lemmas.Bool.{false≢true, not-false, or_parts, eqb-true}
 use Rattle.std.proofs.lemmas.List.{length-map}
 use Rattle.std.proofs.lemmas.List.Elements.{All-nil, All-cons}
+use Rattle.std.proofs.lemmas.Option.{same_Some}
 use Rattle.civl_tree.specs.declared.name.Name.{Name}
 use Rattle.civl_tree.specs.declared.expr.Expr.{Expr}
 use Rattle.civl_tree.specs.declared.expr.Sort.{Sort}
@@ -17,7 +18,7 @@ use Rattle.civl_tree.specs.Numbering.{statement_at}
 use Rattle.civl_tree.specs.rules.Scopes.{Scope as Sorts, sort_in, bind_globals, body_scope, note_scope}
 use Rattle.civl_tree.specs.rules.Sorts.{sort_of}
 use Rattle.civl_tree.specs.rules.Exprs.{widths_fit, indices_fit}
-use Rattle.civl_tree.specs.rules.Uses.{Use, Need, Only, serves, need_of, target_use, argument_uses, param_sorts, taken_sorts, given_sorts, place_sort, form_uses, stmt_uses}
+use Rattle.civl_tree.specs.rules.Uses.{Use, Only, serves, need_of, target_use, argument_uses, param_sorts, taken_sorts, given_sorts, place_sort, form_uses, stmt_uses}
 use Rattle.civl_tree.specs.rules.Names.{Signature, callee_signature}
 use Rattle.civl_tree.specs.rules.Unknown.{any_unknown, place_unknown, form_unknown, stmt_unknown}
 use Rattle.civl_tree.specs.rules.Arity.{call_arity, form_arity, stmt_arity}
@@ -27,7 +28,7 @@ use Rattle.civl_tree.specs.rules.Index.{any_index}
 use Rattle.civl_tree.specs.rules.Rules.{Keeps}
 use Rattle.civl_tree.specs.rules.Typing.{typing_rules, sort_rule, width_rule, index_rule, unknown_rule, arity_rule}
 use Rattle.civl_tree.proofs.Kept.{statement_kept, sort_among, width_among, index_among, unknown_among, arity_among}
-use Rattle.civl_firing.proofs.values.Sorting.{same_sort-true}
+use Rattle.civl_firing.proofs.Serving.{served_only, served_some}
 use Rattle.civl_actions.specs.Scopes.{IsTyped}
 use Rattle.civl_states.specs.Notes.{IsProcIn}
 use Rattle.civl_moves.specs.States.{Suits}
@@ -38,14 +39,6 @@ pub record Kept (uses : List Use) : Type 0 where
   pub sorted : any_missorted uses ≡ false
   pub narrow : any_width uses ≡ false
   pub low : any_index uses ≡ false
-
-served_some : (o : Option Sort) (n : Need) → serves o n ≡ true → IsSome o
-served_some None n e = absurd (false≢true e)
-served_some (Some t) n e = refl
-
-served_only : (o : Option Sort) (s : Sort) → serves o (Only s) ≡ true → o ≡ Some s
-served_only None s e = absurd (false≢true e)
-served_only (Some t) s e = ap (λ (r : Sort). Some r) (same_sort-true t s e)
 
 served : (o p : Option Sort) (s : Sort) → serves o (need_of p) ≡ true → p ≡ Some s → o ≡ Some s
 served o p s e h = served_only o s (subst (λ (q : Option Sort). serves o (need_of q) ≡ true) h e)
@@ -111,10 +104,7 @@ results_suit proc (r ∷ rs) [] k = tt
 results_suit proc (r ∷ rs) (s ∷ ss) k =
     let p = or_parts (not (serves (place_sort proc r) (Only s))) (results_missorted proc rs ss) k in
     let is = served_only (place_sort proc r) s (not-false (serves (place_sort proc r) (Only s)) p.0) in
-    (λ t e. same s t (sym is ∙ e), results_suit proc rs ss p.1)
-  where
-    same : (a b : Sort) → Some a ≡ Some b → a ≡ b
-    same a b q = cc
+    (λ t e. same_Some s t (sym is ∙ e), results_suit proc rs ss p.1)
 
 -- what the rules say of a call with this signature
 pub record CallKept (program : Program) (proc : Proc) (f : Name) (es : List Expr) (rs : List Name) : Type 0 where

@@ -16,9 +16,11 @@ use Rattle.civl_tree.specs.rules.Names.{Signature, has_name, global_names, names
 use Rattle.civl_tree.specs.rules.Rules.{Keeps}
 use Rattle.civl_tree.specs.rules.Scopes.{bind_globals, bind_params, bind_locals, bind_proc}
 use Rattle.civl_tree.proofs.Preorder.{inner_layer, inner_is}
+use Rattle.civl_tree.proofs.Naming.{has_first, has_second}
 use Rattle.civl_meaning.specs.Config.{frame_sorts}
 use Rattle.civl_meaning.specs.Layers.{program_at}
 use Rattle.civl_meaning.specs.Meaning.{called}
+use Rattle.civl_meaning.proofs.Bindings.{names_bound, sorts_bound, proc_names, proc_sorts}
 use Rattle.civl_linear.specs.LinearRules.{linear_rules}
 use Rattle.civl_linear.specs.Places.{is_param, may_get, any_misgiven, call_misgiven}
 use Rattle.civl_layers.specs.Layered.{IsLayered}
@@ -33,13 +35,12 @@ use Rattle.civl_moves.specs.declared.branches.Front.{Front}
 use Rattle.civl_moves.specs.declared.sweep.Sweep.{Sweep}
 use Rattle.civl_moves.specs.Branches.{KeepsSame, front_of, with_front, differing}
 use Rattle.civl_moves.specs.States.{CanSweep}
-use Rattle.civl_moves.proofs.Bindings.{names_bound, sorts_bound, proc_names, proc_sorts}
 use Rattle.civl_body.specs.Passing.{StandsCall}
 use Rattle.civl_body.specs.Weights.{written, may_change, Leaves}
 use Rattle.civl_body.proofs.Typed.{call_kept}
 use Rattle.civl_body.proofs.Joining.{before_second}
 use Rattle.civl_body.proofs.Differing.{differ_few, frame_bits}
-use Rattle.civl_body.proofs.Keeping.{in_first, in_second, one_name, not_param, no_params, updated_there, leaves_more, leaves_written, in_range, both_leave, written_first, written_second, own_written, targets_right}
+use Rattle.civl_body.proofs.Keeping.{one_name, not_param, no_params, updated_there, leaves_more, leaves_written, in_range, both_leave, written_first, written_second, own_written, targets_right}
 
 module _ (program : Program) (layer : ℕ) (proc : Proc) where
   -- ---- statements without branches
@@ -69,8 +70,8 @@ module _ (program : Program) (layer : ℕ) (proc : Proc) where
       let updated : option_map_or (λ (b : Action). filter (has_name (global_names program.globals)) (targets_of b)) (action_meant (called (program_at program layer) f)) [] ≡ filter (has_name (global_names program.globals)) (targets_of a) =
       ap (λ (o : Option Action). option_map_or (λ (b : Action). filter (has_name (global_names program.globals)) (targets_of b)) o []) meant in
       leaves_written program proc _ (targets_of a) rs s t
-      (λ place n there h. in_second rs _ n (ap (λ (names : List Name). has_name names n) updated ∙ updated_there (global_names program.globals) (targets_of a) place n there h))
-      (λ n h. (in_first rs _ n h, no_params proc kept.signature.outs rs kept.given none n h)) g l
+      (λ place n there h. has_second rs _ n (ap (λ (names : List Name). has_name names n) updated ∙ updated_there (global_names program.globals) (targets_of a) place n there h))
+      (λ n h. (has_first rs _ n h, no_params proc kept.signature.outs rs kept.given none n h)) g l
 
   -- ---- an `if`
 
@@ -129,7 +130,7 @@ module _ (program : Program) (layer : ℕ) (proc : Proc) where
 
     pub if_leaves : (s5 : Sweep) → KeepsSame ended.globals s4.globals s5.globals → KeepsSame ended.locals s4.locals s5.locals → Leaves program proc (written program layer (x ∷ inner_of x)) s s5
     if_leaves s5 kg kl =
-        leaves_more program proc names _ s s5 (λ n h. in_second (layer_written (program_at program layer) (out-Stmt x)) names n h) (record {
+        leaves_more program proc names _ s s5 (λ n h. has_second (layer_written (program_at program layer) (out-Stmt x)) names n h) (record {
           globals = λ place n at missing.
               let range = in_range program proc o0 (λ g. g.name) program.globals (λ g. g.sort) s.globals place n can.globals at in
               both_leave program proc s.globals ended.globals s4.globals s5.globals place range.0 range.1 (first_globals place n at missing) (second_globals place n at missing) kg;

@@ -1,15 +1,15 @@
 -- What leads to a conflict.
-use Rattle.std.proofs.Common.{◌≡◌, ◌⊎◌, ℕ, suc, zero, ◌+◌, ◌-◌, ◌<◌, ◌≤◌, List, [], ◌∷◌, ◌++◌, length, get_or, refl, sym, ◌∙◌, ap, subst, inl, inr, arith, Bool, true, false, not, ◌&&◌}
+use Rattle.std.proofs.Common.{◌≡◌, ◌⊎◌, ℕ, suc, zero, ◌+◌, ◌-◌, ◌<◌, ◌≤◌, List, [], ◌∷◌, ◌++◌, length, get_or, refl, sym, ◌∙◌, ap, subst, inl, inr, arith, Bool, true, false, not}
 use Rattle.std.specs.Prelude.{IsTrue, All, Contains, Option, None, Some}
 use Rattle.std.proofs.Math.ListN.{set, length-set}
 use Rattle.std.proofs.lemmas.Bool.Decides.{eqb_tells}
 use Rattle.std.proofs.lemmas.List.{get_or-set_same, get_or-set_other, get_or_default, get_or_append_left, get_or_push, length_push}
+use Rattle.std.proofs.lemmas.Bool.{and_from, and_parts, cases_lt}
 use Rattle.civl_cnf.specs.Literal.{Literal}
 use Rattle.civl_cnf.specs.ClauseSet.{IsBelow, AreBelow}
 use Rattle.civl_units.specs.Propagation.{Holds, Fails, IsFalsified, IsUnit, IsClosedAt, IsClosed, HasConflict}
 use Rattle.civl_units.specs.Marks.{is_marked, marked, IsQuiet, IsIncluded}
-use Rattle.civl_units.proofs.MarkLemmas.{same_self, below_or_not, lt_or_eq}
-use Rattle.civl_units.proofs.LawLemmas.{and_both}
+use Rattle.civl_units.proofs.MarkLemmas.{same_self, lt_or_eq}
 use Rattle.civl_units.proofs.Propagating.{unit_grows}
 use Rattle.civl_propagation.specs.Trail.{TrailState, before, IsAt, IsStep, ReasonSays, IsTrailOver}
 use Rattle.civl_propagation.specs.declared.trail.Step.{Step}
@@ -29,20 +29,15 @@ conflict_at s clauses i at = (i, get_or clauses i [], at.0, get_or_default claus
 pub quiet_unfalsified : (set : ℕ → Bool → Bool) (clauses : List (List Literal)) → All (IsQuiet set) clauses → HasConflict set clauses → ⊥
 quiet_unfalsified set clauses quiet found = (subst (IsQuiet set) found.3 (quiet found.0 found.1 found.2)).1 found.4
 
-both_true : (a b : Bool) → a ≡ true → b ≡ true → (a && b) ≡ true
-both_true true true e f = refl
-both_true true false e f = cc
-both_true false b e f = cc
-
 -- what is seen before a place
 pub seen_by : (marks : List (Option Bool)) (places : List ℕ) (seen : List Bool) (p v : ℕ) (b : Bool) → IsTrue (sees seen v) → IsTrue (before marks places p v b) → IsTrue (seen_before marks places seen p v b)
-seen_by marks places seen p v b here low = both_true (sees seen v) (before marks places p v b) here low
+seen_by marks places seen p v b here low = and_from (sees seen v) (before marks places p v b) here low
 
 pub seen_sees : (marks : List (Option Bool)) (places : List ℕ) (seen : List Bool) (p v : ℕ) (b : Bool) → IsTrue (seen_before marks places seen p v b) → IsTrue (sees seen v)
-seen_sees marks places seen p v b h = (and_both (sees seen v) (before marks places p v b) h).0
+seen_sees marks places seen p v b h = (and_parts (sees seen v) (before marks places p v b) h).0
 
 pub seen_low : (marks : List (Option Bool)) (places : List ℕ) (seen : List Bool) (p v : ℕ) (b : Bool) → IsTrue (seen_before marks places seen p v b) → IsTrue (before marks places p v b)
-seen_low marks places seen p v b h = (and_both (sees seen v) (before marks places p v b) h).1
+seen_low marks places seen p v b h = (and_parts (sees seen v) (before marks places p v b) h).1
 
 pub seen_place : (marks : List (Option Bool)) (places : List ℕ) (seen : List Bool) (p v : ℕ) (b : Bool) → IsTrue (seen_before marks places seen p v b) → get_or places v 0 < p
 seen_place marks places seen p v b h = before_place marks places p v b (seen_low marks places seen p v b h)
@@ -269,7 +264,7 @@ one_left t clauses start at l seen h step level unseen a = record {
       let held = seen_marked t.marks t.places seen (at + 1) v b m in
       let place : get_or t.places v 0 < at + 1 = seen_place t.marks t.places seen (at + 1) v b m in
       elim (lt_or_eq (get_or t.places v 0) at place) [
-        | inl less ↦ elim (below_or_not (get_or t.places v 0) start) [
+        | inl less ↦ elim (cases_lt (get_or t.places v 0) start) [
           | inl early ↦ within v b (seen_by t.marks t.places seen start v b here (before_by t.marks t.places start v b early held))
           | inr late ↦ absurd (unseen (get_or t.places v 0) some_step late less (subst (λ u. IsTrue (sees seen u)) (sym (h.marks_are v b some_step held).1) here))
         ]
@@ -285,7 +280,7 @@ start_quiet t clauses start h last =
 
 -- some literal of the level is seen, since no clause is falsified below it
 pub level_seen : (t : TrailState) (clauses : List (List Literal)) (start at : ℕ) (seen : List Bool) → IsTrailOver t clauses → LastSays t.starts (Some start) → Analyses t.marks t.places clauses at seen → start < at
-level_seen t clauses start at seen h last a = elim (below_or_not start at) [
+level_seen t clauses start at seen h last a = elim (cases_lt start at) [
   | inl less ↦ less
   | inr above ↦
       let set = before t.marks t.places start in

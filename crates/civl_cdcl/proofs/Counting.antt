@@ -3,7 +3,7 @@ use Rattle.std.proofs.Common.{◌≡◌, ◌⊎◌, ℕ, suc, zero, ◌+◌, ◌
 use Rattle.std.specs.Prelude.{All, AllPairs, Contains, ◌≢◌}
 use Rattle.std.specs.List.{list_any}
 use Rattle.std.proofs.Math.Dec.{eqb}
-use Rattle.std.proofs.lemmas.Bool.{eqb-true}
+use Rattle.std.proofs.lemmas.Bool.{eqb-true, cases_lt}
 use Rattle.std.proofs.lemmas.Bool.Decides.{Decides-eqb}
 use Rattle.std.proofs.lemmas.List.{get_or_default, get_or-map, get_or-take, length-map, length-take-le}
 use Rattle.std.proofs.lemmas.List.Elements.{All-cons, All-contains, Contains-get_or, Contains-append_right}
@@ -15,7 +15,7 @@ use Rattle.std.proofs.lemmas.Map.Steps.{length-le_from_distinct_below}
 use Rattle.civl_cnf.specs.Literal.{Literal}
 use Rattle.civl_cnf.specs.ClauseSet.{ClauseSet, IsBelow}
 use Rattle.civl_rup.specs.Rup.{HasEachOnce, Spends}
-use Rattle.civl_units.proofs.MarkLemmas.{lt_or_eq, below_or_not}
+use Rattle.civl_units.proofs.MarkLemmas.{lt_or_eq}
 use Rattle.civl_rup.proofs.LawLemmas.{new_is_no_superset}
 use Rattle.civl_units.proofs.Listing.{contains_or_not}
 use Rattle.civl_cdcl.specs.Laws.{variable, negation, SpentBudgetIsSmall}
@@ -102,7 +102,7 @@ one_sign a i once p n =
     let d = variable i in
     let other : get_or a n.0 d ≡ negation i = get_or_default a n.0 d (negation i) n.1 ∙ n.2 in
     let same : (get_or a p.0 d).variable ≡ (get_or a n.0 d).variable = ap (λ (l : Literal). l.variable) p.2 ∙ sym (ap (λ (l : Literal). l.variable) other) in
-    elim (below_or_not p.0 n.0) [
+    elim (cases_lt p.0 n.0) [
       | inl less ↦ once p.0 n.0 d less n.1 same
       | inr above ↦ elim (lt_or_eq n.0 p.0 (omega arith)) [
         | inl less ↦ once n.0 p.0 d less p.1 (sym same)

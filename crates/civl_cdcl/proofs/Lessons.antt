@@ -5,12 +5,13 @@ use Rattle.std.proofs.Math.ListN.{set, length-set}
 use Rattle.std.proofs.lemmas.Bool.Decides.{eqb_tells}
 use Rattle.std.proofs.lemmas.List.{get_or_default, get_or_past, get_or-set_same, get_or-set_other, get_or_append_left, get_or_push, length_push}
 use Rattle.std.proofs.lemmas.List.Elements.{All-push}
+use Rattle.std.proofs.lemmas.Bool.{cases_lt}
+use Rattle.std.proofs.Math.Bool.{not-not}
 use Rattle.civl_cnf.specs.Literal.{Literal, opposite}
 use Rattle.civl_cnf.specs.ClauseSet.{IsBelow}
 use Rattle.civl_units.specs.Propagation.{Fails, IsFalsified, IsClosed}
 use Rattle.civl_units.specs.Marks.{is_marked, marked, IsQuiet, IsIncluded}
-use Rattle.civl_units.proofs.MarkLemmas.{same_self, below_or_not, lt_or_eq}
-use Rattle.civl_units.proofs.LawLemmas.{not_not}
+use Rattle.civl_units.proofs.MarkLemmas.{same_self, lt_or_eq, mark_absent}
 use Rattle.civl_propagation.specs.Trail.{TrailState, before, IsTrailOver, ReasonSays}
 use Rattle.civl_propagation.specs.declared.trail.Step.{Step}
 use Rattle.civl_propagation.proofs.Trails.{some_lit, before_place, before_by, before_marked}
@@ -27,7 +28,7 @@ false_or_true true = inr refl
 false_or_true false = inl refl
 
 none_seen : (seen : List Bool) → All (λ b. b ≡ false) seen → (v : ℕ) → IsTrue (sees seen v) → ⊥
-none_seen seen none v h = elim (below_or_not v (length seen)) [
+none_seen seen none v h = elim (cases_lt v (length seen)) [
   | inl low ↦ let clash : false ≡ true = sym (none v false low) ∙ h in cc
   | inr above ↦ let clash : false ≡ true = sym (get_or_past seen v false above) ∙ h in cc
 ]
@@ -69,17 +70,13 @@ follows_by t clauses root v at r s clause seen h first place low is reason claus
     let sign : s.lit.positive ≡ b = mark_is t.marks s.lit.variable s.lit.positive b here (subst (λ u. IsTrue (marked t.marks u b)) (sym variable) held) in
     subst (λ u. IsTrue (set u b)) variable (subst (λ x. IsTrue (set s.lit.variable x)) sign holds)
 
-unmarked_none : (m : Option Bool) (b : Bool) → m ≡ None → is_marked m b ≡ true → ⊥
-unmarked_none None b e h = cc
-unmarked_none (Some a) b e h = cc
-
 -- a variable without a value
 pub follows_none : (marks : List (Option Bool)) (places : List ℕ) (clauses : List (List Literal)) (seen : List Bool) (v : ℕ) → get_or marks v None ≡ None → Follows marks places clauses seen v
-follows_none marks places clauses seen v none set within closed b held = absurd (unmarked_none (get_or marks v None) b none held)
+follows_none marks places clauses seen v none set within closed b held = absurd (mark_absent (get_or marks v None) b none held)
 
 -- the opposite of a variable's literal is false
 pub mark_fails : (marks : List (Option Bool)) (v : ℕ) (value : Bool) → get_or marks v None ≡ Some value → Fails (marked marks) (record { variable = v; positive = not value })
-mark_fails marks v value mark = ap (λ m. is_marked m (not (not value))) mark ∙ ap (is_marked (Some value)) (not_not value) ∙ same_self value
+mark_fails marks v value mark = ap (λ m. is_marked m (not (not value))) mark ∙ ap (is_marked (Some value)) (not-not value) ∙ same_self value
 
 -- the opposite of the literal of a variable that has a value
 pub kept_by : (marks : List (Option Bool)) (places : List ℕ) (clauses : List (List Literal)) (start : ℕ) (seen : List Bool) (v : ℕ) (value : Bool) (l : Literal) → get_or marks v None ≡ Some value → l ≡ record { variable = v; positive = not value } → get_or places v 0 < start → KeepSays marks places clauses start seen v (Some l)
@@ -102,7 +99,7 @@ pub collects_none : (marks : List (Option Bool)) (places : List ℕ) (clauses : 
 collects_none marks places clauses start one seen found clause h is =
     let l : Literal = opposite one in
     let P : List Literal → Type 0 = Collects marks places clauses start one seen found 0 in
-    let fails : Fails (marked marks) l = subst (λ (x : Bool). IsTrue (marked marks one.variable x)) (sym (not_not one.positive)) h.held in
+    let fails : Fails (marked marks) l = subst (λ (x : Bool). IsTrue (marked marks one.variable x)) (sym (not-not one.positive)) h.held in
     let at : (j : ℕ) (d : Literal) → j < 1 → get_or (l ∷ []) j d ≡ l = λ j d low. ap (λ i. get_or (l ∷ []) i d) (zero_is j low) in
     subst P (sym is) (record {
       within = λ j d low. subst (λ (m : Literal). m.variable < length marks) (sym (at j d low)) h.within;
@@ -124,7 +121,7 @@ opposite_of : (marks : List (Option Bool)) (l : Literal) (v : ℕ) (b : Bool) �
 opposite_of marks l v b same fails held =
     let f : IsTrue (marked marks v (not l.positive)) = subst (λ u. IsTrue (marked marks u (not l.positive))) same fails in
     let sign : not l.positive ≡ b = one_sign (get_or marks v None) (not l.positive) b f held in
-    ap (λ (u : ℕ). record { variable = u; positive = l.positive }) same ∙ ap (λ (x : Bool). record { variable = v; positive = x }) (sym (not_not l.positive) ∙ ap not sign)
+    ap (λ (u : ℕ). record { variable = u; positive = l.positive }) same ∙ ap (λ (x : Bool). record { variable = v; positive = x }) (sym (not-not l.positive) ∙ ap not sign)
 
 -- one variable more, of which nothing is kept
 collects_skip : (marks : List (Option Bool)) (places : List ℕ) (clauses : List (List Literal)) (start : ℕ) (one : Literal) (seen : List Bool) (found : List ℕ) (n v : ℕ) (clause : List Literal) → get_or found n 0 ≡ v → (start ≤ get_or places v 0) ⊎ Follows marks places clauses seen v → Collects marks places clauses start one seen found n clause → Collects marks places clauses start one seen found (n + 1) clause
@@ -219,7 +216,7 @@ teaches_by marks places clauses start one seen found n clause f whole c = record
 
 -- a variable that is listed is known
 pub found_known : (seen : List Bool) (found : List ℕ) (n v : ℕ) → AreFound seen found → n < length found → get_or found n 0 ≡ v → v < length seen
-found_known seen found n v f below is = elim (below_or_not v (length seen)) [
+found_known seen found n v f below is = elim (cases_lt v (length seen)) [
   | inl low ↦ low
   | inr above ↦
       let here : IsTrue (sees seen v) = subst (λ u. IsTrue (sees seen u)) is (f.only n below) in
@@ -327,7 +324,7 @@ all_kept t clauses start one seen clause set g fails closed (suc n) fits v b m =
       | inr is ↦ elim (g.covers v b (seen_by t.marks t.places seen start v b here (before_by t.marks t.places start v b (omega arith) held))) [
         | inl there ↦
             let f : Fails set (record { variable = v; positive = not b }) = subst (λ (x : Literal). Fails set x) (there.2 some_lit) (fails there.0 some_lit there.1) in
-            subst (λ x. IsTrue (set v x)) (not_not b) f
+            subst (λ x. IsTrue (set v x)) (not-not b) f
         | inr follows ↦ follows set (subst (λ p. IsIncluded (seen_before t.marks t.places seen p) set) (sym is) rest) closed b held
       ]
     ]
@@ -350,7 +347,7 @@ learned_by t clauses start one seen clause limit levels h last o g reach cuts =
           once = g.once;
           conflict = λ set fails closed.
               let f : Fails set l = subst (λ (x : Literal). Fails set x) (l_at some_lit) (fails at some_lit low) in
-              o.conflict set (all_kept t clauses start one seen clause set g fails closed start (omega arith)) (subst (λ x. IsTrue (set one.variable x)) (not_not one.positive) f) closed;
+              o.conflict set (all_kept t clauses start one seen clause set g fails closed start (omega arith)) (subst (λ x. IsTrue (set one.variable x)) (not-not one.positive) f) closed;
         };
         fresh = (
           l,

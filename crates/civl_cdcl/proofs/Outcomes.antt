@@ -1,7 +1,7 @@
 -- The search from its beginning to its outcome.
 use Rattle.std.proofs.Common.{◌≡◌, ◌⊎◌, ℕ, ◌<◌, ◌≤◌, List, [], ◌∷◌, ◌++◌, length, get_or, take, append_assoc, append-nil, refl, sym, ◌∙◌, ap, subst, inl, inr, arith, Bool, true, false, not, unwrap_or, ltb, cond}
 use Rattle.std.specs.Prelude.{All, Contains, Option, None, Some}
-use Rattle.std.proofs.lemmas.Bool.{ltb-false}
+use Rattle.std.proofs.lemmas.Bool.{ltb-false, cases_Bool}
 use Rattle.std.proofs.lemmas.List.{take-append-le, take_all, get_or_append_left, get_or_push, length_push, length-append}
 use Rattle.std.proofs.lemmas.List.Elements.{All-nil, All-cons, Contains-append_right, Contains-push}
 use Rattle.civl_cnf.specs.Literal.{Literal, truth_of}
@@ -17,13 +17,9 @@ use Rattle.civl_cdcl.specs.Outcome.{IsModel, IsLearned, HaveLearned, RefutesWith
 use Rattle.civl_cdcl.specs.Turn.{AreBits, IsMarked, IsFull}
 
 -- a clause has a true literal, or all are false
-truth_by : (b : Bool) → (b ≡ true) ⊎ (b ≡ false)
-truth_by true = inl refl
-truth_by false = inr refl
-
 some_or_none : (v : ℕ → Bool) (clause : List Literal) → SatisfiesClause v clause ⊎ All (λ l. truth_of v l ≡ false) clause
 some_or_none v [] = inr (All-nil (λ l. truth_of v l ≡ false))
-some_or_none v (l ∷ clause) = elim (truth_by (truth_of v l)) [
+some_or_none v (l ∷ clause) = elim (cases_Bool (truth_of v l)) [
   | inl holds ↦ inl (0, l, omega arith, refl, holds)
   | inr fails ↦ elim (some_or_none v clause) [
     | inl some ↦

@@ -7,6 +7,7 @@ use Rattle.std.proofs.lemmas.Bool.{and_parts, eqb-true}
 use Rattle.std.proofs.lemmas.List.Elements.{All-head, All-tail, All-cons, All-nil}
 use Rattle.civl_cnf.specs.Literal.{Literal}
 use Rattle.civl_cnf.specs.ClauseSet.{ClauseSet}
+use Rattle.civl_cnf.proofs.Extending.{beq_equal}
 use Rattle.indexmap.specs.IndexMap.{insert_entry}
 use Rattle.civl_circuits.specs.Hashing.{IsOutput, AreOutputs}
 use Rattle.civl_circuits.specs.declared.gate.Operand.{Operand}
@@ -57,18 +58,11 @@ inserted eq gate output (e ∷ es) same set all is =
 pub kept : (eq : Gate → Gate → Bool) (gate : Gate) (output : Literal) (old new : List (Gate × Literal)) → new ≡ insert_entry eq old gate output → ((k : Gate) → eq gate k ≡ true → gate ≡ k) → (set : ClauseSet) → AreOutputs set old → IsOutput set gate output → AreOutputs set new
 kept eq gate output old new e same set all is = subst (AreOutputs set) (sym e) (inserted eq gate output old same set all is)
 
--- equality of gates, as the table tests it, is equality
-same_bool : (x y : Bool) → beq x y ≡ true → x ≡ y
-same_bool true true h = refl
-same_bool true false h = absurd (true≢false (sym h))
-same_bool false true h = absurd (true≢false (sym h))
-same_bool false false h = refl
-
 same_operand : (x y : Operand) → (operands.ghosts).eq x y ≡ true → x ≡ y
 same_operand x y h =
     let made : ℕ → Bool → Operand = λ n p. record { variable = n; positive = p } in
     let parts = and_parts (nat_eq x.variable y.variable) (beq x.positive y.positive) h in
-    ap₂ made (eqb-true x.variable y.variable parts.0) (same_bool x.positive y.positive parts.1)
+    ap₂ made (eqb-true x.variable y.variable parts.0) (beq_equal x.positive y.positive parts.1)
 
 same_two : (op : Operand → Operand → Gate) (a b d e : Operand) → ((operands.ghosts).eq a d && (operands.ghosts).eq b e) ≡ true → op a b ≡ op d e
 same_two op a b d e h =

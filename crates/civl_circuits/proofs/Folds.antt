@@ -1,6 +1,7 @@
 -- Gates that fewer operands do for.
 use Rattle.std.proofs.Common.{◌≡◌, ℕ, ◌+◌, ◌<◌, ◌⊎◌, refl, sym, ◌∙◌, ap, ap₂, arith, inl, inr, Bool, true, false, not, ◌&&◌, ◌||◌, cond}
 use Rattle.std.specs.Prelude.{IsTrue}
+use Rattle.std.proofs.Math.Bool.{and-false}
 use Rattle.civl_cnf.specs.Literal.{Literal, opposite, truth_of}
 use Rattle.civl_cnf.specs.Gates.{bit, xor}
 use Rattle.civl_cnf.proofs.Extending.{truth_of-opposite}
@@ -55,10 +56,6 @@ and_on : (x : Bool) → x ≡ (x && true)
 and_on true = refl
 and_on false = refl
 
-and_off : (x : Bool) → (x && false) ≡ false
-and_off true = refl
-and_off false = refl
-
 and_self : (x : Bool) → x ≡ (x && x)
 and_self true = refl
 and_self false = refl
@@ -88,7 +85,7 @@ and_second_on one a b e = record {
 pub and_second_off : (one a b : Literal) → b ≡ opposite one → Folds one a b b (λ x y. x && y)
 and_second_off one a b e = record {
   below = λ n ho ha hb. hb;
-  value = λ v t. is_off one v t e ∙ sym (ap (λ y. truth_of v a && y) (is_off one v t e) ∙ and_off (truth_of v a));
+  value = λ v t. is_off one v t e ∙ sym (ap (λ y. truth_of v a && y) (is_off one v t e) ∙ and-false (truth_of v a));
 }
 
 pub and_same : (one a b : Literal) → a ≡ b → Folds one a b a (λ x y. x && y)

@@ -1,6 +1,7 @@
 -- Gates that are shared.
 use Rattle.std.proofs.Common.{◌≡◌, ℕ, ◌+◌, ◌*◌, ◌%◌, ◌<◌, List, [], ◌∷◌, ◌++◌, refl, sym, ◌∙◌, ap, ap₂, arith, inl, inr, Bool, true, false, not, ◌&&◌, ◌||◌, cond, Option, None, Some, nat_eq, nat_lt, slice_get}
 use Rattle.std.proofs.lemmas.List.Elements.{All-nil, All-weaker}
+use Rattle.std.proofs.Math.Bool.{and_comm}
 use Rattle.civl_cnf.specs.Literal.{Literal, opposite, truth_of}
 use Rattle.civl_cnf.specs.ClauseSet.{ClauseSet}
 use Rattle.civl_cnf.specs.Gates.{Extends, IsGate, IsAdder, bit, xor, majority}
@@ -193,18 +194,12 @@ xor_turns true false = refl
 xor_turns false true = refl
 xor_turns false false = refl
 
-and_turns : (x y : Bool) → (x && y) ≡ (y && x)
-and_turns true true = refl
-and_turns true false = refl
-and_turns false true = refl
-and_turns false false = refl
-
 pub ordered_and : {f g : ClauseSet} {o x y a b : Literal} → IsPair x y a b → MakesBit f g o 1 (λ v. truth_of v x && truth_of v y) → MakesBit f g o 1 (λ v. truth_of v a && truth_of v b)
 ordered_and p t = record {
   extends = t.extends;
   variables = t.variables;
   below = t.below;
-  value = λ v h. t.value v h ∙ pair_value (λ x y. x && y) v and_turns p;
+  value = λ v h. t.value v h ∙ pair_value (λ x y. x && y) v and_comm p;
 }
 
 xor_signs : (p q x y : Bool) → cond q (cond p (xor (cond p x (not x)) (cond q y (not y))) (not (xor (cond p x (not x)) (cond q y (not y))))) (not (cond p (xor (cond p x (not x)) (cond q y (not y))) (not (xor (cond p x (not x)) (cond q y (not y)))))) ≡ xor x y

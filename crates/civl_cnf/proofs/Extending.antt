@@ -82,7 +82,7 @@ beq_self : (b : Bool) → beq b b ≡ true
 beq_self true = refl
 beq_self false = refl
 
-beq_equal : (a b : Bool) → beq a b ≡ true → a ≡ b
+pub beq_equal : (a b : Bool) → beq a b ≡ true → a ≡ b
 beq_equal true true e = refl
 beq_equal true false e = cc
 beq_equal false true e = cc

@@ -1,3 +1,4 @@
 pub mod Satisfying
 pub mod Extending
 pub mod Tables
+pub mod Literals

@@ -4,6 +4,7 @@ use Rattle.std.specs.Prelude.{Some, codes}
 use Rattle.std.proofs.Common.{◌≡◌, ℕ, ◌⊎◌, inl, inr, List, [], ◌∷◌, ◌++◌, sym, ap, ◌∙◌, subst, arith, Result, Ok, Err}
 use Rattle.std.proofs.lemmas.List.{append_cancel_left}
 use Rattle.civl_tree.specs.declared.program.Program.{Program}
+use Rattle.civl_tree.proofs.Lists.{one_first}
 use Rattle.civl_verdicts.specs.Verdicts.{IsVerdict}
 use Rattle.civl_verdicts.proofs.verdict_reports.Beginning.{only_accepted_accepts}
 use Rattle.civl_outlines.specs.declared.outline.Outline.{Outline}
@@ -31,9 +32,6 @@ use Rattle.civl_command.proofs.Ways.{Ways, check_way, ProveWays, prove_way}
 -- a text begins with `accepted`
 abbrev Accepted : List ℕ → Type 0
 Accepted text = (rest : List ℕ) × (text ≡ codes "accepted" ++ rest)
-
-one_first : (x y : ℕ) (xs ys : List ℕ) → x ∷ xs ≡ y ∷ ys → x ≡ y
-one_first x y xs ys e = cc
 
 refused_first : (xs : List ℕ) → Accepted (114 ∷ xs) → ⊥
 refused_first xs h = let bytes : 114 ≡ 97 = one_first 114 97 _ _ h.1 in omega (arith, bytes)

@@ -1,22 +1,17 @@
 -- An outline that a text spells has a program whose parts have numbers, and few holds and notes.
 use Rattle.std.specs.Prelude.{codes, IsTrue}
-use Rattle.std.proofs.Common.{ℕ, ◌+◌, ◌<◌, ◌≤◌, ◌^◌, List, [], ◌∷◌, ◌++◌, map, length, ap, arith}
+use Rattle.std.proofs.Common.{ℕ, ◌+◌, ◌<◌, ◌≤◌, ◌^◌, List, ◌∷◌, ◌++◌, map, length, ap, arith}
 use Rattle.std.proofs.lemmas.List.{length-append}
 use Rattle.civl_tree.specs.Numbered.{IsNumbered}
 use Rattle.civl_tree.specs.Spelling.{joined}
 use Rattle.civl_tree.specs.SpellingDomain.{allows_program}
 use Rattle.civl_tree.specs.SpellingProgram.{spell_program}
-use Rattle.civl_tree.specs.Token.{Token, Reserved}
+use Rattle.civl_tree.specs.Token.{Reserved}
 use Rattle.civl_phrases.proofs.Tables.{and_parts}
-use Rattle.civl_script.proofs.Counting.{tokens_within, few_tokens}
+use Rattle.civl_script.proofs.Counting.{tokens_within, few_tokens, parts_within}
 use Rattle.civl_outlines.specs.declared.outline.Outline.{Outline}
 use Rattle.civl_outlines.specs.SpellingOutline.{spell_hold, spell_note, spell_outline}
 use Rattle.civl_frontend.specs.Texts.{SpellsOutline, limit}
-
--- at most as many parts as tokens, where each part takes one
-parts_within : {X : Type 0} (spell : X → List Token) → ((x : X) → 0 < length (spell x)) → (xs : List X) → length xs ≤ length (joined (map spell xs))
-parts_within spell some [] = omega arith
-parts_within spell some (x ∷ xs) = omega (arith, some x, parts_within spell some xs, length-append (spell x) (joined (map spell xs)))
 
 -- the tokens of the program, and one at least for each hold and note
 outline_long : (outline : Outline) → length (spell_program outline.program) + (length outline.holds + length outline.notes) ≤ length (spell_outline outline)

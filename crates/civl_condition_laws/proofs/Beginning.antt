@@ -12,6 +12,7 @@ use Rattle.civl_tree.specs.declared.program.Program.{Program}
 use Rattle.civl_firing.specs.declared.store.Store.{Store}
 use Rattle.civl_firing.specs.Stores.{IsStore}
 use Rattle.civl_firing.specs.Scope.{zeros_of_params, zeros_of_locals}
+use Rattle.civl_firing.proofs.Having.{have_length}
 use Rattle.civl_meaning.specs.Change.{outs_in}
 use Rattle.civl_layers.specs.declared.cut.Cut.{Cut}
 use Rattle.civl_layers.specs.declared.cut.CutKind.{CutKind}
@@ -23,7 +24,7 @@ use Rattle.civl_conditions.specs.paths.Seen.{exists_near}
 use Rattle.civl_conditions.specs.Variables.{near_globals, of_params, of_locals, where_has, flag, passed_choices, of_passed, path_variables}
 use Rattle.civl_conditions.specs.Values.{part, flag_at, spread, store_of, count_of, where_so, choices_count, Layout, layout, Begun, begun}
 use Rattle.civl_condition_laws.specs.States.{IsFresh, IsNew, BeginsAs, IsBegun}
-use Rattle.civl_condition_laws.proofs.Gathering.{Fit, have_length, fit_more, fit_named, sorts_named, kept, kept_fit, kept_length, spread_agrees}
+use Rattle.civl_condition_laws.proofs.Gathering.{Fit, fit_more, fit_named, sorts_named, kept, kept_fit, kept_length, spread_agrees}
 use Rattle.civl_condition_laws.proofs.Nearby.{Near}
 use Rattle.civl_condition_laws.proofs.Assuming.{BegunAlike}
 use Rattle.civl_condition_laws.proofs.Standing.{sorts_apart, past, stands, flag_stands, where_vals, where_length, where_fit, flag_fit, picked, AreChosen, picked_length, picked_fit, chosen_there}

@@ -1,8 +1,6 @@
 -- What a path has to do sees the globals of the two programs of the step, and the choices of the statements that some path passes.
-use Rattle.std.proofs.Common.{◌≡◌, ℕ, ◌-◌, zero, suc, Bool, true, false, not, ◌&&◌, ◌||◌, List, [], ◌∷◌, ◌++◌, drop, Option, Some, None, refl, sym, ap, ◌∙◌, subst}
+use Rattle.std.proofs.Common.{◌≡◌, ℕ, ◌-◌, Bool, true, false, not, ◌&&◌, ◌||◌, List, ◌++◌, drop, Option, Some, None, refl, sym, ap, ◌∙◌, subst}
 use Rattle.std.specs.Prelude.{slice_get, nat_eq, if◌then◌else◌}
-use Rattle.std.specs.List.{Contains}
-use Rattle.std.proofs.lemmas.Option.{none-some, same_Some}
 use Rattle.civl_bits.specs.declared.value.Value.{Value}
 use Rattle.civl_firing.specs.values.Operators.{two_value}
 use Rattle.civl_firing.specs.values.Values.{is_true}
@@ -12,7 +10,7 @@ use Rattle.civl_tree.specs.declared.stmt.Stmt.{Stmt, out-Stmt}
 use Rattle.civl_tree.specs.declared.action.Action.{Action}
 use Rattle.civl_tree.specs.declared.program.Proc.{Proc}
 use Rattle.civl_tree.specs.declared.program.Program.{Program}
-use Rattle.civl_tree.proofs.Pairs.{contains_here, contains_there, contains_map}
+use Rattle.civl_tree.proofs.Pairs.{contains_map, contains_at}
 use Rattle.civl_firing.specs.declared.store.Store.{Store}
 use Rattle.civl_firing.specs.Eval.{value_of, values_of}
 use Rattle.civl_firing.specs.Fired.{fires}
@@ -45,11 +43,6 @@ use Rattle.civl_condition_laws.proofs.Nearby.{agree_less, above_near, Near, plai
 use Rattle.civl_condition_laws.proofs.Losing.{IsTarget, lost_alike, owned_there, lost_there}
 use Rattle.civl_condition_laws.proofs.Lasting.{some_alike}
 use Rattle.civl_condition_laws.proofs.Assuming.{moved, BegunAlike, moved_is, ActionNear, refined_near, refined_acts, owned_same, assumed_same}
-
-contains_at : {A : Type 0} (xs : List A) (i : ℕ) (x : A) → slice_get xs i ≡ Some x → Contains xs x
-contains_at [] i x e = absurd (none-some x e)
-contains_at (y ∷ ys) zero x e = subst (Contains (y ∷ ys)) (same_Some y x e) (contains_here y ys)
-contains_at (y ∷ ys) (suc i) x e = contains_there y ys x (contains_at ys i x e)
 
 -- the same is found in both, where there is something
 found_same : {A : Type 0} (o : Option A) (f h : A → Bool) → ((x : A) → f x ≡ h x) → on_some o f ≡ on_some o h

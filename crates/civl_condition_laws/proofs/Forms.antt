@@ -1,25 +1,22 @@
 -- What is in a statement, by how it is written: its size, the statements in it, what is held behind it, and what is still to
 -- run from a place in it.
-use Rattle.std.proofs.Common.{◌≡◌, ℕ, ◌+◌, Bool, List, [], ◌∷◌, ◌++◌, refl, ap, ◌∙◌, arith}
+use Rattle.std.proofs.Common.{◌≡◌, ℕ, ◌+◌, Bool, List, [], ◌∷◌, ◌++◌, refl, ap, ◌∙◌}
 use Rattle.std.specs.Prelude.{nat_lt, if◌then◌else◌}
-use Rattle.std.proofs.lemmas.Grind.{common_steps}
 use Rattle.civl_tree.specs.declared.name.Name.{Name}
 use Rattle.civl_tree.specs.declared.expr.Expr.{Expr}
-use Rattle.civl_tree.specs.declared.stmt.Stmt.{Stmt, out-Stmt, map-Stmt, the_lemmas as of_stmt}
+use Rattle.civl_tree.specs.declared.stmt.Stmt.{Stmt, out-Stmt, the_lemmas as of_stmt}
 use Rattle.civl_tree.specs.declared.stmt.Stmt as stmt
 use Rattle.civl_tree.specs.declared.stmt.Stmt.TheOpen as layer
 use Rattle.civl_tree.specs.declared.program.Program.{Program}
-use Rattle.civl_tree.specs.Numbering.{size_step, size_of, sizes_of, inner_of, statements_of}
+use Rattle.civl_tree.specs.Numbering.{size_of, sizes_of, inner_of, statements_of}
 use Rattle.civl_tree.specs.rules.Names.{callee_signature}
 use Rattle.civl_tree.proofs.Layers.{inner_layer, inner_is}
+use Rattle.civl_tree.proofs.Sizes.{size_by}
+use Rattle.civl_tree.proofs.Numbers.{sizes_more}
 use Rattle.civl_meaning.specs.Rest.{Rest, rest_inside, rest_among}
 use Rattle.civl_meaning.proofs.Rests.{rest_layer, rest_is, among_rest, rest_none}
-use Rattle.civl_meaning.proofs.Spots.{size_is}
 use Rattle.civl_linear.specs.Held.{traced, traced_all, trace_one, trace_if, trace_loop, call_held}
 use Rattle.civl_linear.proofs.Examples.{traced_form, traced_is}
-
-size_as : (s : Stmt) (d : layer.Stmt-F Stmt) → out-Stmt s ≡ d → size_of s ≡ size_step (map-Stmt Stmt ℕ size_of d)
-size_as s d e = size_is s ∙ ap (λ (d : layer.Stmt-F Stmt). size_step (map-Stmt Stmt ℕ size_of d)) e
 
 inner_as : (s : Stmt) (d : layer.Stmt-F Stmt) → out-Stmt s ≡ d → inner_of s ≡ inner_layer d
 inner_as s d e = inner_is s ∙ ap inner_layer e
@@ -32,38 +29,35 @@ rest_as s t at k wanted d e = rest_is s t at k wanted ∙ ap (λ (d : layer.Stmt
 
 -- ---- sizes
 
-pub sizes_more : (s : Stmt) (ss : List Stmt) → sizes_of (s ∷ ss) ≡ size_of s + sizes_of ss
-sizes_more s ss = grind (arith, common_steps)
-
 pub sizes_none : sizes_of [] ≡ 0
 sizes_none = refl
 
 pub size_assign : (x : Name) (e : Expr) → size_of (stmt.Assign x e) ≡ 1
-size_assign x e = size_as (stmt.Assign x e) (layer.Assign x e) (simp of_stmt)
+size_assign x e = size_by (stmt.Assign x e) (layer.Assign x e) (simp of_stmt)
 
 pub size_assert : (e : Expr) → size_of (stmt.Assert e) ≡ 1
-size_assert e = size_as (stmt.Assert e) (layer.Assert e) (simp of_stmt)
+size_assert e = size_by (stmt.Assert e) (layer.Assert e) (simp of_stmt)
 
 pub size_if : (e : Expr) (a b : List Stmt) → size_of (stmt.If e a b) ≡ 1 + sizes_of a + sizes_of b
-size_if e a b = size_as (stmt.If e a b) (layer.If e a b) (simp of_stmt)
+size_if e a b = size_by (stmt.If e a b) (layer.If e a b) (simp of_stmt)
 
 pub size_yield_loop : (e i : Expr) (a : List Stmt) → size_of (stmt.YieldLoop e i a) ≡ 1 + sizes_of a
-size_yield_loop e i a = size_as (stmt.YieldLoop e i a) (layer.YieldLoop e i a) (simp of_stmt)
+size_yield_loop e i a = size_by (stmt.YieldLoop e i a) (layer.YieldLoop e i a) (simp of_stmt)
 
 pub size_rank_loop : (e r i : Expr) (a : List Stmt) → size_of (stmt.RankLoop e r i a) ≡ 1 + sizes_of a
-size_rank_loop e r i a = size_as (stmt.RankLoop e r i a) (layer.RankLoop e r i a) (simp of_stmt)
+size_rank_loop e r i a = size_by (stmt.RankLoop e r i a) (layer.RankLoop e r i a) (simp of_stmt)
 
 pub size_call : (f : Name) (es : List Expr) (rs : List Name) → size_of (stmt.Call f es rs) ≡ 1
-size_call f es rs = size_as (stmt.Call f es rs) (layer.Call f es rs) (simp of_stmt)
+size_call f es rs = size_by (stmt.Call f es rs) (layer.Call f es rs) (simp of_stmt)
 
 pub size_yield : (i : Expr) → size_of (stmt.Yield i) ≡ 1
-size_yield i = size_as (stmt.Yield i) (layer.Yield i) (simp of_stmt)
+size_yield i = size_by (stmt.Yield i) (layer.Yield i) (simp of_stmt)
 
 pub size_commit : size_of stmt.Commit ≡ 1
-size_commit = size_as stmt.Commit layer.Commit (simp of_stmt)
+size_commit = size_by stmt.Commit layer.Commit (simp of_stmt)
 
 pub size_intro : (x : Name) (e : Expr) → size_of (stmt.Intro x e) ≡ 1
-size_intro x e = size_as (stmt.Intro x e) (layer.Intro x e) (simp of_stmt)
+size_intro x e = size_by (stmt.Intro x e) (layer.Intro x e) (simp of_stmt)
 
 pub ruleset sizes = (size_assign, size_assert, size_if, size_yield_loop, size_rank_loop, size_call, size_yield, size_commit, size_intro, sizes_more, sizes_none)
 

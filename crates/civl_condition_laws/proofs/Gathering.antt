@@ -1,5 +1,5 @@
 -- The values that the variables of a condition on actions have in a state, and what they give back.
-use Rattle.std.proofs.Common.{◌≡◌, ℕ, ◌+◌, Bool, true, false, List, [], ◌∷◌, ◌++◌, map, filter, length, take, refl, sym, ap, ◌∙◌, subst, arith}
+use Rattle.std.proofs.Common.{◌≡◌, ℕ, ◌+◌, Bool, true, false, List, [], ◌∷◌, ◌++◌, map, filter, length, take, refl, sym, ap, ◌∙◌, subst}
 use Rattle.std.specs.Prelude.{if◌then◌else◌}
 use Rattle.std.proofs.lemmas.Bool.{false≢true, true≢false}
 use Rattle.std.proofs.lemmas.List.{length-map, length-append, map-append, append-nil, append_assoc, take_at, drop_at}
@@ -9,7 +9,7 @@ use Rattle.civl_tree.specs.declared.name.Name.{Name}
 use Rattle.civl_tree.specs.declared.expr.Sort.{Sort}
 use Rattle.civl_tree.specs.declared.program.Global.{Global}
 use Rattle.civl_tree.specs.declared.program.Program.{Program}
-use Rattle.civl_firing.proofs.Having.{no_sorts, more_sorts, first_sort, rest_sorts}
+use Rattle.civl_firing.proofs.Having.{no_sorts, more_sorts, first_sort, rest_sorts, have_length, have_more}
 use Rattle.civl_conditions.specs.footprints.Agreement.{AgreeOn}
 use Rattle.civl_conditions.specs.declared.condition.Variable.{Variable}
 use Rattle.civl_conditions.specs.Variables.{variable, of_globals, of_params, of_instance}
@@ -21,18 +21,6 @@ use Rattle.civl_condition_laws.specs.States.{IsInvoked}
 -- values for variables, one of its sort for each
 abbrev pub Fit : List Value → List Variable → Type 0
 Fit values variables = HaveSorts values (map (λ v. v.sort) variables)
-
-pub have_length : (vs : List Value) (ss : List Sort) → HaveSorts vs ss → length vs ≡ length ss
-have_length [] [] h = refl
-have_length [] (s ∷ ss) h = absurd (false≢true h.are)
-have_length (v ∷ vs) [] h = absurd (false≢true h.are)
-have_length (v ∷ vs) (s ∷ ss) h = let e : length vs ≡ length ss = have_length vs ss (rest_sorts v s vs ss h) in omega (arith, e)
-
-have_more : (vs ws : List Value) (ss ts : List Sort) → HaveSorts vs ss → HaveSorts ws ts → HaveSorts (vs ++ ws) (ss ++ ts)
-have_more [] ws [] ts h k = k
-have_more [] ws (s ∷ ss) ts h k = absurd (false≢true h.are)
-have_more (v ∷ vs) ws [] ts h k = absurd (false≢true h.are)
-have_more (v ∷ vs) ws (s ∷ ss) ts h k = more_sorts v s (vs ++ ws) (ss ++ ts) (first_sort v s vs ss h) (have_more vs ws ss ts (rest_sorts v s vs ss h) k)
 
 pub fit_more : (vs ws : List Value) (us ts : List Variable) → Fit vs us → Fit ws ts → Fit (vs ++ ws) (us ++ ts)
 fit_more vs ws us ts h k = subst (HaveSorts (vs ++ ws)) (sym (map-append (λ v. v.sort) us ts)) (have_more vs ws (map (λ v. v.sort) us) (map (λ v. v.sort) ts) h k)

@@ -1,4 +1,3 @@
-pub mod Weighing
 pub mod Gathering
 pub mod Carrying
 pub mod Meeting

@@ -3,14 +3,12 @@ use Rattle.std.proofs.Common.{◌≡◌, ℕ, ◌+◌, suc, Bool, true, false, n
 use Rattle.std.specs.Prelude.{slice_get, if◌then◌else◌}
 use Rattle.std.specs.List.{Contains}
 use Rattle.std.specs.Option.{option_map_or}
-use Rattle.std.proofs.lemmas.Bool.{eqb-true}
 use Rattle.std.proofs.lemmas.Option.{same_Some}
 use Rattle.std.proofs.lemmas.List.{get_or-drop}
 use Rattle.std.proofs.lemmas.List.Elements.{Contains-append_cases}
 use Rattle.civl_bits.specs.declared.value.Value.{Value}
 use Rattle.civl_firing.specs.values.Operators.{nothing}
 use Rattle.civl_firing.specs.values.Values.{is_true}
-use Rattle.civl_tree.specs.declared.program.Refines.{Refines}
 use Rattle.civl_tree.specs.declared.program.Proc.{Proc}
 use Rattle.civl_tree.specs.declared.program.Program.{Program}
 use Rattle.civl_tree.proofs.Pairs.{contains_nil, contains_one}
@@ -22,12 +20,13 @@ use Rattle.civl_conditions.specs.paths.Ends.{is_yield_cut}
 use Rattle.civl_conditions.specs.paths.Seen.{IsProcOf}
 use Rattle.civl_conditions.specs.declared.condition.Target.{Target}
 use Rattle.civl_conditions.specs.declared.condition.Target.TheVariants as target
-use Rattle.civl_conditions.specs.Steps.{each_at, refines_at, has_layer, step_invariants}
+use Rattle.civl_conditions.specs.Steps.{each_at, has_layer, step_invariants}
 use Rattle.civl_conditions.specs.Listed.{targets}
 use Rattle.civl_conditions.specs.Values.{part, flag_at}
 use Rattle.civl_conditions.specs.Permissions.{held_at, of_held}
 use Rattle.civl_conditions.specs.Assumed.{layer_invariant, cut_invariant}
 use Rattle.civl_conditions.specs.Targets.{Other, frame_size, other_of, yield_holds, target_owned, target_lost}
+use Rattle.civl_conditions.proofs.Layered.{of_layer}
 use Rattle.civl_condition_laws.proofs.Carrying.{same_and}
 use Rattle.civl_condition_laws.proofs.Nearby.{Near, invariant_same, note_holds_same, invariant_shown, said_shown}
 
@@ -45,13 +44,6 @@ module _ {A B : Type 0} (f : ℕ → A → List B) where
             let e : at + 1 + t.0 ≡ at + suc t.0 = omega arith in
             (suc t.0, t.1, t.2, subst (λ (n : ℕ). Contains (f n t.1) y) e t.3)
       ]
-
-of_layer : (program : Program) (number step : ℕ) (proc : Proc) → slice_get program.procs number ≡ Some proc → has_layer step proc ≡ true → IsProcOf program number step proc
-of_layer program number step proc at = by_refines proc.refines refl
-  where
-    by_refines : (o : Option Refines) → proc.refines ≡ o → refines_at step o ≡ true → IsProcOf program number step proc
-    by_refines None e h = absurd cc
-    by_refines (Some r) e h = record { there = at; refines = r; refined = e; layered = eqb-true r.layer step h }
 
 module _ (program : Program) (step : ℕ) where
   -- the yield of a target stands in a procedure of the step's layer

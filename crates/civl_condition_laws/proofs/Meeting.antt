@@ -9,6 +9,7 @@ use Rattle.civl_bits.specs.declared.value.Value.{Value}
 use Rattle.civl_tree.specs.declared.action.Action.{Action}
 use Rattle.civl_tree.specs.declared.program.Program.{Program}
 use Rattle.civl_tree.proofs.Kept.{action_kept, global_kept}
+use Rattle.civl_tree.proofs.Bools.{not_second}
 use Rattle.civl_firing.specs.declared.store.Store.{Store}
 use Rattle.civl_firing.specs.Stores.{IsStore}
 use Rattle.civl_layers.specs.Ranges.{exists_in, exists_through}
@@ -30,10 +31,6 @@ use Rattle.civl_conditions.specs.Violated.{violated, Holds}
 use Rattle.civl_condition_laws.specs.States.{IsInvoked, ActionsOfStates}
 use Rattle.civl_condition_laws.proofs.Gathering.{Fit, fit_more, fit_named, kept, kept_fit, kept_length, spread_agrees, instance_of, inputs_fit, instance_fit, instance_length, invoked_is, last_is, last_inputs}
 use Rattle.civl_condition_laws.proofs.Carrying.{LinearPass, same_loses, same_pair, same_waits}
-
-pub not_second : (a b : Bool) → a ≡ true → (a && b) ≡ false → b ≡ false
-not_second true b h k = k
-not_second false b h k = absurd cc
 
 -- ---- layers
 

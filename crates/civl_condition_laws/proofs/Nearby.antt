@@ -20,6 +20,7 @@ use Rattle.civl_tree.specs.Numbering.{statement_at}
 use Rattle.civl_tree.specs.rules.Names.{same_name, global_names, names_in_proc}
 use Rattle.civl_tree.specs.rules.Count.{is_within}
 use Rattle.civl_tree.proofs.Kept.{global_kept, invariant_kept, proc_kept, statement_kept}
+use Rattle.civl_tree.proofs.Bools.{not_second}
 use Rattle.civl_firing.specs.declared.store.Store.{Store}
 use Rattle.civl_firing.specs.Eval.{value_of, values_of}
 use Rattle.civl_firing.specs.Scope.{present_values, global_values}
@@ -41,7 +42,6 @@ use Rattle.civl_conditions.specs.Steps.{step_invariants}
 use Rattle.civl_conditions.specs.Invariants.{holds_of_globals, invariant_lost, invariants_hold}
 use Rattle.civl_conditions.specs.Assumed.{layer_invariant, layer_rank, said_at, note_holds, with_of}
 use Rattle.civl_condition_laws.proofs.Carrying.{LinearPass, same_and}
-use Rattle.civl_condition_laws.proofs.Meeting.{not_second}
 
 pub agree_less : (test fewer : Global → Bool) → ((g : Global) → fewer g ≡ true → test g ≡ true) → (gs : List Global) (vs ws : List Value) → AgreeOn test gs vs ws → AgreeOn fewer gs vs ws
 agree_less test fewer less [] [] [] a = tt

@@ -11,11 +11,11 @@ use Rattle.civl_firing.specs.values.Values.{HaveSorts, is_true}
 use Rattle.civl_tree.specs.declared.expr.Sort.{Sort}
 use Rattle.civl_tree.specs.declared.action.Choice.{Choice}
 use Rattle.civl_tree.proofs.Pairs.{contains_nil, contains_here, contains_there, contains_cons}
-use Rattle.civl_firing.proofs.Having.{no_sorts, more_sorts, first_sort, rest_sorts}
+use Rattle.civl_firing.proofs.Having.{no_sorts, more_sorts, first_sort, rest_sorts, have_length}
 use Rattle.civl_conditions.specs.declared.condition.Variable.{Variable}
 use Rattle.civl_conditions.specs.Variables.{where_has, call_front, of_choices, of_passed, flag}
 use Rattle.civl_conditions.specs.Values.{part, flag_at, where_so, choices_count, chosen_in}
-use Rattle.civl_condition_laws.proofs.Gathering.{Fit, have_length, fit_more, fit_named}
+use Rattle.civl_condition_laws.proofs.Gathering.{Fit, fit_more, fit_named}
 
 -- ---- sorts
 

@@ -2,6 +2,7 @@
 use Rattle.std.proofs.Common.{◌≡◌, ℕ, ◌-◌, Bool, true, List, [], ◌∷◌, ◌++◌, map, Some, refl, sym, ap, subst, ◌∙◌, append_assoc, arith}
 use Rattle.std.specs.Prelude.{codes, IsTrue}
 use Rattle.std.specs.List.{AllByRecursion, list_all}
+use Rattle.std.proofs.lemmas.Bool.{and_from}
 use Rattle.civl_tree.specs.Token.{Token, Reserved, Sign, Number}
 use Rattle.civl_tree.specs.Spelling.{open_paren, close_paren, open_brace, close_brace, semicolon, colon, becomes, arrow, name_token, enclosed, block, spell_expr}
 use Rattle.civl_tree.specs.SpellingProgram.{spell_param, spell_choice, mover_token, spell_update, spell_action}
@@ -18,7 +19,7 @@ use Rattle.civl_phrases.specs.Phrase.{Any, IsReader}
 use Rattle.civl_phrases.proofs.Joins.{both_is, mapped_is}
 use Rattle.civl_phrases.proofs.Tokens.{leaf_is, after_is, then_is}
 use Rattle.civl_phrases.proofs.Lists.{bracketed_is, braced_is}
-use Rattle.civl_phrases.proofs.Tables.{table_leaf, and_parts, and_join}
+use Rattle.civl_phrases.proofs.Tables.{table_leaf, and_parts}
 use Rattle.civl_phrases.proofs.Leaves.{number_is}
 use Rattle.civl_expressions.specs.declared.params.Heading.{Heading}
 use Rattle.civl_declarations.specs.declared.actions.Offer.{Offer}
@@ -37,7 +38,7 @@ FitsChoice new c = IsTrue (allows_choice new c)
 
 choice_is : (new : Bool) (d : ℕ) → IsReader d d Any spell_choice (FitsChoice new) (choice_at new d)
 unfolding choice_at
-choice_is new d = mapped_is make_choice spell_choice (FitsChoice new) (λ p h. refl) (λ p h. and_join (allows_name p.0) (allows_expr new p.1.1) h.0 h.1.1)
+choice_is new d = mapped_is make_choice spell_choice (FitsChoice new) (λ p h. refl) (λ p h. and_from (allows_name p.0) (allows_expr new p.1.1) h.0 h.1.1)
     (λ c h. let k = and_parts (allows_name c.name) (allows_expr new c.offer) h in ((c.name, (c.sort, c.offer)), refl, (k.0, (tt, k.1))))
     (both_is (name_is d) (λ _. after_is d colon refl refl (both_is (sort_is d) (λ _. after_is d (Sign (codes "=")) refl refl (expr_is new d)))))
 
@@ -51,7 +52,7 @@ FitsUpdate new u = IsTrue (allows_update new u)
 
 update_is : (new : Bool) (d : ℕ) → IsReader d d Any spell_update (FitsUpdate new) (update_at new d)
 unfolding update_at
-update_is new d = mapped_is make_update spell_update (FitsUpdate new) (λ p h. refl) (λ p h. and_join (allows_name p.0) (allows_expr new p.1) h.0 h.1)
+update_is new d = mapped_is make_update spell_update (FitsUpdate new) (λ p h. refl) (λ p h. and_from (allows_name p.0) (allows_expr new p.1) h.0 h.1)
     (λ u h. ((u.target, u.expr), refl, and_parts (allows_name u.target) (allows_expr new u.expr) h))
     (both_is (name_is d) (λ _. after_is d becomes refl refl (then_is d semicolon refl refl (expr_is new d))))
 
@@ -118,12 +119,12 @@ action_spells p =
 
 action_to : (new : Bool) (h : Heading) (o : Offer) (e : Effect) → FitsHeading h → FitsOffer new o → FitsEffect new e → FitsAction new (make_action (h, (o, e)))
 action_to new h o e f g k =
-    and_join (allows_name h.name) _ f.0
-    (and_join (list_all allows_param h.params) _ (all_from allows_param h.params f.1.0)
-    (and_join (list_all allows_out h.outs) _ (all_from allows_out h.outs f.1.1)
-    (and_join (list_all (allows_choice new) o.choices) _ (all_from (allows_choice new) o.choices g)
-    (and_join (allows_expr new e.gate) _ k.0
-    (and_join (allows_expr new e.guard) _ k.1.0 (all_from (allows_update new) e.updates k.1.1))))))
+    and_from (allows_name h.name) _ f.0
+    (and_from (list_all allows_param h.params) _ (all_from allows_param h.params f.1.0)
+    (and_from (list_all allows_out h.outs) _ (all_from allows_out h.outs f.1.1)
+    (and_from (list_all (allows_choice new) o.choices) _ (all_from (allows_choice new) o.choices g)
+    (and_from (allows_expr new e.gate) _ k.0
+    (and_from (allows_expr new e.guard) _ k.1.0 (all_from (allows_update new) e.updates k.1.1))))))
 
 abbrev action_parts : Action → Heading × (Offer × Effect)
 action_parts a = (record { name = a.name; params = a.params; outs = a.outs }, (record { choices = a.choices; first = a.first; last = a.last; mover = a.mover }, record { gate = a.gate; guard = a.guard; updates = a.updates }))

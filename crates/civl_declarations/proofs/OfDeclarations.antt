@@ -1,6 +1,7 @@
 -- Declarations but actions and procedures are read as they are spelled.
 use Rattle.std.proofs.Common.{ℕ, Bool, List, [], ◌∷◌, ◌++◌, refl}
 use Rattle.std.specs.Prelude.{codes, IsTrue}
+use Rattle.std.proofs.lemmas.Bool.{and_from}
 use Rattle.civl_tree.specs.Token.{Token, Reserved}
 use Rattle.civl_tree.specs.Spelling.{semicolon, colon, name_token, spell_sort}
 use Rattle.civl_tree.specs.SpellingProgram.{spell_global, spell_init, spell_invariant, spell_thread}
@@ -14,7 +15,7 @@ use Rattle.civl_phrases.specs.Phrase.{Any, IsReader}
 use Rattle.civl_phrases.proofs.Joins.{both_is, mapped_is}
 use Rattle.civl_phrases.proofs.Tokens.{after_is, then_is}
 use Rattle.civl_phrases.proofs.Lists.{flagged_is}
-use Rattle.civl_phrases.proofs.Tables.{and_parts, and_join}
+use Rattle.civl_phrases.proofs.Tables.{and_parts}
 use Rattle.civl_phrases.proofs.Leaves.{number_is}
 use Rattle.civl_expressions.specs.readers.Names.{FitsName}
 use Rattle.civl_expressions.specs.readers.Exprs.{FitsExpr}
@@ -58,6 +59,6 @@ FitsThread new t = IsTrue (allows_thread new t)
 
 pub thread_is : (new : Bool) (d : ℕ) → IsReader d d Any spell_thread (FitsThread new) (thread_at new d)
 unfolding thread_at
-thread_is new d = mapped_is make_thread spell_thread (FitsThread new) (λ p h. refl) (λ p h. and_join (allows_name p.0) _ h.0 (all_from (allows_expr new) p.1 h.1))
+thread_is new d = mapped_is make_thread spell_thread (FitsThread new) (λ p h. refl) (λ p h. and_from (allows_name p.0) _ h.0 (all_from (allows_expr new) p.1 h.1))
     (λ t h. let k = and_parts (allows_name t.callee) _ h in ((t.callee, t.args), refl, (k.0, all_to (allows_expr new) t.args k.1)))
     (after_is d thread_word refl refl (both_is (name_is d) (λ _. then_is d semicolon refl refl (args_is new d))))

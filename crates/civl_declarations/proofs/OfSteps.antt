@@ -2,6 +2,7 @@
 use Rattle.std.proofs.Common.{◌≡◌, ℕ, suc, ◌-◌, Bool, true, false, List, [], ◌∷◌, ◌++◌, length, map, None, Some, refl, sym, ap, subst, ◌∙◌, append-nil, arith, inl, inr, ◌⊎◌}
 use Rattle.std.specs.Prelude.{codes, IsTrue, ◌==◌, if◌then◌else◌}
 use Rattle.std.specs.List.{AllByRecursion}
+use Rattle.std.proofs.lemmas.Bool.{and_from}
 use Rattle.civl_tree.specs.Token.{Token, Reserved, Sign, Number}
 use Rattle.civl_tree.specs.Spelling.{open_paren, close_paren, semicolon, colon, joined, separated, enclosed}
 use Rattle.civl_tree.specs.SpellingScript.{spell_literal, spell_value, spell_entry, spell_step}
@@ -16,7 +17,7 @@ use Rattle.civl_phrases.proofs.Joins.{both_is, mapped_is, image_is, refit_is, ch
 use Rattle.civl_phrases.proofs.Tokens.{after_is, then_is, done_is}
 use Rattle.civl_phrases.proofs.Lists.{bracketed_is}
 use Rattle.civl_phrases.proofs.Heads.{heads_after, heads_leaf, heads_both, heads_image, excludes}
-use Rattle.civl_phrases.proofs.Tables.{and_parts, and_join}
+use Rattle.civl_phrases.proofs.Tables.{and_parts}
 use Rattle.civl_phrases.proofs.Leaves.{number_is}
 use Rattle.civl_declarations.specs.declared.forms.LiteralForm.{LiteralForm}
 use Rattle.civl_declarations.specs.declared.forms.LiteralForm.TheVariants as forms
@@ -121,7 +122,7 @@ FitsEntry e = IsTrue (allows_entry e)
 
 pub entry_is : (d : ℕ) → IsReader d d Any spell_entry FitsEntry (entry_at d)
 unfolding entry_at
-entry_is d = mapped_is make_entry spell_entry FitsEntry (λ p h. refl) (λ p h. and_join (allows_name p.0) _ h.0 h.1) (λ e h. ((e.name, value_of e), refl, and_parts (allows_name e.name) _ h))
+entry_is d = mapped_is make_entry spell_entry FitsEntry (λ p h. refl) (λ p h. and_from (allows_name p.0) _ h.0 h.1) (λ e h. ((e.name, value_of e), refl, and_parts (allows_name e.name) _ h))
     (both_is (name_is d) (λ _. after_is d (Sign (codes "=")) refl refl (then_is d semicolon refl refl (value_is d))))
 
 abbrev FitsChosen : Entry → Type 0
@@ -142,7 +143,7 @@ chosen_back e h =
 
 chosen_reader : (d : ℕ) → IsReader d d Any spell_value FitsChosen (chosen_at d)
 unfolding chosen_at
-chosen_reader d = mapped_is make_chosen spell_value FitsChosen (λ v h. refl) (λ v h. and_join true _ refl h) (λ e h. chosen_back e h) (value_is d)
+chosen_reader d = mapped_is make_chosen spell_value FitsChosen (λ v h. refl) (λ v h. and_from true _ refl h) (λ e h. chosen_back e h) (value_is d)
 
 chosen_not_close : Heads Any spell_value FitsChosen (begins close_paren) false
 chosen_not_close = record { next = λ e rest fits ends. value_not_by close_paren refl refl e.row e.cells (and_parts (length e.name.bytes == 0) _ fits).1 rest }

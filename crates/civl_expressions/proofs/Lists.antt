@@ -2,13 +2,14 @@
 use Rattle.std.proofs.Common.{Bool, List, [], ◌∷◌, map, refl}
 use Rattle.std.specs.Prelude.{IsTrue}
 use Rattle.std.specs.List.{AllByRecursion, list_all}
+use Rattle.std.proofs.lemmas.Bool.{and_from}
 use Rattle.civl_tree.specs.SpellingDomain.{all_hold}
-use Rattle.civl_phrases.proofs.Tables.{and_parts, and_join}
+use Rattle.civl_phrases.proofs.Tables.{and_parts}
 
 module _ {A : Type 0} (has : A → Bool) where
   pub all_from : (xs : List A) → AllByRecursion (λ x. IsTrue (has x)) xs → IsTrue (list_all has xs)
   all_from [] h = refl
-  all_from (x ∷ xs) h = and_join (has x) (list_all has xs) h.0 (all_from xs h.1)
+  all_from (x ∷ xs) h = and_from (has x) (list_all has xs) h.0 (all_from xs h.1)
 
   pub all_to : (xs : List A) → IsTrue (list_all has xs) → AllByRecursion (λ x. IsTrue (has x)) xs
   all_to [] h = tt
@@ -18,7 +19,7 @@ module _ {A : Type 0} (has : A → Bool) where
 module _ {A : Type 0} (has : A → Bool) where
   pub held_from : (xs : List A) → AllByRecursion (λ x. IsTrue (has x)) xs → IsTrue (all_hold (map has xs))
   held_from [] h = refl
-  held_from (x ∷ xs) h = and_join (has x) (all_hold (map has xs)) h.0 (held_from xs h.1)
+  held_from (x ∷ xs) h = and_from (has x) (all_hold (map has xs)) h.0 (held_from xs h.1)
 
   pub held_to : (xs : List A) → IsTrue (all_hold (map has xs)) → AllByRecursion (λ x. IsTrue (has x)) xs
   held_to [] h = tt

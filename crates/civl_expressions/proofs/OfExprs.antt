@@ -2,6 +2,7 @@
 use Rattle.std.proofs.Common.{◌≡◌, ℕ, zero, suc, ◌-◌, ◌<◌, Bool, true, false, List, [], ◌∷◌, ◌++◌, Option, None, Some, refl, sym, ap, subst, ◌∙◌, append_assoc, arith, inl, inr, ◌⊎◌}
 use Rattle.std.specs.Prelude.{codes, IsTrue, ◌&&◌}
 use Rattle.std.specs.List.{AllByRecursion}
+use Rattle.std.proofs.lemmas.Bool.{and_from}
 use Rattle.civl_tree.specs.Token.{Token, Named, Reserved, Sign, Number}
 use Rattle.civl_tree.specs.Spelling.{open_paren, close_paren, comma, colon, name_token, spell_sort, one_token, op_token, expr_step, spell_expr, enclosed}
 use Rattle.civl_tree.specs.SpellingDomain.{allows_name, allows_op, allows_expr_step, allows_expr}
@@ -25,7 +26,7 @@ use Rattle.civl_phrases.proofs.Joins.{both_is, image_is, refit_is, chosen_is, by
 use Rattle.civl_phrases.proofs.Tokens.{leaf_is, after_is, opened_is, then_is, done_is}
 use Rattle.civl_phrases.proofs.Lists.{bracketed_is}
 use Rattle.civl_phrases.proofs.Heads.{heads_after, heads_leaf, heads_both, heads_image, excludes}
-use Rattle.civl_phrases.proofs.Tables.{table_leaf, and_parts, and_join}
+use Rattle.civl_phrases.proofs.Tables.{table_leaf, and_parts}
 use Rattle.civl_phrases.proofs.Leaves.{number_is}
 use Rattle.civl_expressions.specs.declared.forms.SortForm.{SortForm}
 use Rattle.civl_expressions.specs.declared.forms.SortForm.TheVariants as sort_forms
@@ -289,8 +290,8 @@ spell_inside (TailInside a (PickTail b c)) = spell_pick a b c
 
 inside_to : (new : Bool) (i : Inside) → InsideFits new i → FitsExpr new (of_inside i)
 inside_to new (OneInside op a) h = allows_one new op a ∙ h.1
-inside_to new (TailInside a (TwoTail op b)) h = allows_two new op a b ∙ and_join (allows_expr new a) _ h.0 (and_join (allows_op new op) (allows_expr new b) h.1.0 h.1.1)
-inside_to new (TailInside a (PickTail b c)) h = allows_pick new a b c ∙ and_join (allows_expr new a) _ h.0 (and_join (allows_expr new b) (allows_expr new c) h.1.0 h.1.1)
+inside_to new (TailInside a (TwoTail op b)) h = allows_two new op a b ∙ and_from (allows_expr new a) _ h.0 (and_from (allows_op new op) (allows_expr new b) h.1.0 h.1.1)
+inside_to new (TailInside a (PickTail b c)) h = allows_pick new a b c ∙ and_from (allows_expr new a) _ h.0 (and_from (allows_expr new b) (allows_expr new c) h.1.0 h.1.1)
 
 spell_of_old : (o : Option Name) → spell_expr (of_old o) ≡ Reserved (codes "old") ∷ open_paren ∷ (olden_spell o ++ close_paren ∷ [])
 spell_of_old None = spell_olddone
@@ -325,12 +326,12 @@ expr_to new e (forms.False, h) = subst (FitsExpr new) h.1 (allows_false new)
 expr_to new e (forms.Done, h) = subst (FitsExpr new) h.1 (allows_done new)
 expr_to new e (forms.Old, h) = subst (FitsExpr new) h.1 (old_to new h.0 h.2)
 expr_to new e (forms.Paren, h) = subst (FitsExpr new) h.1 (inside_to new h.0 h.2)
-expr_to new e (forms.Get, h) = subst (FitsExpr new) h.1 (allows_get new h.0.0 h.0.1 ∙ and_join (allows_expr new h.0.0) (allows_expr new h.0.1) h.2.0 h.2.1)
-expr_to new e (forms.Set, h) = subst (FitsExpr new) h.1 (allows_set new h.0.0.0 h.0.0.1 h.0.1 ∙ and_join (allows_expr new h.0.0.0) _ h.2.0.0 (and_join (allows_expr new h.0.0.1) (allows_expr new h.0.1) h.2.0.1 h.2.1))
+expr_to new e (forms.Get, h) = subst (FitsExpr new) h.1 (allows_get new h.0.0 h.0.1 ∙ and_from (allows_expr new h.0.0) (allows_expr new h.0.1) h.2.0 h.2.1)
+expr_to new e (forms.Set, h) = subst (FitsExpr new) h.1 (allows_set new h.0.0.0 h.0.0.1 h.0.1 ∙ and_from (allows_expr new h.0.0.0) _ h.2.0.0 (and_from (allows_expr new h.0.0.1) (allows_expr new h.0.1) h.2.0.1 h.2.1))
 expr_to new e (forms.Fill, h) = subst (FitsExpr new) h.1 (allows_fill new h.0.0 h.0.1 ∙ h.2.1)
 expr_to new e (forms.Slice, h) = subst (FitsExpr new) h.1 (allows_slice new h.0.0 h.0.1.0 h.0.1.1 ∙ h.2.0)
 expr_to new e (forms.Widen, h) = subst (FitsExpr new) h.1 (allows_widen new h.0.0 h.0.1 ∙ h.2.0)
-expr_to new e (forms.Join, h) = subst (FitsExpr new) h.1 (allows_join new h.0.0 h.0.1 ∙ and_join (allows_expr new h.0.0) (allows_expr new h.0.1) h.2.0 h.2.1)
+expr_to new e (forms.Join, h) = subst (FitsExpr new) h.1 (allows_join new h.0.0 h.0.1 ∙ and_from (allows_expr new h.0.0) (allows_expr new h.0.1) h.2.0 h.2.1)
 
 abbrev of_layer : Bool → layer.Expr-F Expr → Bool
 of_layer new l = allows_expr new (roll-Expr l)

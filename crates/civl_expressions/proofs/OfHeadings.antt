@@ -2,6 +2,7 @@
 use Rattle.std.proofs.Common.{◌≡◌, ℕ, ◌-◌, Bool, true, false, List, [], ◌∷◌, ◌++◌, Some, refl, ap, subst, arith}
 use Rattle.std.specs.Prelude.{IsTrue}
 use Rattle.std.specs.List.{AllByRecursion}
+use Rattle.std.proofs.lemmas.Bool.{and_from}
 use Rattle.civl_tree.specs.Token.{Token}
 use Rattle.civl_tree.specs.Spelling.{open_paren, close_paren, colon, arrow, name_token, enclosed}
 use Rattle.civl_tree.specs.SpellingProgram.{mode_token, spell_param}
@@ -18,7 +19,7 @@ use Rattle.civl_phrases.specs.Phrase.{Any, IsReader}
 use Rattle.civl_phrases.proofs.Joins.{both_is, mapped_is}
 use Rattle.civl_phrases.proofs.Tokens.{leaf_is, after_is}
 use Rattle.civl_phrases.proofs.Lists.{bracketed_is}
-use Rattle.civl_phrases.proofs.Tables.{table_leaf, and_parts, and_join}
+use Rattle.civl_phrases.proofs.Tables.{table_leaf, and_parts}
 use Rattle.civl_expressions.specs.declared.params.Heading.{Heading}
 use Rattle.civl_expressions.specs.readers.Names.{FitsName}
 use Rattle.civl_expressions.specs.readers.Headings.{mode_table, has_mode, mode_of, mode_at, make_param, param_at, params_at, make_heading, heading_at}
@@ -56,8 +57,8 @@ abbrev pub FitsParam : Bool → Param → Type 0
 FitsParam out p = IsTrue (allows_in out p)
 
 param_to : (out : Bool) (m : Mode) (n : Name) (s : Sort) → IsTrue (has_mode out m) → FitsName n → FitsParam out (record { mode = m; name = n; sort = s })
-param_to true m n s h k = and_join (is_out_mode m) (allows_name n) h k
-param_to false m n s h k = and_join (is_param_mode m) (allows_name n) h k
+param_to true m n s h k = and_from (is_out_mode m) (allows_name n) h k
+param_to false m n s h k = and_from (is_param_mode m) (allows_name n) h k
 
 param_from : (out : Bool) (p : Param) → FitsParam out p → IsTrue (has_mode out p.mode) × FitsName p.name
 param_from true p h = and_parts (is_out_mode p.mode) (allows_name p.name) h

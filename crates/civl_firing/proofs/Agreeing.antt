@@ -1,7 +1,7 @@
 -- The truth of an expression of bools is its value.
 use Rattle.std.proofs.Common.{◌≡◌, ℕ, zero, suc, Bool, true, false, ◌&&◌, List, [], ◌∷◌, map, refl, sym, ap, ◌∙◌}
 use Rattle.std.specs.Prelude.{slice_index_or, IsTrue}
-use Rattle.std.proofs.lemmas.Bool.{false≢true}
+use Rattle.std.proofs.lemmas.Bool.{false≢true, and_parts}
 use Rattle.civl_bits.specs.declared.value.Value.{Value}
 use Rattle.civl_bits.specs.declared.value.Value.TheVariants as value
 use Rattle.civl_tree.specs.declared.name.Name.{Name}
@@ -25,11 +25,6 @@ look_same [] (suc i) = refl
 look_same (b ∷ bs) zero = refl
 look_same (b ∷ bs) (suc i) = look_same bs i
 
-both : (a b : Bool) → (a && b) ≡ true → (a ≡ true) × (b ≡ true)
-both true true e = (refl, refl)
-both true false e = absurd (false≢true e)
-both false b e = absurd (false≢true e)
-
 one_agrees : (op : One) (logical : Bool) (v : Value) (t : Bool) → (is_negation op && logical) ≡ true → (logical ≡ true → v ≡ value.Bool t) → one_value op v ≡ value.Bool (one_truth op t)
 one_agrees Not logical v t p h = ap (one_value Not) (h p)
 one_agrees Flip logical v t p h = absurd (false≢true p)
@@ -37,9 +32,9 @@ one_agrees Minus logical v t p h = absurd (false≢true p)
 
 two_agree : (op : Two) (la lb : Bool) (v w : Value) (t u : Bool) → (is_and_or op && (la && lb)) ≡ true → (la ≡ true → v ≡ value.Bool t) → (lb ≡ true → w ≡ value.Bool u) → two_value op v w ≡ value.Bool (two_truth op t u)
 two_agree And la lb v w t u p h k =
-    let q = both la lb p in ap (λ (x : Value). two_value And x w) (h q.0) ∙ ap (λ (x : Value). two_value And (value.Bool t) x) (k q.1)
+    let q = and_parts la lb p in ap (λ (x : Value). two_value And x w) (h q.0) ∙ ap (λ (x : Value). two_value And (value.Bool t) x) (k q.1)
 two_agree Or la lb v w t u p h k =
-    let q = both la lb p in ap (λ (x : Value). two_value Or x w) (h q.0) ∙ ap (λ (x : Value). two_value Or (value.Bool t) x) (k q.1)
+    let q = and_parts la lb p in ap (λ (x : Value). two_value Or x w) (h q.0) ∙ ap (λ (x : Value). two_value Or (value.Bool t) x) (k q.1)
 two_agree _ la lb v w t u p h k = absurd (false≢true p)
 
 layer_agrees : {S : Type 0} (names : List Name) (store : List Bool) (y : expr.Expr-F S) (v : S → Expr) → ((x : S) → Agrees names store (v x)) →

@@ -1,24 +1,10 @@
 -- What stands at the place of a name is what is found by it.
-use Rattle.std.proofs.Common.{◌≡◌, ℕ, ◌+◌, Bool, true, false, cond, List, [], ◌∷◌, map, find, refl, sym, ap, ◌∙◌, Some, slice_get, add-one}
+use Rattle.std.proofs.Common.{◌≡◌, ◌+◌, Bool, true, false, cond, List, [], ◌∷◌, map, find, refl, ap, ◌∙◌, Some, slice_get, add-one}
 use Rattle.std.specs.Str.{bytes_eq}
-use Rattle.std.proofs.lemmas.Slice.Eq.{bytes_eq-Decides}
 use Rattle.civl_tree.specs.declared.name.Name.{Name}
 use Rattle.civl_tree.specs.rules.Names.{same_name}
+use Rattle.civl_tree.proofs.Naming.{swapped}
 use Rattle.civl_firing.specs.Truth.{place_of}
-
--- two tests that are true together are one
-same_truth : (a b : Bool) → (a ≡ true → b ≡ true) → (b ≡ true → a ≡ true) → a ≡ b
-same_truth true true f g = refl
-same_truth true false f g = sym (f refl)
-same_truth false true f g = g refl
-same_truth false false f g = refl
-
--- equality of bytes, the other way round
-pub swapped : (a b : List ℕ) → bytes_eq a b ≡ bytes_eq b a
-swapped a b =
-    let there = bytes_eq-Decides a b in
-    let back = bytes_eq-Decides b a in
-    same_truth (bytes_eq a b) (bytes_eq b a) (λ e. back.1 (sym (there.0 e))) (λ e. there.1 (sym (back.0 e)))
 
 module _ {A : Type 0} (name_of : A → Name) where
   pub found_at : (items : List A) (name : Name) → slice_get items (place_of (map name_of items) name) ≡ find (λ item. same_name name (name_of item)) items

@@ -1,8 +1,8 @@
 -- Values that have their sorts, and scopes of them.
-use Rattle.std.proofs.Common.{◌≡◌, Bool, true, false, not, List, [], ◌∷◌, ◌++◌, map, length, refl, sym, ap, subst, Option, Some, None, add-one, arith}
+use Rattle.std.proofs.Common.{◌≡◌, Bool, true, false, not, List, [], ◌∷◌, ◌++◌, map, length, refl, sym, subst, Some, add-one, arith}
 use Rattle.std.specs.Prelude.{if◌then◌else◌}
 use Rattle.std.specs.Str.{bytes_eq}
-use Rattle.std.proofs.lemmas.Bool.{false≢true, not-false, or_parts}
+use Rattle.std.proofs.lemmas.Bool.{false≢true, not-false, or_parts, and_parts}
 use Rattle.std.proofs.lemmas.List.{append-nil}
 use Rattle.std.proofs.lemmas.List.Elements.{All-nil, All-cons, All-head, All-tail}
 use Rattle.civl_bits.specs.Value.{IsValue}
@@ -22,8 +22,8 @@ use Rattle.civl_firing.specs.Truth.{place_of}
 use Rattle.civl_firing.specs.values.Values.{is_of, are_of, HasSort, HaveSorts}
 use Rattle.civl_firing.specs.Eval.{look, value_of, values_of}
 use Rattle.civl_firing.specs.Sorts.{IsSorted}
-use Rattle.civl_firing.proofs.values.Sorting.{both, same_sort-true}
 use Rattle.civl_firing.proofs.Soundness.{values_have_their_sorts}
+use Rattle.civl_firing.proofs.Serving.{served_only}
 
 pub no_sorts : HaveSorts [] []
 no_sorts = record { fit = All-nil IsValue; are = refl }
@@ -32,10 +32,23 @@ pub more_sorts : (v : Value) (s : Sort) (vs : List Value) (ss : List Sort) → H
 more_sorts v s vs ss h k = record { fit = All-cons IsValue v vs h.0 k.fit; are = rw (h.1) k.are }
 
 pub first_sort : (v : Value) (s : Sort) (vs : List Value) (ss : List Sort) → HaveSorts (v ∷ vs) (s ∷ ss) → HasSort v s
-first_sort v s vs ss h = (All-head IsValue v vs h.fit, (both (is_of v s) (are_of vs ss) h.are).0)
+first_sort v s vs ss h = (All-head IsValue v vs h.fit, (and_parts (is_of v s) (are_of vs ss) h.are).0)
 
 pub rest_sorts : (v : Value) (s : Sort) (vs : List Value) (ss : List Sort) → HaveSorts (v ∷ vs) (s ∷ ss) → HaveSorts vs ss
-rest_sorts v s vs ss h = record { fit = All-tail IsValue v vs h.fit; are = (both (is_of v s) (are_of vs ss) h.are).1 }
+rest_sorts v s vs ss h = record { fit = All-tail IsValue v vs h.fit; are = (and_parts (is_of v s) (are_of vs ss) h.are).1 }
+
+pub have_length : (vs : List Value) (ss : List Sort) → HaveSorts vs ss → length vs ≡ length ss
+have_length [] [] h = refl
+have_length [] (s ∷ ss) h = absurd (false≢true h.are)
+have_length (v ∷ vs) [] h = absurd (false≢true h.are)
+have_length (v ∷ vs) (s ∷ ss) h = let e : length vs ≡ length ss = have_length vs ss (rest_sorts v s vs ss h) in omega (arith, e)
+
+-- those of two lists
+pub have_more : (vs ws : List Value) (ss ts : List Sort) → HaveSorts vs ss → HaveSorts ws ts → HaveSorts (vs ++ ws) (ss ++ ts)
+have_more [] ws [] ts h k = k
+have_more [] ws (s ∷ ss) ts h k = absurd (false≢true h.are)
+have_more (v ∷ vs) ws [] ts h k = absurd (false≢true h.are)
+have_more (v ∷ vs) ws (s ∷ ss) ts h k = more_sorts v s (vs ++ ws) (ss ++ ts) (first_sort v s vs ss h) (have_more vs ws ss ts (rest_sorts v s vs ss h) k)
 
 -- ---- scopes
 
@@ -81,10 +94,6 @@ found_alone name_of sort_at xs values h =
 
 -- ---- arguments
 
-served : (o : Option Sort) (s : Sort) → serves o (Only s) ≡ true → o ≡ Some s
-served None s e = absurd (false≢true e)
-served (Some t) s e = ap (λ (r : Sort). Some r) (same_sort-true t s e)
-
 -- arguments for places of these sorts, as many as there are, have values of these sorts
 pub args_have_sorts : (scope : Scope) (sorts : Sorts) → IsSorted scope sorts → (args : List Expr) (wanted : List Sort) →
     any_missorted (argument_uses sorts args wanted) ≡ false → any_width (argument_uses sorts args wanted) ≡ false → any_index (argument_uses sorts args wanted) ≡ false →
@@ -96,6 +105,6 @@ args_have_sorts scope sorts fit (a ∷ args) (s ∷ ss) m w i n =
     let p = or_parts (not (serves (sort_of sorts a) (Only s))) (any_missorted (argument_uses sorts args ss)) m in
     let q = or_parts (not (widths_fit sorts a)) (any_width (argument_uses sorts args ss)) w in
     let r = or_parts (not (indices_fit a)) (any_index (argument_uses sorts args ss)) i in
-    let e = served (sort_of sorts a) s (not-false _ p.0) in
+    let e = served_only (sort_of sorts a) s (not-false _ p.0) in
     let h = values_have_their_sorts scope sorts fit a s (e, not-false _ q.0, not-false _ r.0) in
     more_sorts (value_of scope a) s (values_of scope args) ss h (args_have_sorts scope sorts fit args ss p.1 q.1 r.1 (omega arith))

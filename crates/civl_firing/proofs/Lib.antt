@@ -6,3 +6,6 @@ pub mod Joining
 pub mod Soundness
 pub mod Having
 pub mod Finding
+pub mod Serving
+pub mod SortLimits
+pub mod Weighing

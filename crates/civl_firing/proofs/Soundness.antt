@@ -1,5 +1,6 @@
 -- The value of an expression has the expression's sort.
 use Rattle.std.proofs.Common.{◌≡◌, Bool, true, false, ◌&&◌, sym, ap, ◌∙◌, subst, Option, Some}
+use Rattle.std.proofs.lemmas.Bool.{and_parts}
 use Rattle.civl_bits.specs.declared.value.Value.{Value}
 use Rattle.civl_bits.specs.declared.value.Value.TheVariants as value
 use Rattle.civl_tree.specs.declared.expr.Expr.{Expr, roll-Expr, out-roll-Expr, map-Expr}
@@ -16,7 +17,7 @@ use Rattle.civl_firing.specs.values.Operators.{literal_value}
 use Rattle.civl_firing.specs.Eval.{value_of, value_step}
 use Rattle.civl_firing.specs.values.Values.{HasSort}
 use Rattle.civl_firing.specs.Sorts.{IsSorted, ValuesHaveTheirSorts}
-use Rattle.civl_firing.proofs.values.Sorting.{both, is_bool, Given, one_fits, two_fits, pick_fits, literal_has_sort, get_fits, set_fits, fill_fits, slice_has_sort, widen_has_sort, join_has_sort}
+use Rattle.civl_firing.proofs.values.Sorting.{is_bool, Given, one_fits, two_fits, pick_fits, literal_has_sort, get_fits, set_fits, fill_fits, slice_has_sort, widen_has_sort, join_has_sort}
 
 -- what is to be shown of an expression
 abbrev Sound : Scope → Sorts → Expr → Type 0
@@ -44,38 +45,38 @@ layer_sound scope sorts fit (expr.Old n) v h s p q r = fit.olds n s p
 layer_sound scope sorts fit expr.OldDone v h s p q r = truth scope.old_done s p
 layer_sound scope sorts fit (expr.One op a) v h s p q r = one_fits op _ _ (part scope sorts (v a) (h a) q r) s p
 layer_sound scope sorts fit (expr.Two op a b) v h s p q r =
-    let w = both (widths_fit sorts (v a)) (widths_fit sorts (v b)) q in
-    let i = both (indices_fit (v a)) (indices_fit (v b)) r in
+    let w = and_parts (widths_fit sorts (v a)) (widths_fit sorts (v b)) q in
+    let i = and_parts (indices_fit (v a)) (indices_fit (v b)) r in
     two_fits op _ _ _ _ (part scope sorts (v a) (h a) w.0 i.0) (part scope sorts (v b) (h b) w.1 i.1) s p
 layer_sound scope sorts fit (expr.Pick c a b) v h s p q r =
-    let w = both (widths_fit sorts (v c)) (widths_fit sorts (v a) && widths_fit sorts (v b)) q in
-    let x = both (widths_fit sorts (v a)) (widths_fit sorts (v b)) w.1 in
-    let i = both (indices_fit (v c)) (indices_fit (v a) && indices_fit (v b)) r in
-    let j = both (indices_fit (v a)) (indices_fit (v b)) i.1 in
+    let w = and_parts (widths_fit sorts (v c)) (widths_fit sorts (v a) && widths_fit sorts (v b)) q in
+    let x = and_parts (widths_fit sorts (v a)) (widths_fit sorts (v b)) w.1 in
+    let i = and_parts (indices_fit (v c)) (indices_fit (v a) && indices_fit (v b)) r in
+    let j = and_parts (indices_fit (v a)) (indices_fit (v b)) i.1 in
     pick_fits _ _ _ _ _ _ (part scope sorts (v c) (h c) w.0 i.0) (part scope sorts (v a) (h a) x.0 j.0) (part scope sorts (v b) (h b) x.1 j.1) s p
 layer_sound scope sorts fit (expr.Get a b) v h s p q r =
-    let w = both (widths_fit sorts (v a)) (widths_fit sorts (v b)) q in
-    let i = both (indices_fit (v a)) (indices_fit (v b)) r in
+    let w = and_parts (widths_fit sorts (v a)) (widths_fit sorts (v b)) q in
+    let i = and_parts (indices_fit (v a)) (indices_fit (v b)) r in
     get_fits _ _ _ _ (part scope sorts (v a) (h a) w.0 i.0) (part scope sorts (v b) (h b) w.1 i.1) s p
 layer_sound scope sorts fit (expr.Set c a b) v h s p q r =
-    let w = both (widths_fit sorts (v c)) (widths_fit sorts (v a) && widths_fit sorts (v b)) q in
-    let x = both (widths_fit sorts (v a)) (widths_fit sorts (v b)) w.1 in
-    let i = both (indices_fit (v c)) (indices_fit (v a) && indices_fit (v b)) r in
-    let j = both (indices_fit (v a)) (indices_fit (v b)) i.1 in
+    let w = and_parts (widths_fit sorts (v c)) (widths_fit sorts (v a) && widths_fit sorts (v b)) q in
+    let x = and_parts (widths_fit sorts (v a)) (widths_fit sorts (v b)) w.1 in
+    let i = and_parts (indices_fit (v c)) (indices_fit (v a) && indices_fit (v b)) r in
+    let j = and_parts (indices_fit (v a)) (indices_fit (v b)) i.1 in
     set_fits _ _ _ _ _ _ (part scope sorts (v c) (h c) w.0 i.0) (part scope sorts (v a) (h a) x.0 j.0) (part scope sorts (v b) (h b) x.1 j.1) s p
 layer_sound scope sorts fit (expr.Fill n a) v h s p q r =
-    let i = both (is_index n) (indices_fit (v a)) r in
+    let i = and_parts (is_index n) (indices_fit (v a)) r in
     fill_fits n _ _ (part scope sorts (v a) (h a) q i.1) i.0 s p
 layer_sound scope sorts fit (expr.Slice a high low) v h s p q r =
-    let w = both (widths_fit sorts (v a)) _ q in
+    let w = and_parts (widths_fit sorts (v a)) _ q in
     slice_has_sort _ _ high low (part scope sorts (v a) (h a) w.0 r) s p
 layer_sound scope sorts fit (expr.Widen a wider) v h s p q r =
-    let w = both (widths_fit sorts (v a)) _ q in
+    let w = and_parts (widths_fit sorts (v a)) _ q in
     widen_has_sort _ _ wider (part scope sorts (v a) (h a) w.0 r) s p
 layer_sound scope sorts fit (expr.Join a b) v h s p q r =
-    let w = both (widths_fit sorts (v a)) _ q in
-    let x = both (widths_fit sorts (v b)) _ w.1 in
-    let i = both (indices_fit (v a)) (indices_fit (v b)) r in
+    let w = and_parts (widths_fit sorts (v a)) _ q in
+    let x = and_parts (widths_fit sorts (v b)) _ w.1 in
+    let i = and_parts (indices_fit (v a)) (indices_fit (v b)) r in
     join_has_sort _ _ _ _ (part scope sorts (v a) (h a) w.0 i.0) (part scope sorts (v b) (h b) x.0 i.1) s p
 
 pub values_have_their_sorts : ValuesHaveTheirSorts

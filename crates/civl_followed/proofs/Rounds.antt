@@ -2,6 +2,7 @@
 use Rattle.std.proofs.Common.{◌≡◌, ℕ, ◌+◌, ◌<◌, ◌≤◌, false, List, ◌∷◌, drop, length, get_or, sym, ap, ◌∙◌, subst, arith, inl, inr, ◌⊎◌}
 use Rattle.std.proofs.lemmas.List.{drop_all, get_or_default}
 use Rattle.civl_tree.specs.declared.program.Program.{Program}
+use Rattle.civl_tree.proofs.Lists.{drop_is}
 use Rattle.civl_firing.specs.declared.store.Store.{Store}
 use Rattle.civl_meaning.specs.declared.config.Move.{Move}
 use Rattle.civl_meaning.specs.declared.config.Plain.{Plain}
@@ -12,7 +13,6 @@ use Rattle.civl_reduction.specs.blocks.Challenged.{is_challenged}
 use Rattle.civl_reduction.specs.blocks.Shadow.{Shadowed, shadowed_step}
 use Rattle.civl_shadows.specs.declared.shadow.Shadowed as given
 use Rattle.civl_shadows.specs.Shadows.{IsLayerOf, Shows}
-use Rattle.civl_shadows.proofs.Dropping.{drop_more}
 use Rattle.civl_followed.specs.declared.walk.Opening.{Opening}
 use Rattle.civl_followed.specs.declared.walk.Walk.{Walk}
 use Rattle.civl_followed.specs.Along.{Grounds, BeginsAs, AlongAt, AlongIn, IsReady}
@@ -28,14 +28,14 @@ module _ (program : Program) (layer : ℕ) (store : Store) (moves : List Move) (
       → ((s : Shadowed) → Shows old.lower s → BeginsAs program layer s b) → AlongAt program layer store moves old.lower old.upper old.followed.items (drop from moves) → ((s : Shadowed) → Shows old.lower s → is_challenged program layer s ≡ false)
       → Waiting old walk from at → IsReady program layer store moves b one walk.lower walk.upper walk.followed.items (drop (at + 1) moves)
   ready_so old walk from at first one h is low first_is thread begins along not_so (inl w) =
-      let here : drop from moves ≡ one ∷ drop (at + 1) moves = ap (λ (i : ℕ). drop i moves) (sym w.0) ∙ drop_more moves at one h is in
+      let here : drop from moves ≡ one ∷ drop (at + 1) moves = ap (λ (i : ℕ). drop i moves) (sym w.0) ∙ drop_is moves at one h is in
       let same : first ≡ one = first_is ∙ (get_or_default moves from first one low ∙ (ap (λ (i : ℕ). get_or moves i one) (sym w.0) ∙ sym is)) in
       subst (λ (z : Walk). IsReady program layer store moves b one z.lower z.upper z.followed.items (drop (at + 1) moves)) (sym w.1)
       (ready_at program layer store moves g b one old.lower old.upper old.followed.items (drop (at + 1) moves)
       (subst (AlongAt program layer store moves old.lower old.upper old.followed.items) here along) not_so (thread ∙ ap (λ (m : Move). m.thread) same) begins)
   ready_so old walk from at first one h is low first_is thread begins along not_so (inr a) =
       ready_in program layer store moves g b one walk.lower walk.upper walk.followed.items (drop (at + 1) moves)
-      (subst (AlongIn program layer store moves b walk.lower walk.upper walk.followed.items) (drop_more moves at one h is) a)
+      (subst (AlongIn program layer store moves b walk.lower walk.upper walk.followed.items) (drop_is moves at one h is) a)
 
   -- no block is open at the end
   pub none_waits : (old walk : Walk) (from at : ℕ) → from < length moves → length moves ≤ at → Waiting old walk from at → ⊥

@@ -4,15 +4,15 @@ use Rattle.std.specs.Prelude.{IsTrue, Bool}
 use Rattle.std.proofs.lemmas.List.{drop_all}
 use Rattle.civl_bits.specs.declared.value.Value.{Value}
 use Rattle.civl_tree.specs.declared.program.Global.{Global}
+use Rattle.civl_tree.proofs.Lists.{drop_is}
 use Rattle.civl_conditions.specs.footprints.Agreement.{AgreeOn}
-use Rattle.civl_shadows.proofs.Dropping.{drop_more}
 
 module _ (test : Global → Bool) (gs : List Global) (vs ws : List Value) (at : ℕ) (g : Global) (v w : Value) (hg : at < length gs) (eg : g ≡ get_or gs at g) (hv : at < length vs) (ev : v ≡ get_or vs at v) (hw : at < length ws) (ew : w ≡ get_or ws at w) where
   here : AgreeOn test (drop at gs) (drop at vs) (drop at ws) ≡ AgreeOn test (g ∷ drop (at + 1) gs) (v ∷ drop (at + 1) vs) (w ∷ drop (at + 1) ws)
   here =
-      ap (λ (l : List Global). AgreeOn test l (drop at vs) (drop at ws)) (drop_more gs at g hg eg)
-      ∙ (ap (λ (l : List Value). AgreeOn test (g ∷ drop (at + 1) gs) l (drop at ws)) (drop_more vs at v hv ev)
-      ∙ ap (λ (l : List Value). AgreeOn test (g ∷ drop (at + 1) gs) (v ∷ drop (at + 1) vs) l) (drop_more ws at w hw ew))
+      ap (λ (l : List Global). AgreeOn test l (drop at vs) (drop at ws)) (drop_is gs at g hg eg)
+      ∙ (ap (λ (l : List Value). AgreeOn test (g ∷ drop (at + 1) gs) l (drop at ws)) (drop_is vs at v hv ev)
+      ∙ ap (λ (l : List Value). AgreeOn test (g ∷ drop (at + 1) gs) (v ∷ drop (at + 1) vs) l) (drop_is ws at w hw ew))
 
   pub agree_from : (IsTrue (test g) → v ≡ w) → AgreeOn test (drop (at + 1) gs) (drop (at + 1) vs) (drop (at + 1) ws) → AgreeOn test (drop at gs) (drop at vs) (drop at ws)
   agree_from h a = subst (λ (t : Type 0). t) (sym here) (h, a)

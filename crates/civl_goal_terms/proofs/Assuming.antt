@@ -1,6 +1,7 @@
 -- What is assumed where a statement stands: of its notes, and of the permissions of its locals.
 use Rattle.std.specs.Prelude.{All, map, slice_get, get_or, ◌&&◌}
-use Rattle.std.proofs.Common.{◌≡◌, ◌∙◌, ℕ, ◌<◌, Bool, true, false, List, [], ◌++◌, length, refl, sym, ap, subst, Some}
+use Rattle.std.proofs.Common.{◌≡◌, ◌∙◌, ℕ, ◌<◌, List, [], ◌++◌, length, sym, ap, subst, Some}
+use Rattle.std.proofs.Math.Bool.{and_assoc}
 use Rattle.civl_bits.specs.declared.value.Value.{Value}
 use Rattle.civl_tree.specs.declared.expr.Sort.TheVariants.{Word}
 use Rattle.civl_tree.specs.declared.program.Proc.{Proc}
@@ -75,10 +76,6 @@ module _ (program : Program) (keeps : Keeps typing_rules program) (r : ℕ) (pro
       ∙ sym (there_is (slice_get program.procs r) proc [] (λ (q : Proc). of_held (held_before program q s) locals) there)
 
 -- ---- put together
-
-and_assoc : (a b c : Bool) → ((a && b) && c) ≡ (a && (b && c))
-and_assoc true b c = refl
-and_assoc false b c = refl
 
 pub assumed_is : (program : Program) (outline : Outline) (g : Store) (r s : ℕ) (locals : List Value) (owned : List (List ℕ)) → owned ≡ owned_in program (frame r s locals)
     → ((invariant_holds program outline g && note_holds program outline g (frame r s locals)) && pairwise_disjoint (in_store program g ++ owned)) ≡ assumed program outline g (frame r s locals)

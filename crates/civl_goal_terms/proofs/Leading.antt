@@ -12,11 +12,10 @@ use Rattle.civl_tree.specs.declared.program.Program.{Program}
 use Rattle.civl_tree.specs.rules.Names.{names_in_proc}
 use Rattle.civl_outlines.specs.declared.outline.Outline.{Outline}
 use Rattle.civl_firing.specs.declared.store.Store.{Store}
-use Rattle.civl_firing.specs.declared.firing.Fired.{Fired}
 use Rattle.civl_firing.specs.declared.firing.Fired.TheVariants as fire
 use Rattle.civl_firing.specs.Eval.{value_of, values_of}
 use Rattle.civl_firing.specs.Scope.{frame_values}
-use Rattle.civl_firing.specs.Fired.{gate_holds, choices_fit, guard_holds, store_after, outs_after, fires, fired, fired_by}
+use Rattle.civl_firing.specs.Fired.{gate_holds, choices_fit, guard_holds, store_after, outs_after, fires, fired}
 use Rattle.civl_meaning.specs.declared.config.Plain.{Plain}
 use Rattle.civl_meaning.specs.declared.config.Activation.{Activation}
 use Rattle.civl_meaning.specs.declared.config.Change.{Change}
@@ -30,6 +29,7 @@ use Rattle.civl_meaning.specs.Failing.{call_fails, layer_fails, spot_fails, proc
 use Rattle.civl_conditions.specs.paths.Paths.{Course}
 use Rattle.civl_conditions.specs.Movers.{on_some}
 use Rattle.civl_moves.specs.sweeps.Sweeps.{Swept, with_meaning}
+use Rattle.civl_moves.proofs.sweeps.Calling.{fired_where}
 use Rattle.civl_body.specs.Passing.{course_in}
 use Rattle.civl_goals.specs.Outlines.{invariant_holds, note_holds}
 use Rattle.civl_goals.specs.Failed.{does, fired_store, led_to, loses_invariant, begins_badly, leads_astray}
@@ -86,9 +86,6 @@ module _ (program : Program) (at : At) (is : IsAt program at) (here : Here) wher
 
   abbrev fired_when : Swept → Option Store
   fired_when s = if s.live then Some s.store else None
-
-  abbrev fired_where : Bool → Bool → Store → List Value → Fired
-  fired_where gate guard store outs = if gate then fired_by (if guard then Some (store, outs) else None) else fire.GateFalse
 
   abbrev change_where : Bool → Bool → Bool → Store → List Value → List Name → Change
   change_where gate fit guard store outs rs =

@@ -1,8 +1,8 @@
 -- What the goals of an outline's list speak of is there.
-use Rattle.std.proofs.Common.{◌≡◌, ℕ, suc, ◌+◌, Bool, true, false, List, [], ◌∷◌, ◌++◌, map, refl, sym, subst, arith, Some}
+use Rattle.std.proofs.Common.{◌≡◌, ℕ, Bool, true, false, List, [], ◌∷◌, ◌++◌, map, refl, sym, subst, Some}
 use Rattle.std.specs.Prelude.{slice_get, is_some, nat_eq, ◌&&◌, if◌then◌else◌, All}
 use Rattle.std.specs.List.{Contains}
-use Rattle.std.proofs.lemmas.List.Elements.{All-nil, All-cons, All-append, All-head, All-tail, All-contains}
+use Rattle.std.proofs.lemmas.List.Elements.{All-nil, All-cons, All-append, All-head, All-tail, All-contains, All-map}
 use Rattle.std.proofs.lemmas.Option.{slice_get_within}
 use Rattle.civl_tree.specs.declared.stmt.Stmt.{Stmt, out-Stmt}
 use Rattle.civl_tree.specs.declared.stmt.Stmt.TheOpen.{Stmt-F, Assert, Call, Spawn}
@@ -10,38 +10,12 @@ use Rattle.civl_tree.specs.declared.program.Proc.{Proc}
 use Rattle.civl_tree.specs.declared.program.Program.{Program}
 use Rattle.civl_tree.specs.Numbering.{statements_of}
 use Rattle.civl_outlines.specs.declared.outline.Outline.{Outline}
-use Rattle.civl_conditions.specs.Steps.{each_at}
+use Rattle.civl_conditions.proofs.Everywhere.{all_each, one_or_none}
 use Rattle.civl_goals.specs.declared.goal.Goal.{Goal}
 use Rattle.civl_goals.specs.declared.goal.Goal.TheVariants as goal
 use Rattle.civl_goals.specs.Outlines.{written_before}
 use Rattle.civl_goals.specs.Listed.{begins, moves_permissions, thread_goal, thread_goals, linear_goal, linear_goals, is_root, noted_at, noted_in, noted_of, noted, form_goals, stmt_goals, root_goals, proc_goals, statement_goals, goals}
 use Rattle.civl_goal_terms.specs.There.{HasStatement, IsCall, IsSpawn, IsThere}
-
--- ---- lists
-
-module _ {A B : Type 0} (P : B → Type 0) (f : ℕ → A → List B) where
-  each_from : (at : ℕ) (xs : List A) → ((i : ℕ) (x : A) → slice_get xs i ≡ Some x → All P (f (at + i) x)) → All P (each_at f at xs)
-  each_from at [] h = All-nil P
-  each_from at (x ∷ xs) h =
-      let here : at + 0 ≡ at = omega arith in
-      All-append P (f at x) (each_at f (at + 1) xs) (subst (λ (n : ℕ). All P (f n x)) here (h 0 x refl)) (each_from (at + 1) xs (λ i y e. subst (λ (n : ℕ). All P (f n y)) (later i) (h (suc i) y e)))
-    where
-      later : (i : ℕ) → at + suc i ≡ at + 1 + i
-      later i = omega arith
-
-  all_each : (xs : List A) → ((i : ℕ) (x : A) → slice_get xs i ≡ Some x → All P (f i x)) → All P (each_at f 0 xs)
-  all_each xs h = each_from 0 xs (λ i x e. subst (λ (n : ℕ). All P (f n x)) (same i) (h i x e))
-    where
-      same : (i : ℕ) → i ≡ 0 + i
-      same i = omega arith
-
-one_or_none : {B : Type 0} (P : B → Type 0) (b : Bool) (x : B) → P x → All P (if b then x ∷ [] else [])
-one_or_none P true x h = All-cons P x [] h (All-nil P)
-one_or_none P false x h = All-nil P
-
-all_mapped : {A B : Type 0} (P : B → Type 0) (g : A → B) (xs : List A) → All (λ x. P (g x)) xs → All P (map g xs)
-all_mapped P g [] h = All-nil P
-all_mapped P g (x ∷ xs) h = All-cons P (g x) (map g xs) (All-head (λ y. P (g y)) x xs h) (all_mapped P g xs (All-tail (λ y. P (g y)) x xs h))
 
 -- ---- goals
 
@@ -71,7 +45,7 @@ module _ (program : Program) (outline : Outline) where
         let call : IsCall (out-Stmt stmt) = subst IsCall (sym e) tt in
         All-cons There (goal.Safe r s) (goal.Keep r s ∷ goal.Next r s ∷ map (λ q. goal.Other r s q.0 q.1) others) own
         (All-cons There (goal.Keep r s) (goal.Next r s ∷ map (λ q. goal.Other r s q.0 q.1) others) (own, call) (All-cons There (goal.Next r s) (map (λ q. goal.Other r s q.0 q.1) others) own
-        (all_mapped There (λ q. goal.Other r s q.0 q.1) others (beside call others all))))
+        (All-map There (λ q. goal.Other r s q.0 q.1) others (beside call others all))))
       where
         beside : IsCall (out-Stmt stmt) → (qs : List (ℕ × ℕ)) → All Placed qs → All (λ q. There (goal.Other r s q.0 q.1)) qs
         beside call [] h = All-nil (λ q. There (goal.Other r s q.0 q.1))

@@ -1,37 +1,29 @@
 -- The variables of the goals that calls keep the notes of other threads: their sorts, what their values give, and what the goals weigh.
-use Rattle.std.specs.Prelude.{◌&&◌, map, slice_get, codes, IsTrue}
+use Rattle.std.specs.Prelude.{◌&&◌, map, slice_get, codes}
 use Rattle.std.specs.Option.{option_map_or}
-use Rattle.std.proofs.Common.{◌≡◌, ◌∙◌, ℕ, ◌+◌, ◌*◌, ◌≤◌, ◌<◌, ◌^◌, Bool, true, false, List, [], ◌∷◌, ◌++◌, length, append_assoc, refl, sym, ap, ap₂, subst, arith, Option, Some, None}
+use Rattle.std.proofs.Common.{◌≡◌, ◌∙◌, ℕ, ◌+◌, ◌*◌, ◌≤◌, ◌<◌, ◌^◌, Bool, List, [], ◌++◌, length, append_assoc, sym, ap, ap₂, subst, arith, Some}
 use Rattle.std.proofs.lemmas.List.{map-append, length-append, length-map, append-nil}
-use Rattle.std.proofs.lemmas.List.Elements.{All-nil}
-use Rattle.std.proofs.lemmas.List.Folds.{find_at}
+use mathlib.Core.List.{map-map}
 use Rattle.civl_bits.specs.declared.value.Value.{Value}
-use Rattle.civl_tree.specs.declared.name.Name.{Name}
 use Rattle.civl_tree.specs.declared.expr.Sort.{Sort}
 use Rattle.civl_tree.specs.declared.stmt.Stmt.{Stmt, out-Stmt}
-use Rattle.civl_tree.specs.declared.stmt.Stmt.TheOpen.{Stmt-F, Assign, Assert, If, While, YieldLoop, RankLoop, Call, Yield, Commit, Intro, Spawn}
-use Rattle.civl_tree.specs.declared.action.Action.{Action}
 use Rattle.civl_tree.specs.declared.action.Choice.{Choice}
-use Rattle.civl_tree.specs.declared.program.Refines.{Refines}
 use Rattle.civl_tree.specs.declared.program.Proc.{Proc}
 use Rattle.civl_tree.specs.declared.program.Program.{Program}
-use Rattle.civl_tree.specs.Numbering.{statement_at}
-use Rattle.civl_tree.specs.rules.Names.{action_named}
 use Rattle.civl_tree.specs.rules.Rules.{Keeps}
 use Rattle.civl_tree.specs.rules.Typing.{typing_rules}
 use Rattle.civl_tree.specs.rules.Uses.{param_sorts}
-use Rattle.civl_firing.specs.values.Values.{is_sort}
 use Rattle.civl_firing.specs.declared.store.Store.{Store}
 use Rattle.civl_terms.specs.declared.node.Node.{Node}
 use Rattle.civl_meaning.specs.Config.{frame_sorts}
 use Rattle.civl_meaning.specs.Layers.{topmost}
-use Rattle.civl_meaning.specs.Meaning.{meaning_of_action, meaning_by, meaning_else, refined, proc_number}
 use Rattle.civl_meaning.specs.Places.{Spot, spot_at}
+use Rattle.civl_meaning.proofs.Bindings.{frame_length}
 use Rattle.civl_conditions.specs.declared.condition.Variable.{Variable}
 use Rattle.civl_conditions.specs.Steps.{of_proc}
 use Rattle.civl_conditions.specs.Values.{part}
-use Rattle.civl_conditions.specs.Variables.{of_globals, of_params, of_choices, of_locals, choices_of, layer_choices, call_front}
-use Rattle.civl_conditions.specs.Weights.{lin, linear_globals, note_weight}
+use Rattle.civl_conditions.specs.Variables.{of_globals, of_choices, layer_choices, call_front}
+use Rattle.civl_conditions.specs.Weights.{lin, linear_globals}
 use Rattle.civl_states.specs.formula_parts.Said.{Env}
 use Rattle.civl_states.specs.formula_parts.Given.{given, sorts_from, bits_of_sorts}
 use Rattle.civl_states.specs.formula_parts.Lists.{AreSaid}
@@ -39,14 +31,12 @@ use Rattle.civl_states.proofs.formula_parts.Giving.{bits-append}
 use Rattle.civl_states.specs.declared.stores.Existing.TheVariants.{Layer}
 use Rattle.civl_states.specs.Groups.{StandFrom}
 use Rattle.civl_states.proofs.Given.{part_given, stand_past, stand_sorts}
-use Rattle.civl_states.proofs.Limits.{AreSorts, sorts_append, action_few, choice_sorts_are, proc_few, proc_param_sorts_are, proc_out_sorts_are, local_sorts_are}
+use Rattle.civl_states.proofs.Limits.{AreSorts, sorts_append, proc_few, proc_param_sorts_are, proc_out_sorts_are, local_sorts_are}
 use Rattle.civl_states.proofs.Taking.{store_given}
 use Rattle.civl_states.proofs.Variables.{globals_named, there_is, bits_same, existing_long, existing_are}
-use Rattle.civl_states.proofs.Weighing.{weighs_some}
-use Rattle.civl_outlines.specs.declared.outline.Note.{Note}
 use Rattle.civl_outlines.specs.declared.outline.Outline.{Outline}
 use Rattle.civl_goals.specs.declared.goal.Goal.TheVariants as goal
-use Rattle.civl_goals.specs.Outlines.{exists_on_top, top_globals, written_before}
+use Rattle.civl_goals.specs.Outlines.{exists_on_top, top_globals}
 use Rattle.civl_goals.specs.Failed.{held_before, assumed, does, interferes, store_in, chosen_of, behind_frame, failed}
 use Rattle.civl_goals.specs.Variables.{of_names, of_frame, frame_count, choices_at, of_statement, variables}
 use Rattle.civl_goals.specs.Weights.{invariant_weight, note_before_weight, form_weight, weight, items_at}
@@ -59,84 +49,24 @@ use Rattle.civl_goal_terms.specs.Places.{IsAt}
 use Rattle.civl_goal_terms.specs.Settings.{sorts_at}
 use Rattle.civl_goal_terms.specs.Sorted.{top_sorts}
 use Rattle.civl_goal_terms.specs.Told.{frame}
+use Rattle.civl_goal_terms.proofs.Sorting.{names_are}
+use Rattle.civl_goal_terms.proofs.Choosing.{form_few}
+use Rattle.civl_goal_terms.proofs.Standing.{counted, choices_there}
 
--- ---- the choices of a call
+-- ---- a frame
 
 module _ (program : Program) (keeps : Keeps typing_rules program) where
-  -- they have sorts within the limits, and are few
-  abbrev AreFew : List Choice → Type 0
-  AreFew choices = AreSorts (map (λ c. c.sort) choices) × (length choices ≤ 32)
-
-  no_choices : AreFew []
-  no_choices = (All-nil (λ s. IsTrue (is_sort s)), omega arith)
-
-  named_few : (name : Name) (o : Option Action) → action_named program name ≡ o → AreFew (choices_of (meaning_of_action o))
-  named_few name None e = no_choices
-  named_few name (Some a) e =
-      let at = sym (find_at _ program.actions) ∙ e in
-      (choice_sorts_are program keeps _ a at, omega (arith, action_few program keeps _ a at))
-
-  refined_few : (o : Option Refines) → AreFew (choices_of (refined program o))
-  refined_few None = no_choices
-  refined_few (Some r) = named_few r.action (action_named program r.action) refl
-
-  body_few : (number : ℕ) (b : Option Bool) (o : Option Proc) → AreFew (choices_of (meaning_by program b number o))
-  body_few number None None = no_choices
-  body_few number (Some b) None = no_choices
-  body_few number None (Some proc) = no_choices
-  body_few number (Some true) (Some proc) = no_choices
-  body_few number (Some false) (Some proc) = refined_few proc.refines
-
-  else_few : (name : Name) (o : Option Action) → action_named program name ≡ o → AreFew (choices_of (meaning_else (topmost program) name o))
-  else_few name None e = body_few (proc_number program name) (slice_get (topmost program).bodies (proc_number program name)) (slice_get program.procs (proc_number program name))
-  else_few name (Some a) e = named_few name (Some a) e
-
-  call_few : (form : Stmt-F Stmt) → AreFew (layer_choices (topmost program) form)
-  call_few (Call f es rs) = else_few f (action_named program f) refl
-  call_few (Assign x e) = no_choices
-  call_few (Assert e) = no_choices
-  call_few (If e a b) = no_choices
-  call_few (While e a) = no_choices
-  call_few (YieldLoop e i a) = no_choices
-  call_few (RankLoop e r i a) = no_choices
-  call_few (Yield i) = no_choices
-  call_few Commit = no_choices
-  call_few (Intro x e) = no_choices
-  call_few (Spawn f es) = no_choices
-
-  -- ---- a frame
-
   frame_are : (q : ℕ) (proc : Proc) → slice_get program.procs q ≡ Some proc → AreSorts (frame_sorts proc)
   frame_are q proc at =
       sorts_append (param_sorts proc.params) _ (proc_param_sorts_are program keeps q proc at)
       (sorts_append (param_sorts proc.outs) _ (proc_out_sorts_are program keeps q proc at) (local_sorts_are program keeps q proc at))
 
-frame_long : (proc : Proc) → length (frame_sorts proc) ≡ length proc.params + (length proc.outs + length proc.locals)
-frame_long proc =
-    length-append (param_sorts proc.params) (param_sorts proc.outs ++ map (λ l. l.sort) proc.locals)
-    ∙ ap₂ (λ (a b : ℕ). a + b) (length-map proc.params (λ p. p.sort))
-    (length-append (param_sorts proc.outs) (map (λ l. l.sort) proc.locals) ∙ ap₂ (λ (a b : ℕ). a + b) (length-map proc.outs (λ p. p.sort)) (length-map proc.locals (λ l. l.sort)))
-
-map_twice : {A B C : Type 0} (f : B → C) (g : A → B) (xs : List A) → map f (map g xs) ≡ map (λ x. f (g x)) xs
-map_twice f g [] = refl
-map_twice f g (x ∷ xs) = ap (λ ys. f (g x) ∷ ys) (map_twice f g xs)
-
 abbrev sort_of_variable : Variable → Sort
 sort_of_variable v = v.sort
 
-names_sorted : (front : List ℕ) (proc : Proc) → map (λ v. v.sort) (of_names front proc) ≡ frame_sorts proc
-names_sorted front proc =
-    map-append sort_of_variable (of_params front proc.params) (of_params front proc.outs ++ of_locals front proc.locals)
-    ∙ ap₂ (λ (a b : List Sort). a ++ b) (map_twice sort_of_variable _ proc.params)
-    (map-append sort_of_variable (of_params front proc.outs) (of_locals front proc.locals) ∙ ap₂ (λ (a b : List Sort). a ++ b) (map_twice sort_of_variable _ proc.outs) (map_twice sort_of_variable _ proc.locals))
-
 named_frame : (program : Program) (front : List ℕ) (q : ℕ) (proc : Proc) → slice_get program.procs q ≡ Some proc → map (λ v. v.sort) (of_frame front program q) ≡ frame_sorts proc
 named_frame program front q proc at =
-    ap (map sort_of_variable) (there_is (slice_get program.procs q) proc [] (of_names front) at) ∙ names_sorted front proc
-
-counted_frame : (program : Program) (q : ℕ) (proc : Proc) → slice_get program.procs q ≡ Some proc → frame_count program q ≡ length (frame_sorts proc)
-counted_frame program q proc at =
-    there_is (slice_get program.procs q) proc 0 (λ (p : Proc). length p.params + (length p.outs + length p.locals)) at ∙ sym (frame_long proc)
+    ap (map sort_of_variable) (there_is (slice_get program.procs q) proc [] (of_names front) at) ∙ names_are front proc
 
 -- ---- all of them
 
@@ -147,17 +77,11 @@ module _ (program : Program) (at : At) (other : Beside) (is : IsAt program at) (
   abbrev next : Proc
   next = other.proc.now
 
-  -- the choices are those of what stands there
-  choices_there : choices_at program at.root at.number ≡ layer_choices (topmost program) (out-Stmt at.stmt.now)
-  choices_there =
-      there_is (slice_get program.procs at.root) proc [] (λ (p : Proc). option_map_or (λ stmt. layer_choices (topmost program) (out-Stmt stmt)) (statement_at p.body at.number) []) is.proc
-      ∙ there_is (statement_at proc.body at.number) at.stmt.now [] (λ (stmt : Stmt). layer_choices (topmost program) (out-Stmt stmt)) is.stmt
-
   choices_counted : length (choices_at program at.root at.number) ≡ length (sorts_at program at)
-  choices_counted = ap length choices_there ∙ sym (length-map (layer_choices (topmost program) (out-Stmt at.stmt.now)) (λ c. c.sort))
+  choices_counted = ap length (choices_there program at is) ∙ sym (length-map (layer_choices (topmost program) (out-Stmt at.stmt.now)) (λ c. c.sort))
 
   choices_sorted : map (λ v. v.sort) (of_choices (call_front at.number) (choices_at program at.root at.number)) ≡ sorts_at program at
-  choices_sorted = map_twice sort_of_variable _ (choices_at program at.root at.number) ∙ ap (map (λ (c : Choice). c.sort)) choices_there
+  choices_sorted = map-map sort_of_variable _ (choices_at program at.root at.number) ∙ ap (map (λ (c : Choice). c.sort)) (choices_there program at is)
 
   statement_sorted : map (λ v. v.sort) (of_statement program at.root at.number) ≡ top_sorts program ++ (frame_sorts proc ++ sorts_at program at)
   statement_sorted =
@@ -235,14 +159,14 @@ module _ (program : Program) (at : At) (other : Beside) (is : IsAt program at) (
         subst AreSorts (sym sorted_all)
         (sorts_append (top_sorts program) _ (existing_are program keeps (Layer program.layers))
         (sorts_append (frame_sorts proc) _ (frame_are program keeps at.root proc is.proc)
-        (sorts_append (sorts_at program at) _ (call_few program keeps (out-Stmt at.stmt.now)).0 (frame_are program keeps other.root next beside))))
+        (sorts_append (sorts_at program at) _ (form_few program keeps (out-Stmt at.stmt.now)).0 (frame_are program keeps other.root next beside))))
 
     pub small_all : length all_sorts < 2 ^ 32
     small_all =
         let top = existing_long program keeps (Layer program.layers) in
-        let chosen = (call_few program keeps (out-Stmt at.stmt.now)).1 in
+        let chosen = (form_few program keeps (out-Stmt at.stmt.now)).1 in
         let many = length-map (layer_choices (topmost program) (out-Stmt at.stmt.now)) (λ c. c.sort) in
-        omega (arith, counted_all, top, top_long, chosen, many, frame_long proc, frame_long next, proc_few program keeps at.root proc is.proc, proc_few program keeps other.root next beside)
+        omega (arith, counted_all, top, top_long, chosen, many, frame_length proc, frame_length next, proc_few program keeps at.root proc is.proc, proc_few program keeps other.root next beside)
 
   -- ---- what the values give
 
@@ -260,17 +184,17 @@ module _ (program : Program) (at : At) (other : Beside) (is : IsAt program at) (
 
     locals_are : part values (top_count program) (frame_count program at.root) ≡ (here_from program at env).locals
     locals_are =
-        ap (part values (top_count program)) (counted_frame program at.root proc is.proc) ∙ part_given env n (top_count program) (length (frame_sorts proc)) (omega (arith, many))
+        ap (part values (top_count program)) (counted program at.root proc is.proc) ∙ part_given env n (top_count program) (length (frame_sorts proc)) (omega (arith, many))
 
     chosen_is : chosen_of program values at.root at.number ≡ (here_from program at env).chosen
     chosen_is =
-        ap₂ (λ (a b : ℕ). part values (top_count program + a) b) (counted_frame program at.root proc is.proc) choices_counted
+        ap₂ (λ (a b : ℕ). part values (top_count program + a) b) (counted program at.root proc is.proc) choices_counted
         ∙ part_given env n (chosen_from program at) (length (sorts_at program at)) (omega (arith, many))
 
     others_are : part values (behind_frame program at.root + length (choices_at program at.root at.number)) (frame_count program other.root) ≡ given env (behind_chosen program at) (length (frame_sorts next))
     others_are =
-        ap₂ (λ (a b : ℕ). part values (top_count program + a + b) (frame_count program other.root)) (counted_frame program at.root proc is.proc) choices_counted
-        ∙ ap (part values (behind_chosen program at)) (counted_frame program other.root next beside)
+        ap₂ (λ (a b : ℕ). part values (top_count program + a + b) (frame_count program other.root)) (counted program at.root proc is.proc) choices_counted
+        ∙ ap (part values (behind_chosen program at)) (counted program other.root next beside)
         ∙ part_given env n (behind_chosen program at) (length (frame_sorts next)) many
 
     pub other_is : violated_beside program outline at other (here_from program at env) (given env (behind_chosen program at) (length (frame_sorts next)))
@@ -308,15 +232,3 @@ module _ (program : Program) (at : At) (other : Beside) (is : IsAt program at) (
         (spot_at p.body at.number) 0) is.proc
         ∙ (there_is (spot_at proc.body at.number) (record { number = at.number; stmt = at.stmt.now; next = at.next }) 0 (λ (spot : Spot). stated spot.stmt items) is.spot
         ∙ ap (stated at.stmt.now) items_are))
-
--- a note weighs something, also one that isn't written
-pub note_some : (program : Program) (outline : Outline) (r s : ℕ) → 1 ≤ note_before_weight program outline r s
-note_some program outline r s = in_proc (slice_get program.procs r)
-  where
-    in_note : (proc : Proc) (o : Option Note) → 1 ≤ option_map_or (λ note. note_weight program proc note.expr) o 1
-    in_note proc None = omega arith
-    in_note proc (Some note) = weighs_some _ note.expr
-
-    in_proc : (o : Option Proc) → 1 ≤ option_map_or (λ proc. option_map_or (λ note. note_weight program proc note.expr) (written_before program outline r s) 1) o 1
-    in_proc None = omega arith
-    in_proc (Some proc) = in_note proc (written_before program outline r s)

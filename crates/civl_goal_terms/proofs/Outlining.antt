@@ -1,5 +1,5 @@
 -- The holds and notes of an outline that fits are bools where all globals are in scope.
-use Rattle.std.proofs.Common.{◌≡◌, ℕ, zero, suc, ◌+◌, Bool, true, false, not, ◌&&◌, List, [], ◌∷◌, ◌++◌, length, find, Option, Some, None, refl, sym, ap, ◌∙◌, subst, arith}
+use Rattle.std.proofs.Common.{◌≡◌, ℕ, ◌+◌, Bool, true, false, not, ◌&&◌, List, [], ◌∷◌, ◌++◌, length, find, Option, Some, None, refl, sym, ap, ◌∙◌, subst, arith}
 use Rattle.std.specs.Prelude.{slice_get, nat_eq, nat_lt, is_some, All, if◌then◌else◌}
 use Rattle.std.specs.Option.{option_map, option_map_or}
 use Rattle.std.proofs.lemmas.Bool.{and_parts, false≢true, eqb-true}
@@ -8,7 +8,7 @@ use Rattle.std.proofs.lemmas.Option.{same_Some, none-some}
 use Rattle.civl_tree.specs.declared.name.Name.{Name}
 use Rattle.civl_tree.specs.declared.expr.Expr.{Expr}
 use Rattle.civl_tree.specs.declared.expr.Sort.{Sort}
-use Rattle.civl_tree.specs.declared.expr.Sort.TheVariants.{Bool as Truth, Word, Row}
+use Rattle.civl_tree.specs.declared.expr.Sort.TheVariants.{Bool as Truth}
 use Rattle.civl_tree.specs.declared.program.Proc.{Proc}
 use Rattle.civl_tree.specs.declared.program.Program.{Program}
 use Rattle.civl_tree.specs.Numbering.{proc_item, sizes_of}
@@ -17,11 +17,14 @@ use Rattle.civl_tree.specs.rules.Rules.{Keeps}
 use Rattle.civl_tree.specs.rules.Scopes.{Scope, sort_in, global_scope, note_scope}
 use Rattle.civl_tree.specs.rules.Sorts.{sort_of, is_truth}
 use Rattle.civl_tree.specs.rules.Typing.{typing_rules}
+use Rattle.civl_tree.proofs.Lists.{none_left, none_right, none_hidden, found_one}
+use Rattle.civl_firing.proofs.values.Sorting.{a_truth}
 use Rattle.civl_layers.specs.Layered.{IsLayered}
 use Rattle.civl_yields.specs.Places.{stray, no_leave}
 use Rattle.civl_outlines.specs.declared.outline.Note.{Note}
 use Rattle.civl_outlines.specs.declared.outline.Outline.{Outline}
 use Rattle.civl_conditions.specs.Steps.{each_at}
+use Rattle.civl_conditions.proofs.Contained.{numbered}
 use Rattle.civl_states.specs.Notes.{HasType}
 use Rattle.civl_goals.specs.Outlines.{exists_on_top, stands_before, written_before}
 use Rattle.civl_goals.specs.Listed.{is_root}
@@ -29,28 +32,7 @@ use Rattle.civl_goals.specs.Rules.{says_of, hold_scope, outline_scope, root_at, 
 use Rattle.civl_goal_terms.specs.Outlined.{IsOutlined}
 use Rattle.civl_goal_terms.proofs.Scoping.{sort_alike, widths_alike, globals_larger, names_larger}
 
--- ---- lists
-
--- nothing in two lists is nothing in each
-none_left : {A : Type 0} (xs ys : List A) → xs ++ ys ≡ [] → xs ≡ []
-none_left [] ys e = refl
-none_left (x ∷ xs) ys e = absurd cc
-
-none_right : {A : Type 0} (xs ys : List A) → xs ++ ys ≡ [] → ys ≡ []
-none_right [] ys e = e
-none_right (x ∷ xs) ys e = absurd cc
-
-none_hidden : {A : Type 0} (b : Bool) (x : A) (xs : List A) → (if b then [] else x ∷ xs) ≡ [] → b ≡ true
-none_hidden true x xs e = refl
-none_hidden false x xs e = absurd cc
-
 -- ---- an expression that says something of a place
-
-truth_is : (o : Option Sort) → is_truth o ≡ true → o ≡ Some Truth
-truth_is None e = absurd (false≢true e)
-truth_is (Some Truth) e = refl
-truth_is (Some (Word w)) e = absurd (false≢true e)
-truth_is (Some (Row i w)) e = absurd (false≢true e)
 
 no_olds : (n : Name) → is_some (sort_in [] n) ≡ true → ⊥
 no_olds n e = false≢true e
@@ -61,7 +43,7 @@ said_type small big e names olds h =
     let widths = and_parts (widths_fit small e) _ known.1 in
     let truth = and_parts (is_truth (sort_of small e)) _ widths.1 in
     let indices = and_parts (indices_fit e) (not (stray no_leave e)) truth.1 in
-    let sort : sort_of big e ≡ Some Truth = sym (sort_alike small big names olds e known.0) ∙ truth_is (sort_of small e) truth.0 in
+    let sort : sort_of big e ≡ Some Truth = sym (sort_alike small big names olds e known.0) ∙ a_truth (sort_of small e) truth.0 in
     record {
       typed = record { sorted = ap is_some sort; widths = sym (widths_alike small big names olds e known.0) ∙ widths.0; indices = indices.0 };
       sorted = sort;
@@ -87,22 +69,6 @@ module _ (program : Program) (keeps : Keeps typing_rules program) where
       go : (b : Bool) → test n ≡ b → (if b then Some n else find test ns) ≡ Some note → (find test ns ≡ Some note → (before : List Note) × (note_fits program before note ≡ true) × (test note ≡ true)) → (before : List Note) × (note_fits program before note ≡ true) × (test note ≡ true)
       go true t k later = let same = same_Some n note k in (earlier, subst (λ (x : Note). note_fits program earlier x ≡ true) same here, subst (λ (x : Note). test x ≡ true) same t)
       go false t k later = later k
-
-  -- what has a number among the procedures
-  numbered : (procs : List Proc) (at i : ℕ) (q : ℕ × Proc) → slice_get (each_at (λ r proc. (r, proc) ∷ []) at procs) i ≡ Some q → (k : ℕ) × (slice_get procs k ≡ Some q.1) × (q.0 ≡ at + k)
-  numbered [] at i q e = absurd (none-some q e)
-  numbered (p ∷ ps) at zero q e =
-      let same = same_Some (at, p) q e in
-      (0, ap (λ (x : ℕ × Proc). Some x.1) same, sym (ap (λ (x : ℕ × Proc). x.0) same) ∙ omega arith)
-  numbered (p ∷ ps) at (suc i) q e = let r = numbered ps (at + 1) i q e in let n = r.2 in (suc r.0, r.1, omega (arith, n))
-
-  found_one : {A : Type 0} (test : A → Bool) (xs : List A) (x : A) → find test xs ≡ Some x → (i : ℕ) × (slice_get xs i ≡ Some x) × (test x ≡ true)
-  found_one test [] x e = absurd (none-some x e)
-  found_one {A = A} test (y ∷ ys) x e = go (test y) refl e (found_one test ys x)
-    where
-      go : (b : Bool) → test y ≡ b → (if b then Some y else find test ys) ≡ Some x → (find test ys ≡ Some x → (i : ℕ) × (slice_get ys i ≡ Some x) × (test x ≡ true)) → (i : ℕ) × (slice_get (y ∷ ys) i ≡ Some x) × (test x ≡ true)
-      go true t h later = let same = same_Some y x h in (0, ap (λ (z : A). Some z) same, ap test (sym same) ∙ t)
-      go false t h later = let r = later h in (suc r.0, r.1, r.2)
 
   abbrev is_it : ℕ → ℕ × Proc → Bool
   is_it item q = nat_eq (proc_item program q.0) item && is_root q.1

@@ -1,33 +1,29 @@
 -- The statement with a number of a root is what stands there, and where its branches begin.
-use Rattle.std.specs.Prelude.{slice_get, is_some, drop, if◌then◌else◌}
-use Rattle.std.specs.Option.{option_map_or}
-use Rattle.std.proofs.Common.{◌≡◌, ◌∙◌, ℕ, ◌+◌, ◌≤◌, ◌<◌, ◌^◌, Bool, true, false, List, [], ◌∷◌, length, get_or, refl, sym, ap, ap₂, subst, arith, Option, Some, None}
-use Rattle.std.proofs.lemmas.Bool.{false≢true, true≢false}
+use Rattle.std.specs.Prelude.{slice_get, drop, if◌then◌else◌}
+use Rattle.std.proofs.Common.{◌≡◌, ◌∙◌, ℕ, ◌+◌, ◌≤◌, ◌<◌, ◌^◌, Bool, true, false, List, [], ◌∷◌, length, get_or, refl, sym, ap, ap₂, subst, arith, Option, Some}
 use Rattle.std.proofs.lemmas.Option.{same_Some, slice_get_within, get_or_from_slice_get}
 use Rattle.std.proofs.lemmas.List.Elements.{All-get_or}
 use Rattle.civl_tree.specs.declared.expr.Expr.{Expr}
-use Rattle.civl_tree.specs.declared.stmt.Stmt.{Stmt, out-Stmt}
-use Rattle.civl_tree.specs.declared.stmt.Stmt.TheOpen.{Stmt-F, Yield, Commit, Intro}
+use Rattle.civl_tree.specs.declared.stmt.Stmt.{Stmt}
 use Rattle.civl_tree.specs.declared.stmt.Stmt as tree
 use Rattle.civl_tree.specs.declared.program.Proc.{Proc}
-use Rattle.civl_tree.specs.declared.program.Refines.{Refines}
 use Rattle.civl_tree.specs.declared.program.Program.{Program}
 use Rattle.civl_tree.specs.Numbered.{IsNumbered}
 use Rattle.civl_tree.specs.Numbering.{statement_at, size_of, sizes_of}
 use Rattle.civl_tree.specs.rules.Rules.{Keeps}
-use Rattle.civl_tree.proofs.Kept.{statement_kept}
-use Rattle.civl_meaning.specs.Places.{Spot, is_skipped, skip_layer, spot_at}
+use Rattle.civl_tree.proofs.Lists.{heads}
+use Rattle.civl_meaning.specs.Places.{Spot, is_skipped, spot_at}
 use Rattle.civl_meaning.specs.Rest.{Rest, rest_at, place_in, head_of}
 use Rattle.civl_meaning.proofs.Rests.{spot_of_rest}
 use Rattle.civl_meaning.proofs.Spots.{spot_stands}
 use Rattle.civl_layers.specs.Layered.{IsLayered}
-use Rattle.civl_yields.specs.Places.{form_misplaced, stmt_misplaced}
-use Rattle.civl_yields.specs.YieldRules.{commit_rule, yield_rules}
+use Rattle.civl_yields.specs.YieldRules.{yield_rules}
 use Rattle.civl_conditions.proofs.paths.Heading.{number_begins}
 use Rattle.civl_body.specs.declared.rests.Numbered.{Numbered}
 use Rattle.civl_body.specs.Rests.{rest_of}
 use Rattle.civl_body.proofs.Forms.{if_size, is_if}
 use Rattle.civl_goals.specs.Listed.{is_root}
+use Rattle.civl_goals.proofs.Plain.{roots_are_plain}
 use Rattle.civl_goal_terms.specs.There.{HasStatement}
 
 -- ---- procedures
@@ -37,20 +33,7 @@ few_statements program n r proc there =
     subst (λ (p : Proc). sizes_of p.body < 2 ^ 32) (get_or_from_slice_get program.procs r proc proc there)
     (All-get_or (λ (p : Proc). sizes_of p.body < 2 ^ 32) program.procs r proc (slice_get_within program.procs r proc there) n.statements)
 
-not_skipped : (d : Stmt-F Stmt) → form_misplaced false d ≡ false → skip_layer d ≡ false
-not_skipped (Yield e) h = absurd (true≢false h)
-not_skipped Commit h = absurd (true≢false h)
-not_skipped (Intro x e) h = absurd (true≢false h)
-not_skipped _ h = refl
-
-unlayered : (o : Option Refines) → option_map_or (λ r. false) o true ≡ true → is_some o ≡ false
-unlayered None h = refl
-unlayered (Some r) h = absurd (false≢true h)
-
 -- ---- lists
-
-heads : {A : Type 0} (a b : A) (os ps : List A) → a ∷ os ≡ b ∷ ps → (a ≡ b) × (os ≡ ps)
-heads a b os ps e = (cc, cc)
 
 pub behind_first : (items : List Numbered) → rest_of (drop 1 items) ≡ drop 1 (rest_of items)
 behind_first [] = refl
@@ -72,9 +55,7 @@ module _ (program : Program) (layered : IsLayered program) (yields : Keeps yield
     plain : is_skipped h.stmt ≡ false
     plain =
         let own : is_root proc ≡ true = subst (λ (p : Proc). is_root p ≡ true) same_proc h.root in
-        not_skipped (out-Stmt h.stmt)
-        (sym (ap (λ b. form_misplaced b (out-Stmt h.stmt)) (unlayered proc.refines own))
-        ∙ statement_kept yield_rules program yields commit_rule (2, omega arith, refl) (stmt_misplaced proc) root proc at refl number h.stmt here)
+        roots_are_plain program yields root proc at own number h.stmt here
 
     pub small : sizes_of proc.body < 2 ^ 32
     small = few_statements program layered.numbered root proc at

@@ -2,9 +2,9 @@
 -- all globals.
 use Rattle.std.specs.Prelude.{slice_get, filter, is_some, if◌then◌else◌}
 use Rattle.std.specs.List.{list_any}
-use Rattle.std.proofs.Common.{◌≡◌, ◌∙◌, ℕ, zero, suc, ◌<◌, Bool, true, false, ◌&&◌, List, [], ◌∷◌, ◌++◌, take, refl, sym, ap, ap₂, subst, arith, Option, Some, None, inl, inr}
+use Rattle.std.proofs.Common.{◌≡◌, ◌∙◌, ℕ, suc, Bool, true, false, ◌&&◌, List, [], ◌∷◌, ◌++◌, refl, sym, ap, ap₂, subst, arith, Option, Some, None, inl, inr}
 use Rattle.std.proofs.lemmas.Bool.{false≢true, true≢false, and_parts, or_parts}
-use Rattle.std.proofs.lemmas.Option.{same_Some, none-some}
+use Rattle.std.proofs.lemmas.Option.{none-some}
 use Rattle.std.proofs.lemmas.Slice.Eq.{bytes_eq-Decides}
 use Rattle.civl_tree.specs.declared.name.Name.{Name}
 use Rattle.civl_tree.specs.declared.expr.Sort.{Sort}
@@ -21,10 +21,11 @@ use Rattle.civl_tree.specs.rules.Sorts.{sort_of, sort_step, one_sort, two_sort, 
 use Rattle.civl_tree.specs.rules.Exprs.{names_known, known_step, widths_fit, slice_in_range, widen_in_range, join_in_range}
 use Rattle.civl_tree.specs.rules.Rules.{Keeps}
 use Rattle.civl_tree.specs.rules.Typing.{typing_rules, twice_rule}
-use Rattle.civl_tree.proofs.Kept.{global_kept, proc_kept, twice_among}
+use Rattle.civl_tree.proofs.Kept.{proc_kept, twice_among}
 use Rattle.civl_tree.proofs.Layers.{width_layer}
+use Rattle.civl_tree.proofs.Distinct.{Distinct, distinct}
+use Rattle.civl_meaning.proofs.Bindings.{Declared, names_of, names_bound, proc_names, in_front, in_back, in_either, no_global}
 use Rattle.civl_actions.proofs.Typing.{sort_layer, widths_layer}
-use Rattle.civl_moves.proofs.Bindings.{Declared, names_of, names_bound, proc_names, in_front, in_back, in_either, no_global}
 
 -- ---- a larger scope
 
@@ -125,19 +126,6 @@ module _ (small big : Scope) (names : (n : Name) (s : Sort) → sort_in small.na
   widths_alike e h = (alike e h).widths
 
 -- ---- some of the globals
-
--- no two globals have one name
-abbrev Distinct : List Global → Type 0
-Distinct gs = (i j : ℕ) (g h : Global) → slice_get gs i ≡ Some g → slice_get gs j ≡ Some h → i < j → same_name h.name g.name ≡ false
-
-among_first : (p : Name → Bool) (gs : List Global) (i j : ℕ) (g : Global) → slice_get gs i ≡ Some g → i < j → list_any p (global_names (take j gs)) ≡ false → p g.name ≡ false
-among_first p [] i j g e l h = absurd (none-some g e)
-among_first p (x ∷ xs) i zero g e l h = absurd (omega (arith, l))
-among_first p (x ∷ xs) zero (suc j) g e l h = ap (λ (y : Global). p y.name) (sym (same_Some x g e)) ∙ (or_parts (p x.name) (list_any p (global_names (take j xs))) h).0
-among_first p (x ∷ xs) (suc i) (suc j) g e l h = among_first p xs i j g e (omega (arith, l)) (or_parts (p x.name) (list_any p (global_names (take j xs))) h).1
-
-distinct : (program : Program) → Keeps typing_rules program → Distinct program.globals
-distinct program keeps i j g h a b l = among_first (same_name h.name) program.globals i j g a l (global_kept typing_rules program keeps twice_rule twice_among j h b)
 
 -- two names that are the same as a third
 same_then : (a b c : Name) → same_name a b ≡ true → same_name c b ≡ true → same_name a c ≡ true

@@ -19,6 +19,7 @@ use Rattle.civl_meaning.specs.declared.config.Change.{Change}
 use Rattle.civl_meaning.specs.Config.{frame_sorts}
 use Rattle.civl_meaning.specs.Layers.{topmost}
 use Rattle.civl_meaning.specs.Places.{Spot, spot_at}
+use Rattle.civl_meaning.proofs.Bindings.{frame_length}
 use Rattle.civl_layers.specs.Layered.{IsLayered}
 use Rattle.civl_conditions.specs.Values.{part}
 use Rattle.civl_conditions.specs.Variables.{layer_choices}
@@ -58,18 +59,12 @@ use Rattle.civl_goal_terms.proofs.Choosing.{form_few}
 pub top_long : (program : Program) → length (top_sorts program) ≡ top_count program
 top_long program = length-map (filter (exists_on_top program) program.globals) (λ g. g.sort)
 
-pub frame_long : (proc : Proc) → length (frame_sorts proc) ≡ length proc.params + (length proc.outs + length proc.locals)
-frame_long proc =
-    length-append (param_sorts proc.params) (param_sorts proc.outs ++ map (λ l. l.sort) proc.locals)
-    ∙ ap₂ (λ (m n : ℕ). m + n) (length-map proc.params (λ p. p.sort))
-    (length-append (param_sorts proc.outs) (map (λ l. l.sort) proc.locals) ∙ ap₂ (λ (m n : ℕ). m + n) (length-map proc.outs (λ p. p.sort)) (length-map proc.locals (λ l. l.sort)))
-
 pub counted : (program : Program) (r : ℕ) (proc : Proc) → slice_get program.procs r ≡ Some proc → frame_count program r ≡ length (frame_sorts proc)
-counted program r proc at = ap (λ (o : Option Proc). option_map_or (λ p. length p.params + (length p.outs + length p.locals)) o 0) at ∙ sym (frame_long proc)
+counted program r proc at = ap (λ (o : Option Proc). option_map_or (λ p. length p.params + (length p.outs + length p.locals)) o 0) at ∙ sym (frame_length proc)
 
 module _ (program : Program) (layered : IsLayered program) where
   pub frame_few : (r : ℕ) (proc : Proc) → slice_get program.procs r ≡ Some proc → length (frame_sorts proc) ≤ 32
-  frame_few r proc at = omega (arith, frame_long proc, proc_few program layered.rules r proc at)
+  frame_few r proc at = omega (arith, frame_length proc, proc_few program layered.rules r proc at)
 
   pub frame_limits : (r : ℕ) (proc : Proc) → slice_get program.procs r ≡ Some proc → AreSorts (frame_sorts proc)
   frame_limits r proc at =

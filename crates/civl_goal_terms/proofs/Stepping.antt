@@ -1,7 +1,8 @@
 -- A statement of a root at terms: where its sweep begins, what it makes of it, and what the terms say then.
 use Rattle.std.specs.Prelude.{map, All}
-use Rattle.std.proofs.Common.{◌≡◌, ◌∙◌, ℕ, Bool, true, false, not, List, [], refl, sym, ap, ap₂, subst, Some}
+use Rattle.std.proofs.Common.{◌≡◌, ◌∙◌, ℕ, true, false, not, List, [], refl, sym, ap, ap₂, subst, Some}
 use Rattle.std.proofs.lemmas.List.Elements.{All-nil}
+use Rattle.std.proofs.Math.Bool.{not-not}
 use Rattle.civl_bits.specs.declared.value.Value.{Value}
 use Rattle.civl_tree.specs.declared.name.Name.{Name}
 use Rattle.civl_tree.specs.declared.expr.Expr.{Expr}
@@ -14,7 +15,7 @@ use Rattle.civl_firing.specs.Eval.{values_of}
 use Rattle.civl_firing.specs.Scope.{frame_values}
 use Rattle.civl_meaning.specs.Config.{frame_sorts, choice_sorts}
 use Rattle.civl_meaning.specs.Layers.{topmost}
-use Rattle.civl_meaning.specs.Meaning.{Meaning, Does, Runs, Missing, called}
+use Rattle.civl_meaning.specs.Meaning.{Meaning, called}
 use Rattle.civl_terms.specs.declared.node.Node.{Node}
 use Rattle.civl_terms.specs.Graphs.{Fits}
 use Rattle.civl_terms.specs.Building.{Grows}
@@ -34,6 +35,7 @@ use Rattle.civl_moves.specs.Calls.{AreBodyTerms}
 use Rattle.civl_moves.specs.States.{swept_at, stop_at, CanStop, CanSweep, Moves, body_of}
 use Rattle.civl_moves.proofs.States.{same_swept, swept_same, test_bool, test_value}
 use Rattle.civl_body.specs.Passing.{course_in}
+use Rattle.civl_body.proofs.Calling.{does_is}
 use Rattle.civl_goal_terms.specs.declared.places.At.{At}
 use Rattle.civl_goal_terms.specs.declared.settings.Setting.{Setting}
 use Rattle.civl_goal_terms.specs.Settings.{Here, CanStand, SaysHere}
@@ -65,14 +67,6 @@ module _ (old new : List Node) (program : Program) (at : At) (setting : Setting)
       (ap (values_at env new) same_locals ∙ values_stay env old new setting.locals _ s.locals.sorted grows ∙ s.locals.are env before) (test_value new never _ nay env fits) (ap not yes) (ap not yes) (ap (map (stop_at env new)) none)
 
 -- ---- a call
-
-does_is : (m : Meaning) (a : Action) → action_meant m ≡ Some a → m ≡ Does a
-does_is (Does b) a e = ap Does (same b a e)
-  where
-    same : (x y : Action) → Some x ≡ Some y → x ≡ y
-    same x y q = cc
-does_is (Runs n p) a e = absurd (cc)
-does_is Missing a e = absurd (cc)
 
 module _ (program : Program) (f : Name) (a : Action) (meant : action_meant (called (topmost program) f) ≡ Some a) where
   pub choices_given : map (λ c. c.sort) (choices_of (called (topmost program) f)) ≡ choice_sorts a
@@ -107,14 +101,10 @@ still ns program proc s can = record { can = can; is = λ env fits. refl }
 
 -- ---- behind it
 
-pub not_not : (b : Bool) → not (not b) ≡ b
-not_not true = refl
-not_not false = refl
-
 pub says_swept : (ns : List Node) (program : Program) (proc : Proc) (sweep : Sweep) (d : Env → Swept) → CanSweep ns program proc sweep → ((env : Env) → Fits env ns → swept_at env ns sweep ≡ d env) → SaysSwept ns program proc sweep d
 says_swept ns program proc sweep d can is = record {
   live = test_where ns sweep.live _ _ (λ env fits. ap (λ (x : Swept). x.live) (is env fits)) can.live;
-  safe = test_where ns sweep.safe _ _ (λ env fits. sym (not_not _) ∙ ap (λ (x : Swept). not x.broken) (is env fits)) can.safe;
+  safe = test_where ns sweep.safe _ _ (λ env fits. sym (not-not _) ∙ ap (λ (x : Swept). not x.broken) (is env fits)) can.safe;
   globals = record { sorted = can.globals; are = λ env fits. ap (λ (x : Swept). x.store.values) (is env fits) };
   locals = record { sorted = can.locals; are = λ env fits. ap (λ (x : Swept). x.locals) (is env fits) };
 }

@@ -5,7 +5,7 @@ use Rattle.std.proofs.lemmas.Bool.{lt-ltb}
 use Rattle.civl_tree.specs.declared.stmt.Stmt.{Stmt}
 use Rattle.civl_tree.specs.Numbering.{sizes_of}
 use Rattle.civl_tree.proofs.Numbers.{sizes_more}
-use Rattle.civl_conditions.proofs.paths.Belonging.{size_is_some}
+use Rattle.civl_tree.proofs.Sizes.{size_is_some}
 
 pub some_statement : (body : List Stmt) → nat_lt 0 (length body) ≡ nat_lt 0 (sizes_of body)
 some_statement [] = refl

@@ -7,4 +7,4 @@ pub mod Misplacing
 pub mod Grouping
 pub mod Tops
 pub mod Unheld
-pub mod Weighted
+pub mod Plain

@@ -6,6 +6,7 @@ use Rattle.std.specs.Option.{option_map, option_map_or}
 use Rattle.std.proofs.lemmas.List.{drop_more, drop_all, take_more}
 use Rattle.std.proofs.lemmas.List.Folds.{list_any-append}
 use Rattle.std.proofs.lemmas.Bool.{eq-eqb}
+use Rattle.std.proofs.Math.Bool.{or-false}
 use Rattle.civl_tree.specs.declared.expr.Expr.{Expr}
 use Rattle.civl_tree.specs.declared.program.Proc.{Proc}
 use Rattle.civl_tree.specs.declared.program.Program.{Program}
@@ -19,7 +20,7 @@ use Rattle.civl_goals.specs.Listed.{is_root}
 use Rattle.civl_names.proofs.walks.Walking.{or_first, first_append}
 use Rattle.civl_goals.specs.Rules.{says_of, hold_scope, root_at, stands_in, note_fits, misplaced, unfit_holds, unfit}
 use Rattle.civl_goals.specs.Spots.{same_spot, spot_of, has_spot, with_spot}
-use Rattle.civl_goals.proofs.Noting.{added_has, any_there, or_false}
+use Rattle.civl_goals.proofs.Noting.{added_has, any_there}
 
 -- ---- the root that is an item
 
@@ -129,4 +130,4 @@ pub more_there : (spots after : List Spot) (earlier : List Note) (note : Note) �
 more_there spots after earlier note e h spot =
     ap (λ (xs : List Spot). has_spot xs spot) e ∙ added_has spots (spot_of note) spot
     ∙ ap (λ (b : Bool). b || same_spot spot (spot_of note)) (h spot)
-    ∙ sym (list_any-append (λ n. same_spot spot (spot_of n)) earlier (note ∷ []) ∙ ap (λ (b : Bool). any_there earlier spot || b) (or_false (same_spot spot (spot_of note))))
+    ∙ sym (list_any-append (λ n. same_spot spot (spot_of n)) earlier (note ∷ []) ∙ ap (λ (b : Bool). any_there earlier spot || b) (or-false (same_spot spot (spot_of note))))

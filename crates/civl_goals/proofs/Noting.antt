@@ -4,6 +4,7 @@ use Rattle.std.proofs.lemmas.Bool.{and_parts, eq-eqb, ne_eqb, eqb-true, eqb-fals
 use Rattle.std.specs.Prelude.{◌||◌, ◌&&◌, nat_eq, is_some, if◌then◌else◌}
 use Rattle.std.specs.List.{find, list_any}
 use Rattle.std.proofs.lemmas.List.Folds.{list_any-append}
+use Rattle.std.proofs.Math.Bool.{or-false, or-true, or_assoc}
 use Rattle.civl_tree.specs.declared.program.Program.{Program}
 use Rattle.civl_tree.specs.Numbering.{proc_item}
 use Rattle.civl_outlines.specs.declared.outline.Note.{Note}
@@ -33,18 +34,6 @@ symmetric a b = by_test (nat_eq a b) refl
     by_test true e = e ∙ sym (eq-eqb b a (sym (eqb-true a b e)))
     by_test false e = e ∙ sym (ne_eqb b a (λ h. eqb-false a b e (sym h)))
 
-pub or_false : (x : Bool) → (x || false) ≡ x
-or_false true = refl
-or_false false = refl
-
-or_true : (x : Bool) → (x || true) ≡ true
-or_true true = refl
-or_true false = refl
-
-or_join : (x y z : Bool) → ((x || y) || z) ≡ (x || (y || z))
-or_join true y z = refl
-or_join false y z = refl
-
 -- ---- sets
 
 spots_equal : (a b : Spot) → same_spot a b ≡ true → a ≡ b
@@ -58,10 +47,10 @@ with_has : (b : Bool) (spots : List Spot) (new spot : Spot) → has_spot spots n
 with_has true spots new spot e = by_same (same_spot spot new) refl
   where
     by_same : (t : Bool) → same_spot spot new ≡ t → has_spot spots spot ≡ (has_spot spots spot || t)
-    by_same false h = sym (or_false (has_spot spots spot))
-    by_same true h = ap (has_spot spots) (spots_equal spot new h) ∙ e ∙ sym (or_true (has_spot spots spot))
+    by_same false h = sym (or-false (has_spot spots spot))
+    by_same true h = ap (has_spot spots) (spots_equal spot new h) ∙ e ∙ sym (or-true (has_spot spots spot))
 with_has false spots new spot e =
-    list_any-append (same_spot spot) spots (new ∷ []) ∙ ap (λ (b : Bool). has_spot spots spot || b) (or_false (same_spot spot new))
+    list_any-append (same_spot spot) spots (new ∷ []) ∙ ap (λ (b : Bool). has_spot spots spot || b) (or-false (same_spot spot new))
 
 pub added_has : (spots : List Spot) (new spot : Spot) → has_spot (with_spot spots new) spot ≡ (has_spot spots spot || same_spot spot new)
 added_has spots new spot = with_has (has_spot spots new) spots new spot refl
@@ -70,11 +59,11 @@ abbrev pub any_there : List Note → Spot → Bool
 any_there notes spot = list_any (λ note. same_spot spot (spot_of note)) notes
 
 notes_have : (spots : List Spot) (notes : List Note) (spot : Spot) → has_spot (with_notes spots notes) spot ≡ (has_spot spots spot || any_there notes spot)
-notes_have spots [] spot = sym (or_false (has_spot spots spot))
+notes_have spots [] spot = sym (or-false (has_spot spots spot))
 notes_have spots (note ∷ notes) spot =
     notes_have (with_spot spots (spot_of note)) notes spot
     ∙ ap (λ (b : Bool). b || any_there notes spot) (added_has spots (spot_of note) spot)
-    ∙ or_join (has_spot spots spot) (same_spot spot (spot_of note)) (any_there notes spot)
+    ∙ or_assoc (has_spot spots spot) (same_spot spot (spot_of note)) (any_there notes spot)
 
 -- ---- notes
 

@@ -1,9 +1,10 @@
 -- The cuts among statements are as many as the cut points in them.
-use Rattle.std.proofs.Common.{◌≡◌, ℕ, suc, ◌+◌, List, [], ◌∷◌, ◌++◌, map, sum, take, length, None, Some, refl, sym, ap, ap₂, ◌∙◌, subst, arith}
-use Rattle.std.specs.Prelude.{Option}
+use Rattle.std.proofs.Common.{◌≡◌, ℕ, suc, ◌+◌, List, [], ◌∷◌, ◌++◌, map, sum, take, length, None, Some, refl, sym, ap, ap₂, ◌∙◌, subst, arith, zero, ◌≤◌}
+use Rattle.std.specs.Prelude.{Option, slice_get}
 use Rattle.std.specs.List.{flat_map}
 use Rattle.std.proofs.lemmas.List.{length-append}
 use Rattle.std.proofs.lemmas.List.Sums.{sum_by-cons}
+use Rattle.std.proofs.lemmas.Option.{none-some, same_Some}
 use Rattle.civl_tree.specs.declared.stmt.Stmt.{Stmt, roll-Stmt, out-roll-Stmt, map-Stmt}
 use Rattle.civl_tree.specs.declared.stmt.Stmt.TheOpen.{Stmt-F, If, While, YieldLoop, RankLoop, Yield}
 use Rattle.civl_tree.specs.declared.stmt.Stmt.TheFolds.{fold-Stmt, fold-roll-Stmt, ind-Stmt}
@@ -83,3 +84,8 @@ all_counted (proc ∷ procs) =
 
 pub cuts_before_are_counted : CutsBeforeAreCounted
 cuts_before_are_counted program place = all_counted (take place program.procs)
+
+pub within_all : (procs : List Proc) (number : ℕ) (proc : Proc) → slice_get procs number ≡ Some proc → length (proc_cuts proc) ≤ length (flat_map proc_cuts procs)
+within_all [] number proc e = absurd (none-some proc e)
+within_all (p ∷ ps) zero proc e = subst (λ (q : Proc). length (proc_cuts q) ≤ length (proc_cuts p ++ flat_map proc_cuts ps)) (same_Some p proc e) (omega (arith, length-append (proc_cuts p) (flat_map proc_cuts ps)))
+within_all (p ∷ ps) (suc number) proc e = omega (arith, length-append (proc_cuts p) (flat_map proc_cuts ps), within_all ps number proc e)

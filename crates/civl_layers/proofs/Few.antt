@@ -1,11 +1,12 @@
 -- A program that keeps E12 has few cuts.
-use Rattle.std.proofs.Common.{◌≡◌, ℕ, zero, suc, ◌+◌, ◌≤◌, Bool, true, false, ◌&&◌, ◌||◌, List, [], ◌∷◌, map, sum, take, Some, refl, subst, arith, slice_get}
+use Rattle.std.proofs.Common.{◌≡◌, ℕ, zero, suc, ◌+◌, ◌≤◌, Bool, true, false, ◌||◌, List, [], ◌∷◌, map, sum, take, Some, refl, subst, arith, slice_get}
 use Rattle.std.specs.Prelude.{nat_le, nat_lt}
 use Rattle.std.proofs.lemmas.Bool.{ltb-false, le-leb}
 use Rattle.std.proofs.lemmas.List.Sums.{sum_by-cons}
 use Rattle.civl_tree.specs.declared.program.Proc.{Proc}
 use Rattle.civl_tree.specs.declared.program.Program.{Program}
 use Rattle.civl_tree.specs.rules.Count.{cut_limit, cuts_of, first_over, proc_count}
+use Rattle.civl_tree.proofs.Bools.{not_second}
 use Rattle.civl_layers.specs.CutCounts.{CutsAreFew}
 use Rattle.civl_layers.proofs.Counting.{all_counted}
 
@@ -14,10 +15,6 @@ points_of procs = sum (map cuts_of procs)
 
 points_first : (proc : Proc) (procs : List Proc) → points_of (proc ∷ procs) ≡ cuts_of proc + points_of procs
 points_first proc procs = sum_by-cons (λ (n : ℕ). n) (cuts_of proc) (map cuts_of procs)
-
-not_second : (a b : Bool) → a ≡ true → (a && b) ≡ false → b ≡ false
-not_second true b h k = k
-not_second false b h k = absurd cc
 
 -- a sum that is within the limit, and isn't the first over it with one more, is within it with that one
 stays : (before after : ℕ) → before ≤ cut_limit → first_over cut_limit before after ≡ false → after ≤ cut_limit

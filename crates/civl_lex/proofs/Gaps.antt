@@ -4,6 +4,7 @@ use Rattle.std.specs.Prelude.{nat_eq, ◌==◌}
 use Rattle.std.specs.List.{after_first, starts_with, flat_map, AllByRecursion, prefix_len}
 use Rattle.std.proofs.lemmas.Bool.{and_parts, or_parts, cond-true, cond-false, not_from_false, eqb-true, eq-eqb, and_from, false≢true}
 use Rattle.std.proofs.lemmas.List.{drop-drop, take_rest}
+use Rattle.std.proofs.Math.Bool.{and-false}
 use Rattle.civl_lex.specs.Front.{behind, behind_gap}
 use Rattle.civl_lex.specs.Gap.{is_blank, is_one_line, Piece, Blank, Comment, IsPiece, piece_text, IsGap, IsOpenComment, IsLastGap, opens_comment, opens_gap}
 
@@ -27,13 +28,9 @@ opens_is [] h = absurd cc
 opens_is (a ∷ []) h = absurd cc
 opens_is (a ∷ b ∷ bytes) h = let parts = opens_is_at a b bytes h in rw (parts.0, parts.1) refl
 
-and_false : (b : Bool) → (b && false) ≡ false
-and_false true = refl
-and_false false = refl
-
 pub starts_is_opens : (bytes : List ℕ) → starts_with nat_eq bytes (47 ∷ 47 ∷ []) ≡ true → opens_comment bytes ≡ true
 starts_is_opens [] h = absurd cc
-starts_is_opens (a ∷ []) h = absurd (false≢true (sym (and_false (eqb 47 a)) ∙ h))
+starts_is_opens (a ∷ []) h = absurd (false≢true (sym (and-false (eqb 47 a)) ∙ h))
 starts_is_opens (a ∷ b ∷ bytes) h =
     let parts = and_parts (eqb 47 a) (eqb 47 b && true) h in
     let more = and_parts (eqb 47 b) true parts.1 in

@@ -2,6 +2,7 @@
 use Rattle.std.specs.Prelude.{codes}
 use Rattle.std.proofs.Common.{◌≡◌, ℕ, inl, inr, List, [], ◌∷◌, ◌++◌, refl, sym, ◌∙◌, subst, arith}
 use Rattle.civl_tree.specs.declared.program.Program.{Program}
+use Rattle.civl_tree.proofs.Lists.{one_first}
 use Rattle.civl_verdicts.specs.declared.verdict.Verdict.{Verdict}
 use Rattle.civl_verdicts.specs.declared.verdict.Verdict.TheVariants as verdict
 use Rattle.civl_verdicts.specs.verdict_reports.Verdicts.{verdict_text}
@@ -19,9 +20,6 @@ use Rattle.civl_lift_command.specs.Promises.{LiftsAlone}
 -- a text begins with `lifted`
 abbrev Begins : List ℕ → Type 0
 Begins text = (rest : List ℕ) × (text ≡ codes "lifted" ++ rest)
-
-one_first : (x y : ℕ) (xs ys : List ℕ) → x ∷ xs ≡ y ∷ ys → x ≡ y
-one_first x y xs ys e = cc
 
 -- nor does one that begins with another byte
 refused_first : (xs : List ℕ) → Begins (114 ∷ xs) → ⊥

@@ -2,6 +2,7 @@
 use Rattle.std.specs.Prelude.{Some, IsTrue}
 use Rattle.std.proofs.Common.{◌≡◌, ℕ, ◌<◌, ◌≤◌, ◌⊎◌, inl, inr, List, [], length, refl, sym, ap, ◌∙◌, subst, arith}
 use Rattle.std.specs.Io.KnownBytes.{Appends}
+use Rattle.std.proofs.lemmas.Bool.{and_parts}
 use Rattle.civl_outside.specs.Count.{Stayed}
 use Rattle.civl_tree.specs.SpellingDomain.{allows_program}
 use Rattle.civl_tree.specs.declared.script.Script.{Script}
@@ -27,7 +28,6 @@ use Rattle.civl_lift_command.specs.Report.{usage_text, lifted_text, spent_text}
 use Rattle.civl_lift_command.specs.Judge.{Reads, JudgesInput, Fails, Judges, Explains}
 use Rattle.civl_lift_command.specs.Promises.{GivesFailure, LiftsRightly, RejectsRightly, LeavesLiftOpen, LeavesOpenRightly, RefusesRightly, AnswersAs, IsComplete}
 use Rattle.civl_lift_command.proofs.Asking.{one_budget}
-use Rattle.civl_lift_command.proofs.Running.{both}
 use Rattle.civl_lift_command.proofs.Agreeing.{one_outcome}
 use Rattle.civl_lift_command.proofs.Ways.{done_way, rejected_way, IsOpen, IsUnended, undecided_way}
 
@@ -78,7 +78,7 @@ report_is outcome one is = ap report_of is
 -- ---- what a script gives
 
 pub script_written : (input : List ℕ) (script : Script) → SpellsScript input script → IsTrue (allows_program script.program)
-script_written input script h = (both (allows_program script.program) _ h.spells.spelled.0).0
+script_written input script h = (and_parts (allows_program script.program) _ h.spells.spelled.0).0
 
 given_preserves : AcceptedProgramsPreserve → (input : List ℕ) (script : Script) → length input ≤ limit → SpellsScript input script → IsAccepted script.program → Preserves script.program
 given_preserves law input script short spells accepted =

@@ -1,9 +1,10 @@
 -- What a trace says of failing.
-use Rattle.std.proofs.Common.{ℕ, ◌≡◌, ◌+◌, Bool, true, false, ◌||◌, ◌&&◌, not, List, [], ◌∷◌, length, Option, None, Some, refl, sym, ap, ap₂, ◌∙◌, arith, inl, inr}
-use Rattle.std.specs.Prelude.{is_some, is_none, nat_lt, if◌then◌else◌}
-use Rattle.std.specs.List.{list_any, position, position_or_len, All}
+use Rattle.std.proofs.Common.{ℕ, ◌≡◌, ◌+◌, Bool, true, false, ◌&&◌, List, [], ◌∷◌, length, Option, None, Some, refl, sym, ap, ap₂, ◌∙◌, arith}
+use Rattle.std.specs.Prelude.{is_some, is_none, if◌then◌else◌}
+use Rattle.std.specs.List.{All}
 use Rattle.std.proofs.lemmas.Option.{none-some}
-use Rattle.std.proofs.lemmas.Bool.{cases_lt, lt-ltb, le-ltb}
+use Rattle.std.proofs.lemmas.Bool.{and_parts}
+use Rattle.civl_tree.proofs.Lists.{some_position}
 use Rattle.civl_firing.specs.declared.store.Store.{Store}
 use Rattle.civl_meaning.specs.declared.config.Plain.{Plain}
 use Rattle.civl_meaning.specs.declared.config.Config.{Config}
@@ -19,29 +20,6 @@ use Rattle.civl_script.specs.declared.replays.trace.Trace.{Trace}
 use Rattle.civl_lifting.specs.Lifted.{FailsBy}
 
 -- ---- there is a first one that passes where any does
-
-some_at : (b : Bool) (n : ℕ) → is_some (if b then Some n else None) ≡ b
-some_at true n = refl
-some_at false n = refl
-
-next_less : (a n : ℕ) → nat_lt (1 + a) (1 + n) ≡ nat_lt a n
-next_less a n = elim (cases_lt a n) [
-  | inl h ↦ lt-ltb (1 + a) (1 + n) (omega (arith, h)) ∙ sym (lt-ltb a n h)
-  | inr h ↦ le-ltb (1 + a) (1 + n) (omega (arith, h)) ∙ sym (le-ltb a n h)
-]
-
-some_within : {A : Type 0} (p : A → Bool) (xs : List A) → nat_lt (position_or_len p xs) (length xs) ≡ list_any p xs
-some_within p [] = refl
-some_within p (x ∷ xs) = go (p x) (some_within p xs)
-  where
-    go : (b : Bool) → nat_lt (position_or_len p xs) (length xs) ≡ list_any p xs → nat_lt (if not b then 1 + position_or_len p xs else 0) (length (x ∷ xs)) ≡ (b || list_any p xs)
-    go true ih = lt-ltb 0 (length (x ∷ xs)) (omega arith)
-    go false ih =
-        let count : length (x ∷ xs) ≡ 1 + length xs = omega arith in
-        ap (λ (n : ℕ). nat_lt (1 + position_or_len p xs) n) count ∙ (next_less (position_or_len p xs) (length xs) ∙ ih)
-
-some_position : {A : Type 0} (p : A → Bool) (xs : List A) → is_some (position p xs) ≡ list_any p xs
-some_position p xs = some_at (nat_lt (position_or_len p xs) (length xs)) (position_or_len p xs) ∙ some_within p xs
 
 -- so some thread fails just where there is a least one that does
 pub least_fails : (plain : Plain) (config : Config) → is_some (failing_thread plain config) ≡ is_failing plain config
@@ -68,11 +46,6 @@ all_made plain (m ∷ ms) k from e =
 
 -- ---- failing, and its trace
 
-pub both : (a b : Bool) → (a && b) ≡ true → (a ≡ true) × (b ≡ true)
-both true true e = (refl, refl)
-both true false e = absurd cc
-both false b e = absurd cc
-
 none_is : (o : Option Stepped) → is_none o ≡ true → o ≡ None
 none_is None e = refl
 none_is (Some a) e = absurd cc
@@ -95,7 +68,7 @@ module _ (plain : Plain) (store : Store) (moves : List Move) where
     -- the trace of moves that aren't stopped, at whose end some thread fails
     pub fails_by : All IsMove moves → (is_none trace.stopped && is_some trace.failing) ≡ true → FailsBy plain store moves
     fails_by are e =
-        let h = both (is_none trace.stopped) (is_some trace.failing) e in
+        let h = and_parts (is_none trace.stopped) (is_some trace.failing) e in
         record {
           are_moves = are;
           end = made.2;

@@ -1,7 +1,6 @@
 -- From a failing interleaving of a layer's program to one of the program of the next layer.
-use Rattle.std.proofs.Common.{ℕ, suc, ◌+◌, ◌≤◌, ◌≡◌, Bool, true, false, ◌||◌, List, [], ◌∷◌, length, Option, None, Some, refl, sym, ap, ◌∙◌, slice_get, arith, inl, inr}
+use Rattle.std.proofs.Common.{ℕ, ◌+◌, ◌≤◌, ◌≡◌, Bool, true, false, List, [], ◌∷◌, length, Option, None, Some, refl, sym, ap, ◌∙◌, slice_get, arith, inl, inr}
 use Rattle.std.specs.Prelude.{IsTrue, ◌⊎◌, if◌then◌else◌}
-use Rattle.std.specs.List.{list_any}
 use Rattle.std.specs.Option.{option_map_or}
 use Rattle.std.proofs.lemmas.Option.{same_Some, none-some}
 use Rattle.civl_tree.specs.declared.program.Program.{Program}
@@ -12,7 +11,7 @@ use Rattle.civl_meaning.specs.declared.config.Running.{Running}
 use Rattle.civl_meaning.specs.declared.config.Config.{Config}
 use Rattle.civl_meaning.specs.declared.config.Stepped.{Stepped}
 use Rattle.civl_meaning.specs.declared.config.Stepped.TheVariants as answer
-use Rattle.civl_meaning.specs.Failing.{thread_fails, is_failing}
+use Rattle.civl_meaning.specs.Failing.{is_failing}
 use Rattle.civl_meaning.specs.Layers.{program_at}
 use Rattle.civl_meaning.specs.Step.{start, step_of}
 use Rattle.civl_reduction.specs.interleavings.Systems.{Failing, System}
@@ -24,25 +23,13 @@ use Rattle.civl_reduction.specs.blocks.Challenged.{challenged}
 use Rattle.civl_reduction.specs.blocks.Reduces.{layer_threads}
 use Rattle.civl_reduction.specs.gathering.Gathered.{blocks}
 use Rattle.civl_reduction.proofs.gathering.Counting.{blocks_step}
-use Rattle.civl_reduction.specs.gathered.System.{made, there_fails, there_inside, layer_run}
+use Rattle.civl_reduction.specs.gathered.System.{made, there_inside, layer_run}
 use Rattle.civl_reduction.proofs.gathered.Moving.{fails_same}
 use Rattle.civl_reduction.proofs.gathered.Stages.{blocks_raised}
 use Rattle.civl_blocked.specs.Blocked.{IsTurned}
+use Rattle.civl_blocked.proofs.Failures.{any_fails}
 use Rattle.civl_followed.specs.Followed.{inside_at, ended, block_count, FailsInBlocks, FollowsBlocks}
 use Rattle.civl_lifting.specs.Lifted.{FailsBy}
-
--- ---- some thread fails
-
-any_place : {A : Type 0} (p : A → Bool) (xs : List A) → list_any p xs ≡ true → (i : ℕ) × (x : A) × (slice_get xs i ≡ Some x) × (p x ≡ true)
-any_place p [] e = absurd cc
-any_place {A = A} p (x ∷ xs) e = go (p x) refl e (λ h. any_place p xs h)
-  where
-    go : (b : Bool) → p x ≡ b → (b || list_any p xs) ≡ true → (list_any p xs ≡ true → (i : ℕ) × (y : A) × (slice_get xs i ≡ Some y) × (p y ≡ true)) → (i : ℕ) × (y : A) × (slice_get (x ∷ xs) i ≡ Some y) × (p y ≡ true)
-    go true h f ih = (0, x, refl, h)
-    go false h f ih = let r = ih f in (suc r.0, r.1, r.2, r.3)
-
-any_fails : (plain : Plain) (config : Config) → is_failing plain config ≡ true → (t : ℕ) × (there_fails plain config.store (slice_get config.threads t) ≡ true)
-any_fails plain config e = let r = any_place (thread_fails plain config.store) config.threads e in (r.0, ap (there_fails plain config.store) r.2 ∙ r.3)
 
 -- ---- a step that is made
 

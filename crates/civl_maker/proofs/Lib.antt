@@ -1,4 +1,3 @@
 pub mod Listed
 pub mod Asking
-pub mod Modes
 pub mod Making

@@ -1,16 +1,14 @@
 -- What is made in a graph of its own is the term of its formula.
-use Rattle.std.specs.Prelude.{slice_get, All, IsTrue}
-use Rattle.std.proofs.Common.{◌≡◌, ◌∙◌, ◌+◌, ◌*◌, ◌≤◌, List, [], sym, ap, subst, arith, Some}
+use Rattle.std.specs.Prelude.{All, IsTrue}
+use Rattle.std.proofs.Common.{◌≡◌, ◌+◌, ◌*◌, ◌≤◌, List, [], sym, ap, subst, arith}
 use Rattle.civl_tree.specs.declared.expr.Sort.{Sort}
 use Rattle.civl_tree.specs.declared.program.Program.{Program}
 use Rattle.civl_tree.specs.rules.Rules.{Keeps}
 use Rattle.civl_tree.specs.rules.Typing.{typing_rules}
 use Rattle.civl_firing.specs.values.Values.{is_sort}
 use Rattle.civl_terms.specs.declared.node.Node.{Node}
-use Rattle.civl_terms.specs.declared.node.Node.TheVariants.{Variable}
 use Rattle.civl_terms.specs.Weights.{graph_weight}
 use Rattle.civl_conditions.specs.declared.condition.Condition.{Condition}
-use Rattle.civl_states.specs.formula_parts.Given.{AreVariablesOf}
 use Rattle.civl_states.specs.Formulas.{IsFormula, sorts_of}
 use Rattle.civl_states.specs.Stores.{global_sorts}
 use Rattle.civl_states.proofs.Limits.{global_sorts_are}
@@ -18,10 +16,6 @@ use Rattle.civl_verdicts.specs.Formulas.{Formula, initial_formula, violation_for
 use Rattle.civl_verdicts.specs.declared.judging.formula.Made.{Made}
 use Rattle.civl_verdicts.specs.judging.Made.{IsMade}
 use Rattle.civl_verdicts.proofs.findings.Sorted.{variables_have_sorts}
-
--- an empty graph has no variables
-pub no_variables : (ns : List Node) (sorts : List Sort) → ns ≡ [] → AreVariablesOf ns sorts
-no_variables ns sorts e i k s at = let none : slice_get [] i ≡ Some (Variable k s) = ap (λ (ms : List Node). slice_get ms i) (sym e) ∙ at in absurd (cc)
 
 made_of : (formula : Formula) (old : List Node) (made : Made) → old ≡ [] → made.sorts ≡ formula.sorts → IsFormula made.terms made.id formula.sorts formula.truth → All (λ s. IsTrue (is_sort s)) formula.sorts
     → graph_weight made.terms ≤ graph_weight old + 4 * formula.weight → IsMade formula made

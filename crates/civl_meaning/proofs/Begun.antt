@@ -1,10 +1,11 @@
 -- A program starts with one of its configurations.
-use Rattle.std.proofs.Common.{◌≡◌, ℕ, zero, suc, Bool, true, false, ◌||◌, List, [], ◌∷◌, length, refl, sym, ap, ◌∙◌, subst, Option, Some, None, slice_get}
+use Rattle.std.proofs.Common.{◌≡◌, ℕ, Bool, false, ◌||◌, List, length, refl, sym, ap, ◌∙◌, subst, Option, Some, None, slice_get}
 use Rattle.std.specs.Prelude.{All, is_none, nat_eq}
 use Rattle.std.specs.List.{list_any}
-use Rattle.std.proofs.lemmas.Bool.{false≢true, not-false, or_parts, eqb-true, eq-eqb}
+use Rattle.std.proofs.lemmas.Bool.{not-false, or_parts, eqb-true, eq-eqb}
 use Rattle.std.proofs.lemmas.List.{length-map}
-use Rattle.std.proofs.lemmas.List.Elements.{All-nil, All-cons, All-map}
+use Rattle.std.proofs.lemmas.List.Elements.{All-map}
+use Rattle.std.proofs.lemmas.Map.Keys.{any_passes_from_place}
 use Rattle.civl_tree.specs.declared.name.Name.{Name}
 use Rattle.civl_tree.specs.declared.expr.Expr.{Expr}
 use Rattle.civl_tree.specs.declared.program.Global.{Global}
@@ -22,6 +23,8 @@ use Rattle.civl_tree.specs.rules.Unknown.{any_unknown}
 use Rattle.civl_tree.specs.rules.Arity.{thread_arity}
 use Rattle.civl_tree.specs.rules.Typing.{typing_rules, unknown_rule, width_rule, sort_rule, index_rule, arity_rule}
 use Rattle.civl_tree.proofs.Kept.{thread_kept, unknown_among, width_among, sort_among, index_among, arity_among}
+use Rattle.civl_tree.proofs.Options.{some_of}
+use Rattle.civl_tree.proofs.Lists.{all_by_get}
 use Rattle.civl_firing.specs.declared.store.Store.{Store}
 use Rattle.civl_meaning.specs.declared.config.Plain.{Plain}
 use Rattle.civl_firing.specs.values.Values.{HaveSorts}
@@ -47,10 +50,6 @@ globals_sorted program store h =
     let f = found_alone (λ (g : Global). g.name) (λ (g : Global). g.sort) program.globals store.values h in
     record { names = f; olds = f }
 
-some_of : {A : Type 0} (o : Option A) → is_none o ≡ false → (x : A) × (o ≡ Some x)
-some_of None e = absurd (false≢true (sym e))
-some_of (Some x) e = (x, refl)
-
 -- the arguments of a thread of this procedure
 thread_args : (program : Program) (store : Store) → IsStore program.globals store → (args : List Expr) (o : Option Proc) (p : Proc) → o ≡ Some p →
     any_missorted (argument_uses (global_scope program) args (taken_sorts (proc_signature_of o))) ≡ false →
@@ -65,15 +64,6 @@ thread_args program store h args (Some q) p e m w i n =
     subst (λ (x : Proc). HaveSorts (values_of (global_values program.globals store) args) (param_sorts x.params)) r
     (args_have_sorts (global_values program.globals store) (global_scope program) (globals_sorted program store h) args (param_sorts q.params) m w i same)
 
-list_any_get : {A : Type 0} (p : A → Bool) (xs : List A) (i : ℕ) (x : A) → slice_get xs i ≡ Some x → p x ≡ true → list_any p xs ≡ true
-list_any_get p [] i x e h = absurd (cc)
-list_any_get p (y ∷ ys) zero x e h = let r : y ≡ x = cc in let k : p y ≡ true = ap p r ∙ h in rw k refl
-list_any_get p (y ∷ ys) (suc i) x e h = later (p y) (list_any_get p ys i x e h)
-  where
-    later : (b : Bool) → list_any p ys ≡ true → (b || list_any p ys) ≡ true
-    later true k = refl
-    later false k = k
-
 thread_begun : (plain : Plain) (store : Store) → IsPlain plain → IsStore plain.program.globals store → (i : ℕ) (t : Thread) → slice_get plain.program.threads i ≡ Some t → IsBegun plain (begun plain.program store t)
 thread_begun plain store ok h i t at =
     let program = plain.program in
@@ -83,12 +73,8 @@ thread_begun plain store ok h i t at =
       proc = p.0;
       there = proc_is program t.callee ∙ p.1;
       args = thread_args program store h t.args (proc_named program t.callee) p.0 p.1 (thread_kept typing_rules program ok.rules sort_rule sort_among i t at) (thread_kept typing_rules program ok.rules width_rule width_among i t at) (thread_kept typing_rules program ok.rules index_rule index_among i t at) (thread_kept typing_rules program ok.rules arity_rule arity_among i t at);
-      begins = ap (λ (b : Bool). b || list_any (λ (p : Proc). list_any (spawns program (proc_number program t.callee)) (statements_of p.body)) program.procs) (list_any_get (λ (x : Thread). nat_eq (proc_number program x.callee) (proc_number program t.callee)) program.threads i t at (eq-eqb (proc_number program t.callee) (proc_number program t.callee) refl));
+      begins = ap (λ (b : Bool). b || list_any (λ (p : Proc). list_any (spawns program (proc_number program t.callee)) (statements_of p.body)) program.procs) (any_passes_from_place (λ (x : Thread). nat_eq (proc_number program x.callee) (proc_number program t.callee)) program.threads i t at (eq-eqb (proc_number program t.callee) (proc_number program t.callee) refl));
     }
-
-all_by_get : {A : Type 0} (P : A → Type 0) (xs : List A) → ((i : ℕ) (x : A) → slice_get xs i ≡ Some x → P x) → All P xs
-all_by_get P [] f = All-nil P
-all_by_get P (x ∷ xs) f = All-cons P x xs (f zero x refl) (all_by_get P xs (λ i y e. f (suc i) y e))
 
 pub start_is_of : StartIsOf
 start_is_of plain store ok h =

@@ -1,5 +1,5 @@
 -- What stands among statements, one statement at a time.
-use Rattle.std.proofs.Common.{◌≡◌, ℕ, ◌+◌, ◌<◌, List, ◌∷◌, drop, length, get_or, refl, ap, ◌∙◌, add-one, drop-cons, Option}
+use Rattle.std.proofs.Common.{◌≡◌, ℕ, ◌+◌, ◌<◌, List, ◌∷◌, refl, ap, ◌∙◌, Option}
 use Rattle.std.proofs.lemmas.Bool.{lt-ltb, eq-eqb, ne_eqb}
 use Rattle.std.specs.Prelude.{nat_lt, nat_eq, if◌then◌else◌}
 use Rattle.civl_tree.specs.declared.stmt.Stmt.{Stmt, the_lemmas as of_stmt}
@@ -31,8 +31,5 @@ among_here s ss at next after wanted h e = among_is s ss at next after wanted �
 -- inside it
 pub among_inside : (s : Stmt) (ss : List Stmt) (at next : ℕ) (after : Option Spot) (wanted : ℕ) → wanted < at + size_of s → (wanted ≡ at → ⊥) → spot_among (s ∷ ss) at next after wanted ≡ inside_of s s at (start_of ss (at + size_of s) next) (first_in ss (at + size_of s) next after) wanted
 among_inside s ss at next after wanted h e = among_is s ss at next after wanted ∙ rw (lt-ltb wanted (at + size_of s) h, ne_eqb wanted at e) refl
-
-pub drop_is : (ss : List Stmt) (i : ℕ) (s : Stmt) → i < length ss → s ≡ get_or ss i s → drop i ss ≡ s ∷ drop (i + 1) ss
-drop_is ss i s h e = rw (add-one, drop-cons ss i s, ← e)
 
 pub ruleset finding = (inside_is, of_stmt)

@@ -10,6 +10,9 @@ pub mod Putting
 pub mod Shifting
 pub mod Firsts
 pub mod Rests
+pub mod Bindings
+pub mod Bodies
+pub mod Left
 pub mod Resting
 pub mod Frames
 pub mod Begun

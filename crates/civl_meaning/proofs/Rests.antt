@@ -1,14 +1,16 @@
 -- A spot is the first of a rest.
-use Rattle.std.proofs.Common.{◌≡◌, ℕ, ◌+◌, Bool, true, false, List, [], ◌∷◌, ◌++◌, map, refl, sym, ap, ◌∙◌, subst, Option, None}
+use Rattle.std.proofs.Common.{◌≡◌, ℕ, ◌+◌, Bool, true, false, List, [], ◌∷◌, ◌++◌, map, refl, sym, ap, ◌∙◌, subst, Option, None, map-id}
 use Rattle.std.specs.Prelude.{nat_lt, nat_eq, if◌then◌else◌}
 use Rattle.civl_tree.specs.declared.stmt.Stmt.{Stmt, out-Stmt, roll-Stmt, roll-out-Stmt, out-roll-Stmt, map-Stmt}
 use Rattle.civl_tree.specs.declared.stmt.Stmt.TheOpen.{Stmt-F, If, While, YieldLoop, RankLoop}
 use Rattle.civl_tree.specs.declared.stmt.Stmt.TheFolds.{para-roll-Stmt, ind-Stmt}
-use Rattle.civl_meaning.specs.Places.{Spot, is_skipped, skip_layer, start_of, first_in, spot_among, inside_of, loop_spot}
+use Rattle.civl_meaning.specs.Places.{Spot, is_skipped, skip_layer, start_of, first_in, spot_among, inside_of, loop_spot, spot_at}
 use Rattle.civl_tree.specs.Numbering.{size_of, sizes_of, numbered}
+use Rattle.civl_tree.specs.declared.program.Proc.{Proc}
 use Rattle.civl_meaning.proofs.Placing.{inside_is, inside_layer}
 use Rattle.civl_meaning.proofs.Finding.{among_is}
-use Rattle.civl_meaning.specs.Rest.{Rest, Inner, firsts, rest_step, rest_inside, with_rest, rest_among, place_in, head_of, SpotOfRest}
+use Rattle.civl_meaning.specs.Left.{stmt_of}
+use Rattle.civl_meaning.specs.Rest.{Rest, Inner, firsts, rest_step, rest_inside, with_rest, rest_among, place_in, head_of, SpotOfRest, rest_at}
 
 firsts_with : (ss : List Stmt) → firsts (map with_rest ss) ≡ ss
 unfolding with_rest
@@ -107,10 +109,10 @@ agrees s =
     ∙ ap (λ (d : Stmt-F Stmt). head_of end (rest_layer d r at k wanted)) (sym q)
     ∙ ap (head_of end) (sym (rest_is r r at k wanted))) s
 
-map_same : (ss : List Stmt) → map (λ s. s) ss ≡ ss
-map_same [] = refl
-map_same (s ∷ ss) = ap (λ (r : List Stmt). s ∷ r) (map_same ss)
-
 pub spot_of_rest : SpotOfRest
 spot_of_rest body wanted =
-    subst (λ (ss : List Stmt). spot_among ss 0 (sizes_of body) None wanted ≡ head_of (sizes_of body) (rest_among ss 0 [] wanted)) (map_same body) (all_agree body (λ (s : Stmt). s) agrees (sizes_of body) 0 [] wanted)
+    subst (λ (ss : List Stmt). spot_among ss 0 (sizes_of body) None wanted ≡ head_of (sizes_of body) (rest_among ss 0 [] wanted)) (map-id body) (all_agree body (λ (s : Stmt). s) agrees (sizes_of body) 0 [] wanted)
+
+-- the statement at a place is the first one of what is still to run
+pub head_at : (proc : Proc) (place : ℕ) (k : Rest) (o : Option Stmt) → k ≡ rest_at proc.body place → ((end : ℕ) → o ≡ stmt_of (head_of end k)) → stmt_of (spot_at proc.body place) ≡ o
+head_at proc place k o e h = ap stmt_of (spot_of_rest proc.body place) ∙ (ap (λ (r : Rest). stmt_of (head_of (sizes_of proc.body) r)) (sym e) ∙ sym (h (sizes_of proc.body)))

@@ -55,13 +55,13 @@ goes plain m c d e p q = ap (λ (x : Stepped × Config). x.1) (sym q ∙ p)
 refused : (plain : Plain) (m : Move) (c d : Config) (a : Stepped) → step_of plain c m ≡ (a, c) → (a ≡ answer.Moved → ⊥) → step_of plain c m ≡ (answer.Moved, d) → ⊥
 refused plain m c d a e n p = n (ap (λ (x : Stepped × Config). x.0) (sym e ∙ p))
 
-no_thread : answer.NoThread ≡ answer.Moved → ⊥
+pub no_thread : answer.NoThread ≡ answer.Moved → ⊥
 no_thread e = cc
 
 ended : answer.Ended ≡ answer.Moved → ⊥
 ended e = cc
 
-bad_choices : answer.BadChoices ≡ answer.Moved → ⊥
+pub bad_choices : answer.BadChoices ≡ answer.Moved → ⊥
 bad_choices e = cc
 
 -- a move of the one thread

@@ -1,5 +1,5 @@
 -- What stands at a place doesn't depend on the numbers: statements may be numbered from elsewhere.
-use Rattle.std.proofs.Common.{◌≡◌, ℕ, zero, suc, ◌+◌, ◌-◌, ◌<◌, ◌≤◌, Bool, true, false, List, [], ◌∷◌, map, drop, length, get_or, refl, sym, ap, ◌∙◌, subst, Option, None, Some, arith, inl, inr}
+use Rattle.std.proofs.Common.{◌≡◌, ℕ, zero, suc, ◌+◌, ◌-◌, ◌<◌, ◌≤◌, Bool, true, false, List, [], ◌∷◌, map, drop, length, get_or, refl, sym, ap, ◌∙◌, subst, Option, None, Some, arith, inl, inr, map-id}
 use Rattle.std.proofs.lemmas.Bool.{cases_lt, lt-ltb, le-ltb}
 use Rattle.std.specs.Prelude.{nat_lt, if◌then◌else◌}
 use Rattle.civl_tree.specs.declared.stmt.Stmt.{Stmt, out-Stmt, roll-Stmt, out-roll-Stmt, map-Stmt, the_lemmas as of_stmt}
@@ -7,9 +7,10 @@ use Rattle.civl_tree.specs.declared.stmt.Stmt.TheOpen.{Stmt-F, If, While, YieldL
 use Rattle.civl_tree.specs.declared.stmt.Stmt.TheFolds.{ind-Stmt}
 use Rattle.civl_meaning.specs.Places.{Spot, is_skipped, first_in, start_of, spot_among, spot_at, inside_of, loop_spot}
 use Rattle.civl_tree.specs.Numbering.{size_of, sizes_of}
+use Rattle.civl_tree.proofs.Lists.{drop_is}
 use Rattle.civl_meaning.specs.Left.{stmt_of, alone, first_left, among_left, inside_left}
 use Rattle.civl_meaning.proofs.Placing.{inside_is, inside_layer}
-use Rattle.civl_meaning.proofs.Finding.{among_is, among_here, among_inside, drop_is}
+use Rattle.civl_meaning.proofs.Finding.{among_is, among_here, among_inside}
 
 if_below : (x y : ℕ) (p q : Option Spot) → x < y → stmt_of (if nat_lt x y then p else q) ≡ stmt_of p
 if_below x y p q h = rw (lt-ltb x y h) refl
@@ -91,14 +92,10 @@ alike s =
     ∙ ap (λ (d : Stmt-F Stmt). stmt_of (inside_layer d t at2 next2 b w2)) (sym q)
     ∙ ap stmt_of (sym (inside_is r t at2 next2 b w2))) s
 
-map_same : (ss : List Stmt) → map (λ s. s) ss ≡ ss
-map_same [] = refl
-map_same (s ∷ ss) = ap (λ (r : List Stmt). s ∷ r) (map_same ss)
-
 among_alike : (ss : List Stmt) (at next at2 next2 : ℕ) (x y : Option Spot) (w w1 w2 : ℕ) → w1 ≡ at + w → w2 ≡ at2 + w → stmt_of x ≡ stmt_of y →
     stmt_of (spot_among ss at next x w1) ≡ stmt_of (spot_among ss at2 next2 y w2)
 among_alike ss at next at2 next2 x y w w1 w2 e f al =
-    subst (λ (ts : List Stmt). stmt_of (spot_among ts at next x w1) ≡ stmt_of (spot_among ts at2 next2 y w2)) (map_same ss)
+    subst (λ (ts : List Stmt). stmt_of (spot_among ts at next x w1) ≡ stmt_of (spot_among ts at2 next2 y w2)) (map-id ss)
     (all_alike ss (λ s. s) alike at next at2 next2 x y w w1 w2 e f al)
 
 alone_is : (o : Option Stmt) → stmt_of (alone o) ≡ o

@@ -1,33 +1,16 @@
 -- What stands at a place stands at its own number too, and what comes next is a place of the body or its exit.
-use Rattle.std.proofs.Common.{◌≡◌, ℕ, ◌+◌, ◌<◌, ◌≤◌, Bool, true, false, List, [], ◌∷◌, map, refl, sym, ap, ◌∙◌, subst, Option, None, Some, ◌⊎◌, inl, inr, arith}
+use Rattle.std.proofs.Common.{◌≡◌, ℕ, ◌+◌, ◌<◌, ◌≤◌, Bool, true, false, List, [], ◌∷◌, map, refl, sym, ap, ◌∙◌, subst, Option, None, Some, ◌⊎◌, inl, inr, arith, map-id}
 use Rattle.std.specs.Prelude.{nat_lt, nat_eq, if◌then◌else◌}
 use Rattle.std.proofs.lemmas.Bool.{lt-ltb, le-ltb}
-use Rattle.std.proofs.lemmas.Grind.{common_steps}
-use Rattle.civl_tree.specs.declared.stmt.Stmt.{Stmt, out-Stmt, roll-Stmt, roll-out-Stmt, out-roll-Stmt, map-Stmt}
+use Rattle.civl_tree.specs.declared.stmt.Stmt.{Stmt, roll-Stmt, out-roll-Stmt, map-Stmt}
 use Rattle.civl_tree.specs.declared.stmt.Stmt.TheOpen.{Stmt-F, If, While, YieldLoop, RankLoop}
-use Rattle.civl_tree.specs.declared.stmt.Stmt.TheFolds.{fold-roll-Stmt, ind-Stmt}
+use Rattle.civl_tree.specs.declared.stmt.Stmt.TheFolds.{ind-Stmt}
 use Rattle.civl_meaning.specs.Places.{Spot, is_skipped, skip_layer, start_of, first_in, spot_among, spot_at, inside_of, loop_spot}
 use Rattle.civl_tree.specs.Numbering.{size_step, size_of, sizes_of}
+use Rattle.civl_tree.proofs.Sizes.{size_is, size_is_some}
+use Rattle.civl_tree.proofs.Numbers.{sizes_more}
 use Rattle.civl_meaning.proofs.Placing.{inside_is, inside_layer}
 use Rattle.civl_meaning.proofs.Finding.{among_is, among_here, among_inside}
-
--- ---- sizes
-
-pub sizes_more : (s : Stmt) (ss : List Stmt) → sizes_of (s ∷ ss) ≡ size_of s + sizes_of ss
-sizes_more s ss = grind (arith, common_steps)
-
-pub size_is : (s : Stmt) → size_of s ≡ size_step (map-Stmt Stmt ℕ size_of (out-Stmt s))
-size_is s = ap size_of (sym (roll-out-Stmt s)) ∙ fold-roll-Stmt ℕ size_step (out-Stmt s)
-
-layer_is_some : (d : Stmt-F ℕ) → 1 ≤ size_step d
-layer_is_some (If e a b) = omega arith
-layer_is_some (While e a) = omega arith
-layer_is_some (YieldLoop e i a) = omega arith
-layer_is_some (RankLoop e r i a) = omega arith
-layer_is_some _ = omega arith
-
-pub size_is_some : (s : Stmt) → 1 ≤ size_of s
-size_is_some s = let h = layer_is_some (map-Stmt Stmt ℕ size_of (out-Stmt s)) in let e = size_is s in omega arith
 
 -- ---- among statements
 
@@ -135,7 +118,7 @@ with_others s ss h at next after wanted =
       ]
     ]
 
-chosen : (P : Option Spot → Type 0) (b c : Bool) (x y z : Option Spot) → P x → P y → P z → P (if b then (if c then x else y) else z)
+pub chosen : (P : Option Spot → Type 0) (b c : Bool) (x y z : Option Spot) → P x → P y → P z → P (if b then (if c then x else y) else z)
 chosen P true true x y z p q r = p
 chosen P true false x y z p q r = q
 chosen P false c x y z p q r = r
@@ -228,13 +211,9 @@ finds s =
     let size = size_is t ∙ ap (λ (d : Stmt-F Stmt). size_step (map-Stmt Stmt ℕ size_of d)) q in
     subst (Inner t at next after) (sym (inside wanted)) (layer_finds y (λ z. z.0) (λ z. z.1) t (ap skip_layer q) size at next after wanted inside)) s
 
-map_same : (ss : List Stmt) → map (λ s. s) ss ≡ ss
-map_same [] = refl
-map_same (s ∷ ss) = ap (λ (r : List Stmt). s ∷ r) (map_same ss)
-
 own : (ss : List Stmt) (at next : ℕ) (after : Option Spot) (wanted : ℕ) → Own ss at next after (spot_among ss at next after wanted)
 own ss at next after wanted =
-    subst (λ (r : List Stmt). Own r at next after (spot_among r at next after wanted)) (map_same ss) (all_find ss (λ (s : Stmt). s) finds at next after wanted)
+    subst (λ (r : List Stmt). Own r at next after (spot_among r at next after wanted)) (map-id ss) (all_find ss (λ (s : Stmt). s) finds at next after wanted)
 
 -- ---- in a body
 

@@ -2,6 +2,7 @@
 use Rattle.std.proofs.Common.{◌≡◌, ℕ, zero, suc, ◌+◌, ◌-◌, ◌≤◌, Bool, true, false, List, [], ◌∷◌, ◌++◌, take, length, refl, sym, ap, ◌∙◌, subst, Option, None, Some, slice_get, slice_set, arith}
 use Rattle.std.specs.Prelude.{All, if◌then◌else◌}
 use Rattle.std.proofs.lemmas.List.Elements.{All-nil, All-cons, All-head, All-tail, All-set, All-push}
+use Rattle.std.proofs.lemmas.Option.{none-some, same_Some}
 use Rattle.civl_bits.specs.declared.value.Value.{Value}
 use Rattle.civl_tree.specs.declared.action.Action.{Action}
 use Rattle.civl_tree.specs.declared.name.Name.{Name}
@@ -31,11 +32,12 @@ use Rattle.civl_tree.specs.rules.Names.{names_in_proc, action_named}
 use Rattle.civl_firing.specs.Fired.{gate_holds, choices_fit, fired}
 use Rattle.civl_meaning.specs.Places.{Spot, spot_at}
 use Rattle.civl_tree.specs.Numbering.{size_step, size_of, sizes_of}
+use Rattle.civl_tree.proofs.Sizes.{size_is}
 use Rattle.civl_meaning.specs.Meaning.{Meaning, Does, Runs, Missing, meaning_of_action, refined, meaning_by, meaning_of, meaning_else, called, proc_number}
 use Rattle.civl_meaning.specs.Change.{new_frame, acted, action_change, call_change, layer_change, returned_at, returned_in, returned, leaves, outs_in, spot_change, proc_change, caller_of, state_change, change_of}
 use Rattle.civl_meaning.specs.Step.{thread_after, state_after, step_with, step_in}
 use Rattle.civl_meaning.specs.Config.{IsPlaced, IsBodyOf, LayerCalls, SpotCalls, ProcCalls, Waits, next_procedure, AreWaiting, IsStack, StateIsStacked, IsStacked, StepKeepsStacks, RunKeepsStacks}
-use Rattle.civl_meaning.proofs.Spots.{size_is, start_below, Stands, spot_stands}
+use Rattle.civl_meaning.proofs.Spots.{start_below, Stands, spot_stands}
 
 -- ---- what is called
 
@@ -43,7 +45,7 @@ action_runs_not : (o : Option Action) (n : ℕ) (p : Proc) → meaning_of_action
 action_runs_not None n p e = cc
 action_runs_not (Some a) n p e = cc
 
-refined_runs_not : (program : Program) (o : Option Refines) (n : ℕ) (p : Proc) → refined program o ≡ Runs n p → ⊥
+pub refined_runs_not : (program : Program) (o : Option Refines) (n : ℕ) (p : Proc) → refined program o ≡ Runs n p → ⊥
 refined_runs_not program None n p e = cc
 refined_runs_not program (Some r) n p e = action_runs_not (action_named program r.action) n p e
 
@@ -116,7 +118,7 @@ stack_enters plain callee below top waiting new e pw pn w h = record {
   waiting = waiting_more plain below waiting new (same_top plain below top waiting (sym e) h.waiting) w;
 }
 
-split_last : (below : List Activation) (f : Activation) → slice_get below (length below - 1) ≡ Some f → take (length below - 1) below ++ f ∷ [] ≡ below
+pub split_last : (below : List Activation) (f : Activation) → slice_get below (length below - 1) ≡ Some f → take (length below - 1) below ++ f ∷ [] ≡ below
 split_last [] f e = absurd (cc)
 split_last (g ∷ []) f e = let q : g ≡ f = cc in ap (λ (x : Activation). x ∷ []) (sym q)
 split_last (g ∷ (h ∷ fs)) f e =
@@ -347,3 +349,11 @@ run_keeps_stacks plain [] from to r h = subst (λ (c : Config). All (IsStacked p
 run_keeps_stacks plain (m ∷ ms) from to r h =
     let k : All (IsStacked plain) r.0.threads = subst (λ (s : Stepped × Config). All (IsStacked plain) s.1.threads) r.1 (step_keeps_stacks plain from m h) in
     run_keeps_stacks plain ms r.0 to r.2 k
+
+-- the last of the frames below waits for the one above
+pub last_waits : (plain : Plain) (below : List Activation) (top frame : Activation) → caller_of below ≡ Some frame → AreWaiting plain below top → Waits plain top.procedure frame
+last_waits plain [] top frame e w = absurd (none-some frame e)
+last_waits plain (g ∷ []) top frame e w = subst (Waits plain top.procedure) (same_Some g frame e) w.0
+last_waits plain (g ∷ (f ∷ fs)) top frame e w =
+    let n : length (g ∷ (f ∷ fs)) - 1 ≡ suc (length (f ∷ fs) - 1) = omega arith in
+    last_waits plain (f ∷ fs) top frame (ap (slice_get (g ∷ (f ∷ fs))) (sym n) ∙ e) w.1

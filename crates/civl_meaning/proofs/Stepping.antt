@@ -1,7 +1,8 @@
 -- What a step leaves as it is.
-use Rattle.std.proofs.Common.{ℕ, ◌≡◌, ◌<◌, List, [], ◌∷◌, ◌++◌, length, Option, Some, None, refl, ap, ◌∙◌, arith, zero, suc}
+use Rattle.std.proofs.Common.{ℕ, ◌≡◌, ◌<◌, List, [], ◌∷◌, ◌++◌, length, Option, Some, None, refl, ◌∙◌, arith, zero, suc}
 use Rattle.std.specs.Prelude.{slice_get, slice_set, ◌≢◌}
 use Rattle.std.proofs.lemmas.List.{length-set}
+use Rattle.civl_tree.proofs.Lists.{get_other}
 use Rattle.civl_meaning.specs.declared.config.Plain.{Plain}
 use Rattle.civl_meaning.specs.declared.config.Running.{Running}
 use Rattle.civl_meaning.specs.declared.config.Config.{Config}
@@ -26,13 +27,6 @@ refused_in plain c m (Some q) n = refused_with c m.thread q (change_of plain c.s
 
 pub refused_stays : RefusedStays
 refused_stays plain c m n = refused_in plain c m (slice_get c.threads m.thread) n
-
-get_other : {X : Type 0} (xs : List X) (i j : ℕ) (a : X) → j ≢ i → slice_get (slice_set xs i a) j ≡ slice_get xs j
-get_other [] i j a n = refl
-get_other (x ∷ xs) zero zero a n = absurd (n refl)
-get_other (x ∷ xs) zero (suc j) a n = refl
-get_other (x ∷ xs) (suc i) zero a n = refl
-get_other (x ∷ xs) (suc i) (suc j) a n = get_other xs i j a (λ e. n (ap (λ (k : ℕ). suc k) e))
 
 get_first : {X : Type 0} (xs ys : List X) (j : ℕ) → j < length xs → slice_get (xs ++ ys) j ≡ slice_get xs j
 get_first [] ys j h = absurd (omega arith)

@@ -6,20 +6,23 @@ use Rattle.std.proofs.lemmas.List.{length-set}
 use Rattle.std.proofs.lemmas.Option.{slice_get_past, slice_get-get_or}
 use Rattle.std.proofs.lemmas.Grind.{common_steps}
 use Rattle.civl_tree.specs.declared.expr.Expr.{Expr}
-use Rattle.civl_tree.specs.declared.stmt.Stmt.{Stmt, out-Stmt, map-Stmt, the_lemmas as of_stmt}
+use Rattle.civl_tree.specs.declared.stmt.Stmt.{Stmt, out-Stmt}
 use Rattle.civl_tree.specs.declared.stmt.Stmt as tree
 use Rattle.civl_tree.specs.declared.stmt.Stmt.TheOpen.{Stmt-F, If, While, YieldLoop, RankLoop}
-use Rattle.civl_tree.specs.Numbering.{size_step, size_of, sizes_of}
+use Rattle.civl_tree.specs.Numbering.{size_of, sizes_of}
 use Rattle.civl_tree.specs.declared.program.Proc.{Proc}
+use Rattle.civl_tree.proofs.Sizes.{size_is_some, if_out, while_out, yield_loop_out, rank_loop_out, sizes_within, size_if, size_while, size_yield_loop, size_rank_loop}
+use Rattle.civl_tree.proofs.Numbers.{sizes_more}
+use Rattle.civl_tree.proofs.Lists.{drop_is}
 use Rattle.civl_meaning.specs.declared.found.Found.{Found}
 use Rattle.civl_meaning.specs.declared.table.BodyPlaces.{BodyPlaces}
 use Rattle.civl_meaning.specs.Places.{Spot, start_of, first_in, spot_among, spot_at, inside_of, loop_spot}
 use Rattle.civl_meaning.specs.Found.{spot}
 use Rattle.civl_meaning.specs.Table.{IsFound, entry, found_in, ArePlacesOf}
 use Rattle.civl_meaning.specs.Filled.{Filled, here_spot}
-use Rattle.civl_meaning.proofs.Finding.{among_here, among_inside, drop_is}
+use Rattle.civl_meaning.proofs.Finding.{among_here, among_inside}
 use Rattle.civl_meaning.proofs.Placing.{inside_is, inside_layer}
-use Rattle.civl_meaning.proofs.Spots.{among_past, sizes_more, size_is, size_is_some}
+use Rattle.civl_meaning.proofs.Spots.{among_past}
 
 -- what is found at each place, as a spot
 abbrev There : Type 0
@@ -106,16 +109,6 @@ fills_more old es mid s ss here high next after x hh some room later inner found
 
 -- ---- one turn of the loop, which goes over the statements backward
 
-sizes_within : (ss : List Stmt) (i : ℕ) → sizes_of (take i ss) ≤ sizes_of ss
-sizes_within [] zero = omega arith
-sizes_within [] (suc i) = omega arith
-sizes_within (s ∷ ss) zero = omega arith
-sizes_within (s ∷ ss) (suc i) =
-    let h = sizes_within ss i in
-    let a = sizes_more s ss in
-    let b = sizes_more s (take i ss) in
-    omega arith
-
 sizes_next : (ss : List Stmt) (i left : ℕ) (s : Stmt) → left ≡ i + 1 → i < length ss → s ≡ get_or ss i s → sizes_of (take left ss) ≡ sizes_of (take i ss) + size_of s
 sizes_next ss i left s l h e = grind (arith, common_steps)
 
@@ -178,36 +171,8 @@ turned old es mid ss at left behind here next nx s after now x k room en ea late
 
 -- ---- inside a statement
 
-if_out : (e : Expr) (a b : List Stmt) → out-Stmt (tree.If e a b) ≡ If e a b
-if_out e a b = simp (of_stmt)
-
-while_out : (e : Expr) (a : List Stmt) → out-Stmt (tree.While e a) ≡ While e a
-while_out e a = simp (of_stmt)
-
-yield_loop_out : (e i : Expr) (a : List Stmt) → out-Stmt (tree.YieldLoop e i a) ≡ YieldLoop e i a
-yield_loop_out e i a = simp (of_stmt)
-
-rank_loop_out : (e r i : Expr) (a : List Stmt) → out-Stmt (tree.RankLoop e r i a) ≡ RankLoop e r i a
-rank_loop_out e r i a = simp (of_stmt)
-
-size_by : (s : Stmt) (d : Stmt-F Stmt) → out-Stmt s ≡ d → size_of s ≡ size_step (map-Stmt Stmt ℕ size_of d)
-size_by s d o = size_is s ∙ ap (λ (x : Stmt-F Stmt). size_step (map-Stmt Stmt ℕ size_of x)) o
-
-inside_by : (s : Stmt) (d : Stmt-F Stmt) (at next : ℕ) (after : Option Spot) (w : ℕ) → out-Stmt s ≡ d → inside_of s s at next after w ≡ inside_layer d s at next after w
+pub inside_by : (s : Stmt) (d : Stmt-F Stmt) (at next : ℕ) (after : Option Spot) (w : ℕ) → out-Stmt s ≡ d → inside_of s s at next after w ≡ inside_layer d s at next after w
 inside_by s d at next after w o = inside_is s s at next after w ∙ ap (λ (x : Stmt-F Stmt). inside_layer x s at next after w) o
-
-module _ (s : Stmt) where
-  pub size_if : (e : Expr) (a b : List Stmt) → s ≡ tree.If e a b → size_of s ≡ 1 + sizes_of a + sizes_of b
-  size_if e a b is = size_by s (If e a b) (ap out-Stmt is ∙ if_out e a b)
-
-  pub size_while : (e : Expr) (a : List Stmt) → s ≡ tree.While e a → size_of s ≡ 1 + sizes_of a
-  size_while e a is = size_by s (While e a) (ap out-Stmt is ∙ while_out e a)
-
-  pub size_yield_loop : (e i : Expr) (a : List Stmt) → s ≡ tree.YieldLoop e i a → size_of s ≡ 1 + sizes_of a
-  size_yield_loop e i a is = size_by s (YieldLoop e i a) (ap out-Stmt is ∙ yield_loop_out e i a)
-
-  pub size_rank_loop : (e r i : Expr) (a : List Stmt) → s ≡ tree.RankLoop e r i a → size_of s ≡ 1 + sizes_of a
-  size_rank_loop e r i a is = size_by s (RankLoop e r i a) (ap out-Stmt is ∙ rank_loop_out e r i a)
 
 pub fills_if : (s : Stmt) (e : Expr) (a b : List Stmt) (old mid new : List (Option Found)) (at next second : ℕ) (after : Option Spot) → s ≡ tree.If e a b → second ≡ at + 1 + sizes_of a →
     Filled old mid (at + 1) (at + 1 + sizes_of a) (spot_among a (at + 1) next after) → Filled mid new second (second + sizes_of b) (spot_among b second next after) →

@@ -1,7 +1,8 @@
 -- Whether two sequences of actions end alike, as tests that are all true.
 use Rattle.std.specs.Prelude.{All}
-use Rattle.std.proofs.Common.{◌≡◌, ℕ, Bool, true, false, ◌&&◌, List, [], ◌∷◌, refl, ap, ap₂}
+use Rattle.std.proofs.Common.{◌≡◌, ℕ, Bool, true, ◌&&◌, List, [], ◌∷◌, ap, ap₂}
 use Rattle.std.proofs.lemmas.List.Elements.{All-nil, All-cons}
+use Rattle.std.proofs.Math.Bool.{and-true}
 use Rattle.civl_bits.specs.declared.value.Value.{Value}
 use Rattle.civl_tree.specs.declared.action.Action.{Action}
 use Rattle.civl_tree.specs.declared.program.Program.{Program}
@@ -26,10 +27,6 @@ five_bools ns a b c d e p q r s t =
 pub six_bools : (ns : List Node) (a b c d e f : ℕ) → IsBool ns a → IsBool ns b → IsBool ns c → IsBool ns d → IsBool ns e → IsBool ns f → All (IsBool ns) (a ∷ b ∷ c ∷ d ∷ e ∷ f ∷ [])
 six_bools ns a b c d e f p q r s t u = All-cons (IsBool ns) a (b ∷ c ∷ d ∷ e ∷ f ∷ []) p (five_bools ns b c d e f q r s t u)
 
-true_last : (a : Bool) → (a && true) ≡ a
-true_last true = refl
-true_last false = refl
-
 -- outputs that say these values are the same
 pub same_outs : (old new : List Node) (xs ys : List ℕ) (id : ℕ) (a : Action) (f h : Env → List Value) → Grows old new
     → IsTest new id (λ env. same_values (values_at env old xs) (values_at env old ys)) → AreSaid old xs (out_sorts a) f → AreSaid old ys (out_sorts a) h
@@ -48,4 +45,4 @@ end_alike_is program layer g a i c b j d =
     ap (λ (x : Bool). guard_holds gs g b j d && (guard_holds gs (store_after gs g b j d) a i c
     && (same_stores (exists_at layer) program (store_after gs (store_after gs g a i c) b j d) (store_after gs (store_after gs g b j d) a i c)
     && (same_values (outs_after gs g a i c) (outs_after gs (store_after gs g b j d) a i c) && x))))
-    (true_last (same_values (outs_after gs (store_after gs g a i c) b j d) (outs_after gs g b j d)))
+    (and-true (same_values (outs_after gs (store_after gs g a i c) b j d) (outs_after gs g b j d)))

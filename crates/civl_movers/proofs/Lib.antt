@@ -5,3 +5,4 @@ pub mod Alike
 pub mod Arranging
 pub mod Pairing
 pub mod Listed
+pub mod Modes

@@ -1,5 +1,5 @@
 -- The listed conditions speak of actions that there are.
-use Rattle.std.specs.Prelude.{map, flat_map, length, All, if◌then◌else◌}
+use Rattle.std.specs.Prelude.{map, length, All, if◌then◌else◌}
 use Rattle.std.specs.List.{Contains}
 use Rattle.std.proofs.Common.{ℕ, ◌+◌, ◌<◌, ◌≤◌, ◌&&◌, Bool, true, false, List, [], ◌∷◌, ◌++◌, arith}
 use Rattle.std.proofs.lemmas.List.Elements.{All-nil, All-cons, All-append, All-map, All-contains}
@@ -12,6 +12,7 @@ use Rattle.civl_conditions.specs.declared.condition.Condition.TheVariants.{Start
 use Rattle.civl_conditions.specs.Steps.{each_at, each_cut, steps_to, step_invariants, begins_below, meet_below, lasts_through, has_layer}
 use Rattle.civl_layers.specs.Movers.{is_left, is_right}
 use Rattle.civl_conditions.specs.Listed.{starts, keeps, pair_of, fire_of, movers, parts_of, paths, targets, blocks, acts, at_step, conditions}
+use Rattle.civl_conditions.proofs.Everywhere.{all_flat, all_given, all_one}
 
 -- the actions of a condition are there
 abbrev pub HasActions : Program → Condition → Type 0
@@ -30,17 +31,6 @@ all_each : {A B : Type 0} (P : B → Type 0) (f : ℕ → A → List B) (at limi
 all_each P f at limit [] l h = All-nil P
 all_each P f at limit (x ∷ xs) l h = All-append P (f at x) (each_at f (at + 1) xs) (h at x (omega (arith, l))) (all_each P f (at + 1) limit xs (omega (arith, l)) h)
 
-all_flat : {A B : Type 0} (P : B → Type 0) (f : A → List B) (xs : List A) → ((x : A) → All P (f x)) → All P (flat_map f xs)
-all_flat P f [] h = All-nil P
-all_flat P f (x ∷ xs) h = All-append P (f x) (flat_map f xs) (h x) (all_flat P f xs h)
-
-all_given : {A : Type 0} (P : A → Type 0) (xs : List A) → ((x : A) → P x) → All P xs
-all_given P [] h = All-nil P
-all_given P (x ∷ xs) h = All-cons P x xs (h x) (all_given P xs h)
-
-one : {A : Type 0} (P : A → Type 0) (x : A) → P x → All P (x ∷ [])
-one P x h = All-cons P x [] h (All-nil P)
-
 module _ (program : Program) (step : ℕ) where
   abbrev There : Condition → Type 0
   There c = HasActions program c
@@ -49,17 +39,17 @@ module _ (program : Program) (step : ℕ) where
   count = length program.actions
 
   starts_there : All There (starts program step)
-  starts_there = all_each There (λ i e. Start step i ∷ []) 0 (length (step_invariants program step)) (step_invariants program step) (omega arith) (λ i e l. one There (Start step i) tt)
+  starts_there = all_each There (λ i e. Start step i ∷ []) 0 (length (step_invariants program step)) (step_invariants program step) (omega arith) (λ i e l. all_one There (Start step i) tt)
 
   keeps_there : All There (keeps program step)
   keeps_there =
       all_each There (λ x a. if begins_below step a then Keep step x ∷ [] else []) 0 count program.actions (omega arith)
-      (λ x a l. all_if There (begins_below step a) (Keep step x ∷ []) [] (one There (Keep step x) l) (All-nil There))
+      (λ x a l. all_if There (begins_below step a) (Keep step x ∷ []) [] (all_one There (Keep step x) l) (All-nil There))
 
   pair_there : (x : ℕ) (a : Action) (y : ℕ) (b : Action) → x < count → y < count → All There (pair_of step x a y b)
   pair_there x a y b l m =
-      let two = All-cons There (Pair 3 step x y) (Pair 4 step x y ∷ []) (l, m) (one There (Pair 4 step x y) (l, m)) in
-      let three = All-cons There (Pair 5 step x y) (Pair 6 step x y ∷ Pair 7 step x y ∷ []) (l, m) (All-cons There (Pair 6 step x y) (Pair 7 step x y ∷ []) (l, m) (one There (Pair 7 step x y) (l, m))) in
+      let two = All-cons There (Pair 3 step x y) (Pair 4 step x y ∷ []) (l, m) (all_one There (Pair 4 step x y) (l, m)) in
+      let three = All-cons There (Pair 5 step x y) (Pair 6 step x y ∷ Pair 7 step x y ∷ []) (l, m) (All-cons There (Pair 6 step x y) (Pair 7 step x y ∷ []) (l, m) (all_one There (Pair 7 step x y) (l, m))) in
       let right = if is_right a.mover then Pair 3 step x y ∷ Pair 4 step x y ∷ [] else [] in
       let left = if is_left a.mover then Pair 5 step x y ∷ Pair 6 step x y ∷ Pair 7 step x y ∷ [] else [] in
       all_if There (meet_below step a b) (right ++ left) []
@@ -67,7 +57,7 @@ module _ (program : Program) (step : ℕ) where
       (All-nil There)
 
   fire_there : (x : ℕ) (a : Action) → x < count → All There (fire_of step x a)
-  fire_there x a l = all_if There (is_left a.mover && begins_below step a) (Fire step x ∷ []) [] (one There (Fire step x) l) (All-nil There)
+  fire_there x a l = all_if There (is_left a.mover && begins_below step a) (Fire step x ∷ []) [] (all_one There (Fire step x) l) (All-nil There)
 
   movers_there : All There (movers program step)
   movers_there =

@@ -3,6 +3,7 @@ use Rattle.std.specs.Prelude.{filter, not, cond}
 use Rattle.std.specs.List.{list_all}
 use Rattle.std.proofs.Common.{◌≡◌, ◌∙◌, ℕ, ◌+◌, Bool, true, false, ◌&&◌, List, [], ◌∷◌, length, refl, sym, ap, ap₂, arith}
 use Rattle.std.proofs.lemmas.Bool.{false≢true, and_parts}
+use Rattle.std.proofs.Math.Bool.{and-true}
 use Rattle.civl_bits.specs.declared.value.Value.{Value}
 use Rattle.civl_tree.specs.declared.action.Action.{Action}
 use Rattle.civl_tree.specs.declared.action.Mode.{Mode}
@@ -47,10 +48,6 @@ outs_given (p ∷ ps) e =
 
 -- ---- K2
 
-true_last : (a : Bool) → (a && true) ≡ a
-true_last true = refl
-true_last false = refl
-
 pub loses_is : (program : Program) (g : Store) (a : Action) (i c : List Value)
     → (pairwise_disjoint (comes_in program a g i) && (gate_holds program.globals g a i && (guard_holds program.globals g a i c
     && (not (pairwise_disjoint (goes_out program a (store_after program.globals g a i c) i (outs_after program.globals g a i c))
@@ -59,5 +56,5 @@ pub loses_is : (program : Program) (g : Store) (a : Action) (i c : List Value)
 loses_is program g a i c =
     let lost : Store × List Value → Bool = λ s. not (pairwise_disjoint (goes_out program a s.0 i s.1) && included (goes_out program a s.0 i s.1) (comes_in program a g i)) in
     ap (λ (t : Bool). pairwise_disjoint (comes_in program a g i) && (gate_holds program.globals g a i && t))
-    (ap (λ (t : Bool). guard_holds program.globals g a i c && t) (true_last (lost (store_after program.globals g a i c, outs_after program.globals g a i c)))
+    (ap (λ (t : Bool). guard_holds program.globals g a i c && t) (and-true (lost (store_after program.globals g a i c, outs_after program.globals g a i c)))
     ∙ sym (fires_is program g a i c lost))

@@ -13,6 +13,7 @@ use Rattle.civl_tree.specs.declared.program.Program.{Program}
 use Rattle.civl_tree.specs.rules.Names.{names_in_proc}
 use Rattle.civl_tree.specs.rules.Scopes.{body_scope}
 use Rattle.civl_tree.specs.rules.Sorts.{sort_of}
+use Rattle.civl_tree.proofs.Lists.{heads}
 use Rattle.civl_firing.specs.Eval.{value_of}
 use Rattle.civl_firing.specs.Scope.{frame_values}
 use Rattle.civl_firing.specs.Truth.{place_of}
@@ -30,7 +31,7 @@ use Rattle.civl_moves.specs.declared.plain.Gated.{Gated}
 use Rattle.civl_terms.proofs.Growing.{grows_trans}
 use Rattle.civl_states.proofs.formula_parts.Saying.{test_stays}
 use Rattle.civl_actions.proofs.Listing.{are_written}
-use Rattle.civl_actions.proofs.Staying.{are_stay, map_values, values_stay}
+use Rattle.civl_actions.proofs.Staying.{are_stay, map_values, values_stay, map_sorts}
 use Rattle.civl_conditions.specs.Weights.{summed, weights_of}
 use Rattle.civl_states.specs.formula_parts.Said.{Env, IsTest}
 use Rattle.civl_moves.specs.Expressions.{IsBodyTerm}
@@ -75,9 +76,6 @@ results_values f names ids (r ∷ rs) [] = refl
 results_values f names ids (r ∷ rs) (o ∷ outs) =
     results_values f names (slice_set ids (place_of names r) o) rs outs ∙ ap (λ (vs : List Value). with_results names vs rs (map f outs)) (map_set f ids (place_of names r) o)
 
-heads : (a b : Option Sort) (os ps : List (Option Sort)) → a ∷ os ≡ b ∷ ps → (a ≡ b) × (os ≡ ps)
-heads a b os ps e = (cc, cc)
-
 pub results_sorts : (ns : List Node) (proc : Proc) (ids : List ℕ) (rs : List Name) (outs : List ℕ) (ss : List Sort) → AreOf ns ids (frame_sorts proc) → AreOf ns outs ss → ResultsSuit proc rs ss → AreOf ns (with_outs_of (names_in_proc proc) ids rs outs) (frame_sorts proc)
 results_sorts ns proc ids [] outs ss h k suit = h
 results_sorts ns proc ids (r ∷ rs) [] ss h k suit = h
@@ -107,10 +105,6 @@ ids_within ns (i ∷ ids) (o ∷ os) h f zero id e =
     let q : i ≡ id = cc in
     subst (λ k. k < length ns) q (some_within ns i (subst (λ (x : Option Sort). IsSome x) (sym p.0) (f 0 o refl)))
 ids_within ns (i ∷ ids) (o ∷ os) h f (suc place) id e = ids_within ns ids os (heads (sort_at ns i) o (map (sort_at ns) ids) os h).1 (λ k. f (suc k)) place id e
-
-map_sorts : (ns ms : List Node) (ids : List ℕ) → ((place id : ℕ) → slice_get ids place ≡ Some id → id < length ns) → Grows ns ms → map (sort_at ms) ids ≡ map (sort_at ns) ids
-map_sorts ns ms [] h g = refl
-map_sorts ns ms (i ∷ ids) h g = ap₂ (λ (v : Option Sort) (vs : List (Option Sort)). v ∷ vs) (g.sorts i (h zero i refl)) (map_sorts ns ms ids (λ k j e. h (suc k) j e) g)
 
 some_sorts : (program : Program) (proc : Proc) (es : List Expr) → All (IsTyped (body_scope program proc)) es → (place : ℕ) (o : Option Sort) → slice_get (map (sort_of (body_scope program proc)) es) place ≡ Some o → IsSome o
 some_sorts program proc [] a place o e = absurd (cc)
@@ -155,9 +149,6 @@ of_within (x ∷ xs) (suc i) P C l h f = of_within xs i P C (omega (arith, l)) h
 pub if_each : {A : Type 0} (o : Option A) (P : A → Type 0) → ((a : A) → o ≡ Some a → P a) → IfSome o P
 if_each None P f = tt
 if_each (Some a) P f = f a refl
-
-pub of_some : {A : Type 0} (o : Option A) (P : A → Type 0) (a : A) → o ≡ Some a → IfSome o P → P a
-of_some o P a e h = subst (λ (p : Option _). IfSome p P) e h
 
 pub gate_test : (old new : List Node) (program : Program) (a : Action) (globals inputs : List ℕ) (id : ℕ) → IsGate old new program a globals inputs id → IsTest new id (λ env. gate_in env old program a globals inputs)
 gate_test old new program a globals inputs id h = record { sorted = h.sort; is = h.is }

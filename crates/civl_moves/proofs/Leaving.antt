@@ -1,29 +1,23 @@
 -- Which terms a move leaves as they were.
 use Rattle.std.specs.Prelude.{slice_index_or, take}
-use Rattle.std.proofs.Common.{◌≡◌, ◌∙◌, ℕ, zero, suc, ◌+◌, ◌<◌, Bool, true, false, ◌||◌, List, [], ◌∷◌, ◌++◌, length, map, set, refl, sym, ap, subst, arith, Some}
+use Rattle.std.proofs.Common.{◌≡◌, ◌∙◌, ℕ, zero, suc, ◌+◌, ◌<◌, true, List, [], ◌∷◌, ◌++◌, length, map, set, refl, sym, ap, subst, arith, Some}
 use Rattle.std.proofs.lemmas.List.{take_more, length-take-le, map-append}
 use Rattle.std.proofs.lemmas.Option.{none-some}
+use Rattle.std.proofs.lemmas.Bool.{or_left, or_right}
 use Rattle.civl_tree.specs.declared.name.Name.{Name}
 use Rattle.civl_tree.specs.rules.Names.{same_name, has_name}
+use Rattle.civl_tree.proofs.Naming.{bytes_same}
 use Rattle.civl_firing.specs.Truth.{place_of}
 use Rattle.civl_actions.specs.Actions.{LeavesOthers}
 use Rattle.civl_actions.proofs.Leaving.{leaves_none, leaves_set}
-use Rattle.civl_actions.proofs.Rules.{bytes_same}
 use Rattle.civl_moves.specs.declared.sweep.Stop.{Stop}
 use Rattle.civl_moves.specs.Branches.{KeepsSame}
 use Rattle.civl_moves.specs.Calls.{with_outs_of}
 
 -- ---- writes
 
-or_first : (a b : Bool) → a ≡ true → (a || b) ≡ true
-or_first a b e = ap (λ (c : Bool). c || b) e
-
-or_second : (a b : Bool) → b ≡ true → (a || b) ≡ true
-or_second true b e = refl
-or_second false b e = e
-
 own_name : (x : Name) (xs : List Name) → has_name (x ∷ xs) x ≡ true
-own_name x xs = or_first (same_name x x) (has_name xs x) (bytes_same x x refl)
+own_name x xs = or_left (same_name x x) (has_name xs x) (bytes_same x x refl)
 
 -- one name is written
 pub one_written : (names : List Name) (ids after : List ℕ) (x : Name) (id : ℕ) → after ≡ set ids (place_of names x) id → LeavesOthers names (x ∷ []) ids after
@@ -34,7 +28,7 @@ all_written : (names written : List Name) (before ids : List ℕ) (rs : List Nam
 all_written names written before ids [] outs f h = h
 all_written names written before ids (r ∷ rs) [] f h = h
 all_written names written before ids (r ∷ rs) (o ∷ outs) f h =
-    all_written names written before (set ids (place_of names r) o) rs outs (λ x e. f x (or_second (same_name x r) (has_name rs x) e)) (leaves_set names written before ids r o (f r (own_name r rs)) h)
+    all_written names written before (set ids (place_of names r) o) rs outs (λ x e. f x (or_right (same_name x r) (has_name rs x) e)) (leaves_set names written before ids r o (f r (own_name r rs)) h)
 
 pub results_written : (names : List Name) (ids after : List ℕ) (rs : List Name) (outs : List ℕ) → after ≡ with_outs_of names ids rs outs → LeavesOthers names rs ids after
 results_written names ids after rs outs e = subst (LeavesOthers names rs ids) (sym e) (all_written names rs ids ids rs outs (λ x h. h) (leaves_none names rs ids))

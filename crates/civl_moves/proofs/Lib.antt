@@ -1,4 +1,3 @@
-pub mod Bindings
 pub mod Scoping
 pub mod Locals
 pub mod States

@@ -27,6 +27,7 @@ use Rattle.civl_firing.specs.Truth.{place_of}
 use Rattle.civl_firing.specs.Eval.{look, value_of, value_step}
 use Rattle.civl_firing.specs.Scope.{present_values, frame_values, zeros_of_globals}
 use Rattle.civl_meaning.specs.Config.{frame_sorts}
+use Rattle.civl_meaning.proofs.Bindings.{names_of, proc_names, proc_sorts}
 use Rattle.civl_terms.specs.declared.node.Node.{Node}
 use Rattle.civl_terms.specs.Graphs.{sort_at}
 use Rattle.civl_actions.specs.declared.scope.Scope.{Scope}
@@ -34,7 +35,6 @@ use Rattle.civl_actions.specs.Scopes.{AreOf, IsTyped, ScopeFits}
 use Rattle.civl_actions.proofs.Typing.{sort_layer, widths_layer, weight_layer, layer_typed, typed_one, typed_two, typed_pick, typed_get, typed_set, typed_fill, typed_slice, typed_widen, typed_join}
 use Rattle.civl_states.specs.formula_parts.Said.{Env}
 use Rattle.civl_moves.specs.Expressions.{IsTermOf, has_old, old_step}
-use Rattle.civl_moves.proofs.Bindings.{names_of, proc_names, proc_sorts}
 use Rattle.civl_moves.proofs.Scoping.{Made, scope_fits}
 
 -- ---- sorts and weights

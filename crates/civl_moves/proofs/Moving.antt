@@ -20,6 +20,7 @@ use Rattle.civl_moves.specs.Expressions.{IsBodyTerm, IsNoteTerm}
 use Rattle.civl_tree.specs.rules.Uses.{place_sort}
 use Rattle.civl_firing.specs.Truth.{place_of}
 use Rattle.civl_meaning.specs.Config.{frame_sorts}
+use Rattle.civl_meaning.proofs.Bindings.{names_of, sorts_of, names_bound, sorts_bound, proc_names, proc_sorts}
 use Rattle.civl_terms.specs.declared.node.Node.{Node}
 use Rattle.civl_terms.specs.Graphs.{value_at, Fits}
 use Rattle.civl_terms.specs.Building.{Grows}
@@ -31,7 +32,6 @@ use Rattle.civl_states.specs.formula_parts.Said.{Env, IsTest}
 use Rattle.civl_moves.specs.sweeps.Sweeps.{Swept, gated, set_locals, with_commit}
 use Rattle.civl_moves.specs.declared.sweep.Sweep.{Sweep}
 use Rattle.civl_moves.specs.States.{bool_at, swept_at, CanSweep, Moves, Suits}
-use Rattle.civl_moves.proofs.Bindings.{names_of, sorts_of, names_bound, sorts_bound, proc_names, proc_sorts}
 use Rattle.civl_moves.proofs.States.{test_value, test_bool, bool_same, same_swept, stops_same, can_stays}
 
 -- ---- the sort at a name's place

@@ -1,20 +1,23 @@
 -- What stands behind both branches of an `if`.
 use Rattle.std.specs.Prelude.{map, slice_index_or, take, IsSome, if◌then◌else◌, nat_eq}
-use Rattle.std.proofs.Common.{◌≡◌, ◌∙◌, ℕ, zero, suc, ◌+◌, ◌<◌, Bool, true, false, ◌&&◌, ◌||◌, not, List, [], ◌∷◌, ◌++◌, length, refl, sym, ap, ap₂, subst, arith, Some, None, Option}
-use Rattle.std.proofs.lemmas.List.{map-append, take_more, length-map}
-use Rattle.std.proofs.lemmas.Bool.{eq-eqb, false≢true}
+use Rattle.std.proofs.Common.{◌≡◌, ◌∙◌, ℕ, zero, suc, ◌+◌, ◌<◌, Bool, true, false, ◌||◌, not, List, [], ◌∷◌, ◌++◌, length, refl, sym, ap, ap₂, subst, arith, Some, None, Option}
+use Rattle.std.proofs.lemmas.List.{map-append, take_more}
+use Rattle.std.proofs.lemmas.Bool.{false≢true}
+use Rattle.std.proofs.lemmas.Option.{same_Some}
 use Rattle.civl_bits.specs.declared.value.Value.{Value}
 use Rattle.civl_bits.specs.declared.value.Value.TheVariants as value
 use Rattle.civl_firing.specs.declared.store.Store.{Store}
 use Rattle.civl_meaning.specs.Config.{frame_sorts}
 use Rattle.civl_states.specs.formula_parts.Lists.{AreAlike}
 use Rattle.civl_tree.specs.declared.expr.Sort.{Sort}
-use Rattle.civl_tree.specs.declared.expr.Sort.TheVariants.{Bool as Truth, Word, Row}
+use Rattle.civl_tree.specs.declared.expr.Sort.TheVariants.{Bool as Truth}
 use Rattle.civl_tree.specs.declared.program.Proc.{Proc}
 use Rattle.civl_tree.specs.declared.program.Program.{Program}
-use Rattle.civl_tree.specs.rules.Sorts.{same_sort, common_sort, pick_sort}
+use Rattle.civl_tree.specs.rules.Sorts.{common_sort, pick_sort}
+use Rattle.civl_tree.proofs.Lists.{heads}
 use Rattle.civl_firing.specs.values.Operators.{pick_value}
 use Rattle.civl_firing.specs.values.Weights.{bits_in}
+use Rattle.civl_firing.proofs.SortLimits.{same_self}
 use Rattle.civl_terms.specs.declared.node.Node.{Node}
 use Rattle.civl_terms.specs.Graphs.{value_at, sort_at}
 use Rattle.civl_terms.specs.Building.{Grows, Built}
@@ -32,11 +35,6 @@ use Rattle.civl_moves.specs.States.{bool_at, swept_at, IsBool, CanSweep, Moves}
 use Rattle.civl_moves.proofs.States.{test_value, test_bool, bool_same, same_swept, stops_same, can_stays}
 
 -- ---- one term
-
-same_self : (s : Sort) → same_sort s s ≡ true
-same_self Truth = refl
-same_self (Word w) = eq-eqb w w refl
-same_self (Row i w) = ap₂ (λ (a b : Bool). a && b) (eq-eqb i i refl) (eq-eqb w w refl)
 
 common_self : (s : Sort) → common_sort (Some s) (Some s) ≡ Some s
 common_self s = ap (λ (b : Bool). if b then Some s else None) (same_self s)
@@ -69,12 +67,6 @@ same_said ns test a b s t f g e c p q = record {
 
 -- ---- lists
 
-heads : (a b : Option Sort) (os ps : List (Option Sort)) → a ∷ os ≡ b ∷ ps → (a ≡ b) × (os ≡ ps)
-heads a b os ps e = (cc, cc)
-
-pub are_length : (ns : List Node) (ids : List ℕ) (ss : List Sort) → AreOf ns ids ss → length ids ≡ length ss
-are_length ns ids ss h = sym (length-map ids (sort_at ns)) ∙ ap length h ∙ length-map ss (λ (s : Sort). Some s)
-
 pub picked_none : (ns : List Node) (test : ℕ) → ArePicked ns ns test [] [] [] []
 picked_none ns test = record { are = λ env f. both (bool_at env ns test); sorted = refl }
   where
@@ -105,10 +97,7 @@ sorts_more ns [] ss i s h l e = absurd (omega arith)
 sorts_more ns (x ∷ xs) [] i s h l e = absurd (cc)
 sorts_more ns (x ∷ xs) (r ∷ ss) zero s h l e =
     let p = heads (sort_at ns x) (Some r) (map (sort_at ns) xs) (map (λ (t : Sort). Some t) ss) h in
-    ap (λ (q : Sort). q ∷ []) (some r s (sym p.0 ∙ e))
-  where
-    some : (a b : Sort) → Some a ≡ Some b → a ≡ b
-    some a b q = cc
+    ap (λ (q : Sort). q ∷ []) (same_Some r s (sym p.0 ∙ e))
 sorts_more ns (x ∷ xs) (r ∷ ss) (suc i) s h l e =
     let p = heads (sort_at ns x) (Some r) (map (sort_at ns) xs) (map (λ (t : Sort). Some t) ss) h in
     ap (λ (q : List Sort). r ∷ q) (sorts_more ns xs ss i s p.1 (omega (arith, l)) e)

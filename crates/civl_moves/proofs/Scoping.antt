@@ -1,8 +1,8 @@
 -- The scopes of a body's expressions: each name that has a sort stands for a term of it.
-use Rattle.std.specs.Prelude.{map, slice_get, if◌then◌else◌, IsTrue, All, get_or, take}
+use Rattle.std.specs.Prelude.{map, slice_get, IsTrue, All, get_or, take}
 use Rattle.std.specs.Str.{bytes_eq}
 use Rattle.std.specs.List.{list_any}
-use Rattle.std.proofs.Common.{◌≡◌, ◌∙◌, ℕ, suc, ◌+◌, ◌<◌, Bool, true, false, List, [], ◌∷◌, ◌++◌, length, refl, sym, ap, ap₂, subst, arith, add-one, Option, Some, inl, inr}
+use Rattle.std.proofs.Common.{◌≡◌, ◌∙◌, ℕ, suc, ◌+◌, ◌<◌, Bool, true, false, List, [], ◌∷◌, ◌++◌, length, refl, sym, ap, ap₂, subst, arith, Option, Some, inl, inr}
 use Rattle.std.proofs.lemmas.Bool.{not-false, or_parts}
 use Rattle.std.proofs.lemmas.List.{map-append, take_more}
 use Rattle.std.proofs.lemmas.List.Elements.{All-nil, All-cons, All-get_or}
@@ -11,26 +11,27 @@ use Rattle.civl_bits.specs.declared.value.Value.TheVariants as value
 use Rattle.civl_tree.specs.declared.name.Name.{Name}
 use Rattle.civl_tree.specs.declared.expr.Expr.{Expr}
 use Rattle.civl_tree.specs.declared.expr.Sort.{Sort}
-use Rattle.civl_tree.specs.declared.expr.Sort.TheVariants.{Bool as Truth, Word, Row}
+use Rattle.civl_tree.specs.declared.expr.Sort.TheVariants.{Bool as Truth}
 use Rattle.civl_tree.specs.declared.program.Global.{Global}
 use Rattle.civl_tree.specs.declared.program.Proc.{Proc}
 use Rattle.civl_tree.specs.declared.program.Program.{Program}
-use Rattle.civl_tree.specs.rules.Exprs.{is_index}
 use Rattle.civl_tree.specs.rules.Names.{global_names, names_in_proc, any_twice, has_name}
 use Rattle.civl_tree.specs.rules.Width.{sort_width_fits}
-use Rattle.civl_tree.specs.rules.Index.{sort_index}
 use Rattle.civl_tree.specs.rules.Twice.{declared_twice}
 use Rattle.civl_tree.specs.rules.Scopes.{Scope as Sorts, Binding, sort_in, bind_globals, bind_params, bind_locals, bind_proc, body_scope, note_scope}
 use Rattle.civl_tree.specs.rules.Rules.{Keeps}
 use Rattle.civl_tree.specs.rules.Typing.{typing_rules, twice_rule, width_rule, index_rule}
 use Rattle.civl_tree.proofs.Kept.{global_kept, proc_kept, twice_among, width_among, index_among}
+use Rattle.civl_tree.proofs.Lists.{heads}
 use Rattle.civl_firing.specs.values.Values.{is_sort, is_true, zero_of, sort_of_value}
 use Rattle.civl_firing.proofs.values.Zeros.{zeros_have_their_sorts}
 use Rattle.civl_firing.specs.declared.scope.Scope.{Scope as Meant}
 use Rattle.civl_firing.specs.Truth.{place_of}
 use Rattle.civl_firing.specs.Eval.{value_of}
 use Rattle.civl_firing.specs.Scope.{present_values}
+use Rattle.civl_firing.proofs.SortLimits.{limits}
 use Rattle.civl_meaning.specs.Config.{frame_sorts}
+use Rattle.civl_meaning.proofs.Bindings.{names_of, sorts_of, in_front, in_back, in_either, not_in_first, Declared, not_declared, joined, proc_names, proc_sorts, global_names_are, global_sorts_are}
 use Rattle.civl_terms.specs.declared.node.Node.{Node}
 use Rattle.civl_terms.specs.Graphs.{value_at, sort_at, IsGraph, Fits}
 use Rattle.civl_terms.specs.Building.{Grows, Built}
@@ -40,11 +41,12 @@ use Rattle.civl_actions.specs.Scopes.{names_in, meant, StandsAt, ScopeFits, AreO
 use Rattle.civl_actions.specs.Actions.{values_at}
 use Rattle.civl_actions.proofs.Building.{truth_value}
 use Rattle.civl_actions.proofs.Staying.{are_within, are_stay, values_stay}
+use Rattle.civl_actions.proofs.Nodes.{are_joined}
+use Rattle.civl_actions.proofs.Scoping.{Found, found_by}
 use Rattle.civl_conditions.specs.paths.NoteValues.{note_names}
 use Rattle.civl_states.specs.formula_parts.Said.{Env}
 use Rattle.civl_states.specs.Notes.{IsProcIn}
 use Rattle.civl_moves.specs.Expressions.{AreZeros, IsTermOf}
-use Rattle.civl_moves.proofs.Bindings.{names_of, sorts_of, in_front, in_back, in_either, not_in_first, Declared, not_declared, names_bound, sorts_bound, joined, proc_names, proc_sorts}
 
 -- ---- the zeros of globals
 
@@ -74,11 +76,6 @@ zeros_step old now new gs i g ids more v id all l is z w e b m =
     let next : take (i + 1) gs ≡ take i gs ++ g ∷ [] = take_more gs i g l ∙ ap (λ (q : Global). take i gs ++ q ∷ []) (sym is) in
     subst (λ (ps : List Global). AreZeros old new ps more) (sym next) (subst (AreZeros old new (take i gs ++ g ∷ [])) (sym m) (zeros_more old now new (take i gs) g ids id z limit w made))
 
-limits : (s : Sort) → sort_width_fits s ≡ true → sort_index s ≡ false → is_sort s ≡ true
-limits Truth e f = refl
-limits (Word w) e f = e
-limits (Row i w) e f = rw (not-false (is_index i) f, e) refl
-
 placed : (gs : List Global) → ((place : ℕ) (g : Global) → slice_get gs place ≡ Some g → is_sort g.sort ≡ true) → All (λ (g : Global). IsTrue (is_sort g.sort)) gs
 placed [] f = All-nil (λ (g : Global). IsTrue (is_sort g.sort))
 placed (x ∷ xs) f = All-cons (λ (g : Global). IsTrue (is_sort g.sort)) x xs (f 0 x refl) (placed xs (λ place g at. f (suc place) g at))
@@ -90,19 +87,6 @@ globals_sorted program keeps =
     (global_kept typing_rules program keeps index_rule index_among place g at))
 
 -- ---- names that stand for terms of their sorts
-
-abbrev Found : List Node → List Name → List ℕ → List Binding → Type 0
-Found ns names ids bindings = (name : Name) (s : Sort) → sort_in bindings name ≡ Some s → StandsAt ns ids (place_of names name) s
-
-found_by : (ns : List Node) (k : Name) (names : List Name) (i : ℕ) (ids : List ℕ) (t : Sort) (bindings : List Binding) → sort_at ns i ≡ Some t → Found ns names ids bindings → (name : Name) (s : Sort) (same : Bool) →
-    bytes_eq k.bytes name.bytes ≡ same → (if same then Some t else sort_in bindings name) ≡ Some s → StandsAt ns (i ∷ ids) (if same then 0 else place_of names name + 1) s
-found_by ns k names i ids t bindings h f name s true q e = (i, refl, h ∙ e)
-found_by ns k names i ids t bindings h f name s false q e =
-    let g = f name s e in
-    (g.0, ap (slice_get (i ∷ ids)) (add-one (place_of names name)) ∙ g.1, g.2)
-
-heads : (a b : Option Sort) (os ps : List (Option Sort)) → a ∷ os ≡ b ∷ ps → (a ≡ b) × (os ≡ ps)
-heads a b os ps e = (cc, cc)
 
 found_all : (ns : List Node) (bs : List Binding) (ids : List ℕ) → AreOf ns ids (sorts_of bs) → Found ns (names_of bs) ids bs
 found_all ns [] ids h name s e = absurd (cc)
@@ -139,18 +123,9 @@ scope_fits ns sc names ids nay bs sorts m n are nays first second = record {
         subst (λ (is : List ℕ). StandsAt ns is (place_of (names_in sc) name) s) (sym e)
         (subst (λ (xs : List Name). StandsAt ns ids (place_of xs name) s) (sym (m.names ∙ n)) (found_all ns bs ids are name s b))
 
-are_joined : (ns : List Node) (xs ys : List ℕ) (ss ts : List Sort) → AreOf ns xs ss → AreOf ns ys ts → AreOf ns (xs ++ ys) (ss ++ ts)
-are_joined ns xs ys ss ts p q = map-append (sort_at ns) xs ys ∙ ap₂ (λ (os ps : List (Option Sort)). os ++ ps) p q ∙ sym (map-append (λ (s : Sort). Some s) ss ts)
-
 module _ (program : Program) (keeps : Keeps typing_rules program) (proc : Proc) (there : IsProcIn program proc) where
   abbrev globals : List Binding
   globals = bind_globals program.globals
-
-  global_names_are : names_of globals ≡ global_names program.globals
-  global_names_are = names_bound (λ (g : Global). g.name) (λ (g : Global). g.sort) program.globals
-
-  global_sorts_are : sorts_of globals ≡ map (λ g. g.sort) program.globals
-  global_sorts_are = sorts_bound (λ (g : Global). g.name) (λ (g : Global). g.sort) program.globals
 
   declares : Declared globals (bind_proc proc)
   declares =
@@ -158,7 +133,7 @@ module _ (program : Program) (keeps : Keeps typing_rules program) (proc : Proc) 
       let p = or_parts (any_twice (names_in_proc proc)) (list_any (has_name (global_names program.globals)) (names_in_proc proc)) t in
       record {
         own = ap any_twice (proc_names proc) ∙ p.0;
-        new = ap (λ (ns : List Name). list_any (has_name ns) (names_of (bind_proc proc))) global_names_are ∙ ap (list_any (has_name (global_names program.globals))) (proc_names proc) ∙ p.1;
+        new = ap (λ (ns : List Name). list_any (has_name ns) (names_of (bind_proc proc))) (global_names_are program) ∙ ap (list_any (has_name (global_names program.globals))) (proc_names proc) ∙ p.1;
       }
 
   abbrev outs : List Binding
@@ -187,8 +162,8 @@ module _ (program : Program) (keeps : Keeps typing_rules program) (proc : Proc) 
       → AreOf ns locals (frame_sorts proc) → AreOf ns zeros (map (λ g. g.sort) program.globals) → sort_at ns nay ≡ Some Truth → ScopeFits ns sc (body_scope program proc)
   frame_fits ns sc locals zeros nay m l z n =
       let bs = bind_proc proc ++ globals in
-      let names = joined (λ b. b.name) (bind_proc proc) globals _ _ (proc_names proc) global_names_are in
-      let sorts = joined (λ b. b.sort) (bind_proc proc) globals _ _ (proc_sorts proc) global_sorts_are in
+      let names = joined (λ b. b.name) (bind_proc proc) globals _ _ (proc_names proc) (global_names_are program) in
+      let sorts = joined (λ b. b.sort) (bind_proc proc) globals _ _ (proc_sorts proc) (global_sorts_are program) in
       scope_fits ns sc _ (locals ++ zeros) nay bs (body_scope program proc) m (sym names)
       (subst (AreOf ns (locals ++ zeros)) (sym sorts) (are_joined ns locals zeros _ _ l z)) n (λ name s e. in_front (bind_proc proc) globals name s e) old_in_frame
 
@@ -196,8 +171,8 @@ module _ (program : Program) (keeps : Keeps typing_rules program) (proc : Proc) 
       → AreOf ns store (map (λ g. g.sort) program.globals) → AreOf ns locals (frame_sorts proc) → sort_at ns nay ≡ Some Truth → ScopeFits ns sc (note_scope program proc)
   present_fits ns sc store locals nay m g l n =
       let bs = globals ++ bind_proc proc in
-      let names = joined (λ b. b.name) globals (bind_proc proc) _ _ global_names_are (proc_names proc) in
-      let sorts = joined (λ b. b.sort) globals (bind_proc proc) _ _ global_sorts_are (proc_sorts proc) in
+      let names = joined (λ b. b.name) globals (bind_proc proc) _ _ (global_names_are program) (proc_names proc) in
+      let sorts = joined (λ b. b.sort) globals (bind_proc proc) _ _ (global_sorts_are program) (proc_sorts proc) in
       scope_fits ns sc _ (store ++ locals) nay bs (note_scope program proc) m (sym names)
       (subst (AreOf ns (store ++ locals)) (sym sorts) (are_joined ns store locals _ _ g l)) n (λ name s e. e) old_in_note
 

@@ -3,6 +3,8 @@ use Rattle.std.proofs.Common.{◌≡◌, ℕ, ◌+◌, ◌<◌, ◌≤◌, Bool,
 use Rattle.std.specs.Prelude.{slice_get}
 use Rattle.std.proofs.lemmas.List.{take_all}
 use Rattle.std.proofs.lemmas.Option.{slice_get_read}
+use Rattle.std.proofs.lemmas.List.Folds.{list_any-append}
+use Rattle.std.proofs.lemmas.Bool.{or_parts}
 use Rattle.civl_tree.specs.declared.name.Name.{Name}
 use Rattle.civl_tree.specs.declared.action.Action.{Action}
 use Rattle.civl_tree.specs.declared.program.Global.{Global}
@@ -14,8 +16,7 @@ use Rattle.civl_tree.specs.rules.Codes.{E10}
 use Rattle.civl_tree.specs.rules.Rules.{item_place, statement_places, global_places, action_places, proc_places, refusal_at, first_of}
 use Rattle.civl_tree.specs.rules.Typing.{twice_rule}
 use Rattle.civl_names.specs.NameSets.{with_name}
-use Rattle.civl_names.proofs.Lists.{any_append}
-use Rattle.civl_names.proofs.Repeats.{or_parts, with_new, names_more}
+use Rattle.civl_names.proofs.Repeats.{with_new, names_more}
 
 -- a place among items, and among the same under another name
 pub within : {T : Type 0} (xs ys : List T) → xs ≡ ys → (at : ℕ) (x : T) → at < length xs → at < length ys
@@ -46,7 +47,7 @@ whole_kept item true numbers h = cc
 whole_kept item false numbers h = refl
 
 last_part : (xs ys : List Name) (name : Name) → has_name (xs ++ ys) name ≡ false → has_name ys name ≡ false
-last_part xs ys name h = (or_parts _ _ (sym (any_append _ xs ys) ∙ h)).1
+last_part xs ys name h = (or_parts _ _ (sym (list_any-append _ xs ys) ∙ h)).1
 
 pub global_found : (program : Program) (place : ℕ) (global : Global) (refusal : Refusal) → has_name (global_names (take place program.globals)) global.name ≡ true
     → refusal ≡ refusal_at E10 (record { item = place; statement = 0 }) → Some refusal ≡ first_of (map (refusal_at E10) (global_places twice_rule program place global))

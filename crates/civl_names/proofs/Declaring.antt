@@ -2,10 +2,10 @@
 use Rattle.std.proofs.Common.{◌≡◌, Bool, true, false, List, [], ◌∷◌, ◌++◌, refl, ◌∙◌}
 use Rattle.std.specs.Prelude.{◌||◌}
 use Rattle.std.proofs.lemmas.List.{append_assoc}
+use Rattle.std.proofs.lemmas.List.Folds.{list_any-append}
+use Rattle.std.proofs.lemmas.Bool.{or_right, or_left}
 use Rattle.civl_tree.specs.declared.name.Name.{Name}
 use Rattle.civl_tree.specs.rules.Names.{has_name, any_twice}
-use Rattle.civl_names.proofs.Repeats.{or_left, or_right}
-use Rattle.civl_names.proofs.Lists.{any_append}
 
 -- what stands twice among some names stands twice among more
 pub twice_append : (xs ys : List Name) → any_twice xs ≡ true → any_twice (xs ++ ys) ≡ true
@@ -13,7 +13,7 @@ twice_append [] ys h = cc
 twice_append (x ∷ xs) ys h =
     let by_case : (b : Bool) → has_name xs x ≡ b → (b || any_twice xs) ≡ true → (has_name (xs ++ ys) x || any_twice (xs ++ ys)) ≡ true =
     λ b. elim b as (λ d. has_name xs x ≡ d → (d || any_twice xs) ≡ true → (has_name (xs ++ ys) x || any_twice (xs ++ ys)) ≡ true) [
-      | true ↦ λ e k. or_left _ _ (any_append _ xs ys ∙ or_left _ _ e)
+      | true ↦ λ e k. or_left _ _ (list_any-append _ xs ys ∙ or_left _ _ e)
       | false ↦ λ e k. or_right _ _ (twice_append xs ys k)
     ] in
     by_case (has_name xs x) refl h

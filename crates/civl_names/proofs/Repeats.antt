@@ -1,42 +1,15 @@
 -- Names that stand twice.
 use Rattle.std.proofs.Common.{◌≡◌, ℕ, ◌+◌, ◌<◌, Bool, true, false, List, [], ◌∷◌, ◌++◌, map, take, drop, length, get_or, refl, sym, ap, ◌∙◌}
 use Rattle.std.specs.Prelude.{◌||◌, if◌then◌else◌}
-use Rattle.std.specs.Str.{bytes_eq}
 use Rattle.std.proofs.lemmas.List.{append_assoc, take_more, drop_more, take-append-drop, map-append}
 use Rattle.std.proofs.lemmas.List.Folds.{list_any-append}
-use Rattle.std.proofs.lemmas.Slice.Eq.{bytes_eq-Decides}
-use Rattle.std.proofs.lemmas.Bool.Decides.{same_from_decides}
+use Rattle.std.proofs.lemmas.Bool.{or_parts, or_from, or_right, or_left}
 use Rattle.civl_tree.specs.declared.name.Name.{Name}
 use Rattle.civl_tree.specs.rules.Names.{has_name, same_name, any_twice}
+use Rattle.civl_tree.proofs.Naming.{same_name_sym}
 use Rattle.civl_names.specs.NameSets.{with_name}
 
--- ---- tests
-
-pub or_parts : (a b : Bool) → (a || b) ≡ false → (a ≡ false) × (b ≡ false)
-or_parts true b h = (cc, cc)
-or_parts false b h = (refl, h)
-
-pub or_none : (a b : Bool) → a ≡ false → b ≡ false → (a || b) ≡ false
-or_none true b h k = h
-or_none false b h k = k
-
-pub or_right : (a b : Bool) → b ≡ true → (a || b) ≡ true
-or_right true b h = refl
-or_right false b h = h
-
-pub or_left : (a b : Bool) → a ≡ true → (a || b) ≡ true
-or_left true b h = refl
-or_left false b h = cc
-
 -- ---- names
-
-same_bytes : (xs ys : List ℕ) → bytes_eq xs ys ≡ bytes_eq ys xs
-same_bytes xs ys =
-    let back = bytes_eq-Decides ys xs in
-    same_from_decides (bytes_eq xs ys) (bytes_eq ys xs) (bytes_eq-Decides xs ys) ((λ e. sym (back.0 e)), (λ e. back.1 (sym e)))
-
-pub same_name_sym : (m n : Name) → same_name m n ≡ same_name n m
-same_name_sym m n = same_bytes m.bytes n.bytes
 
 has_behind : (xs ys : List Name) (m n : Name) → same_name n m ≡ true → has_name (xs ++ m ∷ ys) n ≡ true
 has_behind [] ys m n h = or_left (same_name n m) (has_name ys n) h
@@ -61,8 +34,8 @@ twice_more [] n h k = refl
 twice_more (x ∷ xs) n h k =
     let before = or_parts (has_name xs x) (any_twice xs) h in
     let other = or_parts (same_name n x) (has_name xs n) k in
-    or_none _ _
-    (list_any-append (same_name x) xs (n ∷ []) ∙ or_none _ _ before.0 (or_none _ _ (same_name_sym x n ∙ other.0) refl))
+    or_from _ _
+    (list_any-append (same_name x) xs (n ∷ []) ∙ or_from _ _ before.0 (or_from _ _ (same_name_sym x n ∙ other.0) refl))
     (twice_more xs n before.1 other.1)
 
 pub with_new : (names : List Name) (n : Name) → has_name names n ≡ false → with_name names n ≡ names ++ n ∷ []

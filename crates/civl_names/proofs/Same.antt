@@ -29,10 +29,6 @@ none_found p (x ∷ xs) = here (p x) (none_found p xs)
     here true h = refl
     here false h = h
 
-pub or_assoc : (a b c : Bool) → ((a || b) || c) ≡ (a || (b || c))
-or_assoc true b c = refl
-or_assoc false b c = refl
-
 -- an item that is broken, and one that isn't
 pub item_found : (b : Bool) (item : ℕ) → b ≡ true → Some (refusal_at E11 (record { item = item; statement = 0 })) ≡ first_of (map (refusal_at E11) (item_place item b))
 item_found true item h = refl

@@ -1,5 +1,5 @@
 -- Rule E11 by the names alone.
-use Rattle.std.proofs.Common.{◌≡◌, ℕ, Bool, true, false, List, [], ◌∷◌, ◌++◌, map, None, Some, refl, sym, ap, ap₂, ◌∙◌, subst}
+use Rattle.std.proofs.Common.{◌≡◌, Bool, true, false, List, [], ◌∷◌, ◌++◌, map, None, Some, refl, sym, ap, ap₂, ◌∙◌, subst}
 use Rattle.std.specs.Prelude.{Option, not, ◌||◌, if◌then◌else◌, is_none, is_some}
 use Rattle.std.specs.List.{list_any}
 use Rattle.civl_tree.specs.declared.name.Name.{Name}
@@ -27,13 +27,14 @@ use Rattle.civl_tree.specs.declared.program.Thread.{Thread}
 use Rattle.civl_tree.specs.rules.Names.{names_in_proc, targets_of, action_names, proc_names, action_named, proc_named, proc_signature_of, first_signature, callee_signature}
 use Rattle.civl_tree.specs.rules.Uses.{Use, truth_use, target_use, argument_uses, taken_sorts, chosen_sorts, init_uses, invariant_uses, update_sort, with_uses, form_uses}
 use Rattle.civl_tree.specs.rules.Unknown.{any_unknown, target_unknown, action_unknown, refined_unknown, place_unknown, form_unknown, stmt_unknown, thread_unknown}
+use Rattle.civl_tree.proofs.Naming.{same_name_sym, same_is}
 use Rattle.civl_names.specs.Strange.{Declared, declared_by, Inner, inner_names, own_names, global_strange, invariant_strange, targets_strange, guard_strange, action_strange, refines_strange, body_strange, note_strange, arguments_strange, results_strange, call_strange, form_strange, stmt_strange, thread_strange}
 use Rattle.civl_names.specs.NameSets.{with_name, with_names, set_of}
 use Rattle.civl_names.specs.InScope.{known_step, all_known, any_strange}
-use Rattle.std.proofs.lemmas.Slice.Eq.{bytes_eq-Decides}
-use Rattle.civl_names.proofs.Lists.{any_map, any_append}
-use Rattle.civl_names.proofs.Same.{or_assoc, any_same, none_found}
-use Rattle.civl_names.proofs.Repeats.{same_name_sym}
+use Rattle.std.proofs.lemmas.List.Folds.{list_any-append}
+use Rattle.std.proofs.Math.Bool.{or_assoc, or-false}
+use Rattle.civl_names.proofs.Lists.{any_map}
+use Rattle.civl_names.proofs.Same.{any_same, none_found}
 
 -- ---- a name has a sort in bindings exactly where it is one of their names
 
@@ -74,12 +75,6 @@ bound_locals locals name = bound_by (λ declared. record { name = declared.name;
 
 -- ---- names in a set
 
-abbrev spelled : List ℕ → Name
-spelled bytes = record { bytes = bytes }
-
-same_is : (m n : Name) → same_name m n ≡ true → m ≡ n
-same_is m n e = ap spelled ((bytes_eq-Decides m.bytes n.bytes).0 e)
-
 has_same : (names : List Name) (m n : Name) → same_name m n ≡ true → has_name names n ≡ true → has_name names m ≡ true
 has_same names m n e h = ap (has_name names) (same_is m n e) ∙ h
 
@@ -87,10 +82,6 @@ or_there : (a b : Bool) → (b ≡ true → a ≡ true) → a ≡ (a || b)
 or_there true b h = refl
 or_there false true h = h refl
 or_there false false h = refl
-
-or_nothing : (a : Bool) → (a || false) ≡ a
-or_nothing true = refl
-or_nothing false = refl
 
 or_last : (a b : Bool) → (a || (b || false)) ≡ (a || b)
 or_last a true = refl
@@ -101,10 +92,10 @@ has_new names added name = here (has_name names added) refl
   where
     here : (b : Bool) → has_name names added ≡ b → has_name (if b then names else names ++ added ∷ []) name ≡ (has_name names name || same_name name added)
     here true e = or_there (has_name names name) (same_name name added) (λ s. has_same names name added s e)
-    here false e = any_append (same_name name) names (added ∷ []) ∙ or_last (has_name names name) (same_name name added)
+    here false e = list_any-append (same_name name) names (added ∷ []) ∙ or_last (has_name names name) (same_name name added)
 
 pub has_with : (names added : List Name) (name : Name) → has_name (with_names names added) name ≡ (has_name names name || has_name added name)
-has_with names [] name = sym (or_nothing (has_name names name))
+has_with names [] name = sym (or-false (has_name names name))
 has_with names (first ∷ added) name =
     has_with (with_name names first) added name
     ∙ ap (λ (b : Bool). b || has_name added name) (has_new names first name)
@@ -150,7 +141,7 @@ module _ (scope : Scope) (names olds : List Name) where
 outer_bound : (globals : List Global) (bindings : List Binding) (names : List Name) → ((name : Name) → is_bound bindings name ≡ has_name names name)
     → (name : Name) → is_bound (bind_globals globals ++ bindings) name ≡ has_name (global_names globals ++ names) name
 outer_bound globals bindings names h name =
-    bound_append (bind_globals globals) bindings name ∙ ap₂ (λ (a b : Bool). a || b) (bound_globals globals name) (h name) ∙ sym (any_append (same_name name) (global_names globals) names)
+    bound_append (bind_globals globals) bindings name ∙ ap₂ (λ (a b : Bool). a || b) (bound_globals globals name) (h name) ∙ sym (list_any-append (same_name name) (global_names globals) names)
 
 param_set : (params : List Param) (name : Name) → is_bound (bind_params params) name ≡ has_name (set_of (param_names params)) name
 param_set params name = bound_params params name ∙ sym (has_with [] (param_names params) name)
@@ -176,15 +167,15 @@ own_set proc name =
 
 own_has : (proc : Proc) (name : Name) → has_name (names_in_proc proc) name ≡ has_name (own_names proc) name
 own_has proc name =
-    any_append (same_name name) (param_names proc.params) (param_names proc.outs ++ map (λ declared. declared.name) proc.locals)
-    ∙ ap (λ (b : Bool). has_name (param_names proc.params) name || b) (any_append (same_name name) (param_names proc.outs) (map (λ declared. declared.name) proc.locals))
+    list_any-append (same_name name) (param_names proc.params) (param_names proc.outs ++ map (λ declared. declared.name) proc.locals)
+    ∙ ap (λ (b : Bool). has_name (param_names proc.params) name || b) (list_any-append (same_name name) (param_names proc.outs) (map (λ declared. declared.name) proc.locals))
     ∙ sym (own_parts proc name)
 
 target_has : (globals outs : List Name) (name : Name) → has_name (globals ++ outs) name ≡ has_name (globals ++ set_of outs) name
 target_has globals outs name =
-    any_append (same_name name) globals outs
+    list_any-append (same_name name) globals outs
     ∙ ap (λ (b : Bool). has_name globals name || b) (sym (has_with [] outs name))
-    ∙ sym (any_append (same_name name) globals (set_of outs))
+    ∙ sym (list_any-append (same_name name) globals (set_of outs))
 
 -- ---- callees
 
@@ -224,10 +215,10 @@ module _ (program : Program) where
   callee_none name = none_found (λ proc. same_name name proc.name) program.procs ∙ ap not (sym (any_map (same_name name) (λ proc. proc.name) program.procs))
 
   pub init_is : any_unknown (init_uses program) ≡ global_strange declared program.init
-  init_is = or_nothing _ ∙ ap not (global_known program.init)
+  init_is = or-false _ ∙ ap not (global_known program.init)
 
   pub invariant_is : (invariant : Invariant) → any_unknown (invariant_uses program invariant) ≡ invariant_strange declared invariant
-  invariant_is invariant = or_nothing _ ∙ ap not (global_known invariant.expr)
+  invariant_is invariant = or-false _ ∙ ap not (global_known invariant.expr)
 
   pub thread_is : (thread : Thread) → thread_unknown program thread ≡ thread_strange declared thread
   thread_is thread =
@@ -281,7 +272,7 @@ module _ (program : Program) where
     pub action_is : action_unknown program action ≡ action_strange declared action
     action_is =
         ap₂ (λ (a b : Bool). a || b) targets_are
-        (any_append is_strange (map offer_use action.choices) (truth_use (gate_scope program action) action.gate ∷ truth_use (guard_scope program action) action.guard ∷ map value_use action.updates)
+        (list_any-append is_strange (map offer_use action.choices) (truth_use (gate_scope program action) action.gate ∷ truth_use (guard_scope program action) action.guard ∷ map value_use action.updates)
         ∙ ap₂ (λ (a b : Bool). a || b) offers_are (ap₂ (λ (a b : Bool). not a || b) (gate_known action.gate) (ap₂ (λ (a b : Bool). not a || b) (guard_known action.guard) values_are))
         ∙ sym (or_assoc (list_any (λ (choice : Choice). not (all_known gate_names olds choice.offer)) action.choices) (not (all_known gate_names olds action.gate)) (guard_strange guard_names olds action)))
 
@@ -312,10 +303,10 @@ module _ (program : Program) where
     results_are results = any_same (place_unknown proc) (λ name. not (has_name inner.own name)) (λ name. ap not (own_has proc name)) results
 
     in_body : (e : Expr) → (not (names_known (body_scope program proc) e) || false) ≡ body_strange inner e
-    in_body e = or_nothing _ ∙ ap not (body_known e)
+    in_body e = or-false _ ∙ ap not (body_known e)
 
     in_note : (e : Expr) → (not (names_known (note_scope program proc) e) || false) ≡ note_strange inner e
-    in_note e = or_nothing _ ∙ ap not (note_known e)
+    in_note e = or-false _ ∙ ap not (note_known e)
 
     form_is : (form : Stmt-F Stmt) → (form_unknown program proc form || any_unknown (form_uses program proc form)) ≡ form_strange inner form
     form_is (Assign target value) = ap₂ (λ (a b : Bool). not a || b) (own_has proc target) (in_body value)

@@ -2,6 +2,7 @@
 use Rattle.std.proofs.Common.{◌≡◌, ℕ, Bool, true, false, List, ◌++◌, map, None, sym, ap, ap₂, ◌∙◌}
 use Rattle.std.specs.Prelude.{Option, ◌||◌}
 use Rattle.std.specs.Option.{option_or}
+use Rattle.std.proofs.lemmas.Bool.{or_right, or_left}
 use Rattle.civl_tree.specs.declared.name.Name.{Name}
 use Rattle.civl_tree.specs.declared.action.Action.{Action}
 use Rattle.civl_tree.specs.declared.refusal.Refusal.{Refusal}
@@ -10,7 +11,6 @@ use Rattle.civl_tree.specs.rules.Codes.{E11}
 use Rattle.civl_tree.specs.rules.Rules.{each_place, refusal_at, first_of}
 use Rattle.civl_names.specs.NameSets.{with_names, set_of}
 use Rattle.civl_names.specs.Strange.{Declared, targets_strange, gate_strange, guard_strange, action_strange, broken_items}
-use Rattle.civl_names.proofs.Repeats.{or_left, or_right}
 
 -- ---- an action, by lists that are the names in its scopes
 

@@ -5,5 +5,3 @@ pub mod Plain
 pub mod Totals
 pub mod Rooted
 pub mod Fitted
-pub mod First
-pub mod Acting

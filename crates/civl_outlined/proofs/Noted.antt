@@ -1,5 +1,5 @@
 -- Weights of notes, put to their places one by one.
-use Rattle.std.proofs.Common.{◌≡◌, ℕ, zero, suc, ◌+◌, ◌-◌, ◌<◌, ◌≤◌, Bool, true, false, List, [], ◌∷◌, length, map, drop, get_or, refl, sym, ap, ◌∙◌, subst, arith, Option, None, Some}
+use Rattle.std.proofs.Common.{◌≡◌, ℕ, ◌+◌, ◌-◌, ◌<◌, ◌≤◌, Bool, true, false, List, ◌∷◌, length, map, drop, get_or, refl, sym, ap, ◌∙◌, subst, arith, Option, None, Some}
 use Rattle.std.specs.Prelude.{nat_eq, nat_lt, if◌then◌else◌, slice_get}
 use Rattle.std.specs.Option.{option_map, option_map_or, unwrap_or}
 use Rattle.std.proofs.lemmas.Bool.{le-ltb, and_parts, eqb-true}
@@ -10,6 +10,7 @@ use Rattle.civl_tree.specs.declared.program.Proc.{Proc}
 use Rattle.civl_tree.specs.declared.program.Program.{Program}
 use Rattle.civl_tree.specs.Numbering.{proc_item}
 use Rattle.civl_tree.specs.rules.Names.{same_name}
+use Rattle.civl_tree.proofs.Lists.{get_there}
 use Rattle.civl_outlines.specs.declared.outline.Note.{Note}
 use Rattle.civl_outlines.specs.declared.outline.Outline.{Outline}
 use Rattle.civl_firing.specs.Truth.{place_of}
@@ -102,11 +103,6 @@ before_none notes spot w e one = record { is = λ n h. by n (subst (λ (o : Opti
     by None h = one
     by (Some n) h = absurd h
 
-is_there : {A : Type 0} (xs : List A) (i : ℕ) → i < length xs → (x : A) × (slice_get xs i ≡ Some x)
-is_there [] i h = absurd (omega arith)
-is_there (x ∷ xs) zero h = (x, refl)
-is_there (x ∷ xs) (suc i) h = is_there xs i (omega arith)
-
 or_one : (program : Program) (proc : Proc) (found : Option Note) → unwrap_or (option_map (λ note. note_weight program proc note.expr) found) 1 ≡ option_map_or (λ note. note_weight program proc note.expr) found 1
 or_one program proc None = refl
 or_one program proc (Some note) = refl
@@ -114,7 +110,7 @@ or_one program proc (Some note) = refl
 pub note_before_is : (program : Program) (outline : Outline) (notes : Notes) (r s item : ℕ) (w : Weight) → r < length program.procs → AreNotes program outline.notes notes → item ≡ proc_item program r → IsBefore notes (record { item = item; statement = s }) w →
     Weighs w (note_before_weight program outline r s)
 note_before_is program outline notes r s item w l h i b =
-    let found = is_there program.procs r l in
+    let found = get_there program.procs r l in
     let own : IsBefore notes (place program r s) w = subst (λ (n : ℕ). IsBefore notes (record { item = n; statement = s }) w) i b in
     let at : note_before_weight program outline r s ≡ option_map_or (λ note. note_weight program found.0 note.expr) (written_before program outline r s) 1 = rw found.1 refl in
     weighs_same (or_one program found.0 (written_before program outline r s) ∙ sym at) (own.is (first_weight program r s found.0 outline.notes) (h.are r s found.0 found.1))

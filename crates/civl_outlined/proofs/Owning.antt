@@ -3,17 +3,20 @@ use Rattle.std.proofs.Common.{◌≡◌, ℕ, zero, suc, ◌+◌, ◌<◌, ◌�
 use Rattle.std.specs.Prelude.{nat_lt, if◌then◌else◌, slice_get}
 use Rattle.std.proofs.lemmas.Bool.{lt-ltb, le-ltb, cases_lt, cases_eq}
 use Rattle.std.proofs.lemmas.List.{drop_more, drop_all, take_more, map-append}
-use Rattle.std.proofs.lemmas.Option.{same_Some, none-some}
+use Rattle.std.proofs.lemmas.Option.{same_Some, slice_get_within}
 use Rattle.std.proofs.lemmas.Grind.{common_steps, flat_map-append}
 use Rattle.civl_tree.specs.declared.expr.Expr.{Expr}
-use Rattle.civl_tree.specs.declared.stmt.Stmt.{Stmt, out-Stmt, map-Stmt, the_lemmas as of_stmt}
+use Rattle.civl_tree.specs.declared.stmt.Stmt.{Stmt, out-Stmt}
 use Rattle.civl_tree.specs.declared.stmt.Stmt as tree
-use Rattle.civl_tree.specs.declared.stmt.Stmt.TheOpen.{Stmt-F, If, While, YieldLoop, RankLoop}
-use Rattle.civl_tree.specs.Numbering.{size_step, size_of, sizes_of, inner_of, statements_of}
+use Rattle.civl_tree.specs.declared.stmt.Stmt.TheOpen.{If, While, YieldLoop, RankLoop}
+use Rattle.civl_tree.specs.Numbering.{size_of, sizes_of, inner_of, statements_of}
+use Rattle.civl_tree.proofs.Sizes.{size_is_some, if_out, while_out, yield_loop_out, rank_loop_out, size_if, size_while, size_yield_loop, size_rank_loop}
+use Rattle.civl_tree.proofs.Numbers.{sizes_more}
+use Rattle.civl_tree.proofs.Lists.{drop_is}
 use Rattle.civl_meaning.specs.Places.{Spot, is_skipped, start_of, first_in, spot_among, inside_of, loop_spot}
-use Rattle.civl_meaning.proofs.Finding.{among_here, among_inside, drop_is}
-use Rattle.civl_meaning.proofs.Placing.{inside_is, inside_layer}
-use Rattle.civl_meaning.proofs.Spots.{among_past, sizes_more, size_is, size_is_some}
+use Rattle.civl_meaning.proofs.Finding.{among_here, among_inside}
+use Rattle.civl_meaning.proofs.Spots.{among_past}
+use Rattle.civl_meaning.proofs.Tables.{inside_by}
 use Rattle.civl_outlined.specs.declared.places.Place.{Place}
 use Rattle.civl_outlined.specs.Places.{spot_of, Own, ArePlaces}
 
@@ -29,10 +32,6 @@ get_last [] x zero h = refl
 get_last [] x (suc i) h = absurd (omega arith)
 get_last (y ∷ xs) x zero h = absurd (omega arith)
 get_last (y ∷ xs) x (suc i) h = get_last xs x i (omega arith)
-
-pub long_more : {A : Type 0} (xs : List A) (x : A) → length (xs ++ x ∷ []) ≡ length xs + 1
-long_more [] x = refl
-long_more (y ∷ xs) x = let h = long_more xs x in omega (arith, h)
 
 -- where the statements begin that stand behind the one at this place
 pub after_is : (ss : List Stmt) (i : ℕ) (s : Stmt) (b n : ℕ) → start_of (drop (i + 1) ss) b n ≡ (if nat_lt (i + 1) (length ss) then b else n)
@@ -61,12 +60,6 @@ among_drop (s ∷ ss) (suc i) at next after w h =
 
 pub sizes_next : (ss : List Stmt) (i : ℕ) (s : Stmt) → i < length ss → s ≡ get_or ss i s → sizes_of (take (i + 1) ss) ≡ sizes_of (take i ss) + size_of s
 sizes_next ss i s h e = grind (arith, common_steps)
-
-pub sizes_within : (ss : List Stmt) (i : ℕ) → sizes_of (take i ss) ≤ sizes_of ss
-sizes_within [] zero = omega arith
-sizes_within [] (suc i) = omega arith
-sizes_within (s ∷ ss) zero = omega arith
-sizes_within (s ∷ ss) (suc i) = omega (arith, sizes_within ss i, sizes_more s ss, sizes_more s (take i ss))
 
 -- ---- nothing is added
 
@@ -146,43 +139,13 @@ statements_more old es mid new ss i s p h e k m ps n =
 
 -- ---- inside a statement
 
-if_out : (e : Expr) (a b : List Stmt) → out-Stmt (tree.If e a b) ≡ If e a b
-if_out e a b = simp (of_stmt)
-
-while_out : (e : Expr) (a : List Stmt) → out-Stmt (tree.While e a) ≡ While e a
-while_out e a = simp (of_stmt)
-
-yield_loop_out : (e i : Expr) (a : List Stmt) → out-Stmt (tree.YieldLoop e i a) ≡ YieldLoop e i a
-yield_loop_out e i a = simp (of_stmt)
-
-rank_loop_out : (e r i : Expr) (a : List Stmt) → out-Stmt (tree.RankLoop e r i a) ≡ RankLoop e r i a
-rank_loop_out e r i a = simp (of_stmt)
-
 module _ (s : Stmt) where
-  size_by : (d : Stmt-F Stmt) → out-Stmt s ≡ d → size_of s ≡ size_step (map-Stmt Stmt ℕ size_of d)
-  size_by d o = size_is s ∙ ap (λ (x : Stmt-F Stmt). size_step (map-Stmt Stmt ℕ size_of x)) o
-
-  inside_by : (d : Stmt-F Stmt) (at next : ℕ) (after : Option Spot) (w : ℕ) → out-Stmt s ≡ d → inside_of s s at next after w ≡ inside_layer d s at next after w
-  inside_by d at next after w o = inside_is s s at next after w ∙ ap (λ (x : Stmt-F Stmt). inside_layer x s at next after w) o
-
-  pub size_if : (e : Expr) (a b : List Stmt) → s ≡ tree.If e a b → size_of s ≡ 1 + sizes_of a + sizes_of b
-  size_if e a b is = size_by (If e a b) (ap out-Stmt is ∙ if_out e a b)
-
-  pub size_while : (e : Expr) (a : List Stmt) → s ≡ tree.While e a → size_of s ≡ 1 + sizes_of a
-  size_while e a is = size_by (While e a) (ap out-Stmt is ∙ while_out e a)
-
-  pub size_yield_loop : (e i : Expr) (a : List Stmt) → s ≡ tree.YieldLoop e i a → size_of s ≡ 1 + sizes_of a
-  size_yield_loop e i a is = size_by (YieldLoop e i a) (ap out-Stmt is ∙ yield_loop_out e i a)
-
-  pub size_rank_loop : (e r i : Expr) (a : List Stmt) → s ≡ tree.RankLoop e r i a → size_of s ≡ 1 + sizes_of a
-  size_rank_loop e r i a is = size_by (RankLoop e r i a) (ap out-Stmt is ∙ rank_loop_out e r i a)
-
   module _ (old mid new : List Place) (at next : ℕ) where
     pub own_if : (e : Expr) (a b : List Stmt) (second : ℕ) → s ≡ tree.If e a b → second ≡ at + 1 + sizes_of a → Own old mid (at + 1) (at + 1 + sizes_of a) (spot_among a (at + 1) next) →
         Own mid new second (second + sizes_of b) (spot_among b second next) → Own old new (at + 1) (at + size_of s) (inside_of s s at next)
     own_if e a b second is q f g =
-        let size = size_if e a b is in
-        let layer = λ (after : Option Spot) (w : ℕ). inside_by (If e a b) at next after w (ap out-Stmt is ∙ if_out e a b) in
+        let size = size_if s e a b is in
+        let layer = λ (after : Option Spot) (w : ℕ). inside_by s (If e a b) at next after w (ap out-Stmt is ∙ if_out e a b) in
         record {
           long = g.long ∙ omega (arith, size, q);
           before = λ number l. g.before number (omega (arith, q)) ∙ f.before number l;
@@ -201,13 +164,13 @@ module _ (s : Stmt) where
     }
 
     pub own_while : (e : Expr) (a : List Stmt) → s ≡ tree.While e a → Own old new (at + 1) (at + 1 + sizes_of a) (spot_among a (at + 1) at) → Own old new (at + 1) (at + size_of s) (inside_of s s at next)
-    own_while e a is f = own_loop a (size_while e a is) (λ after w. inside_by (While e a) at next after w (ap out-Stmt is ∙ while_out e a)) f
+    own_while e a is f = own_loop a (size_while s e a is) (λ after w. inside_by s (While e a) at next after w (ap out-Stmt is ∙ while_out e a)) f
 
     pub own_yield_loop : (e i : Expr) (a : List Stmt) → s ≡ tree.YieldLoop e i a → Own old new (at + 1) (at + 1 + sizes_of a) (spot_among a (at + 1) at) → Own old new (at + 1) (at + size_of s) (inside_of s s at next)
-    own_yield_loop e i a is f = own_loop a (size_yield_loop e i a is) (λ after w. inside_by (YieldLoop e i a) at next after w (ap out-Stmt is ∙ yield_loop_out e i a)) f
+    own_yield_loop e i a is f = own_loop a (size_yield_loop s e i a is) (λ after w. inside_by s (YieldLoop e i a) at next after w (ap out-Stmt is ∙ yield_loop_out e i a)) f
 
     pub own_rank_loop : (e r i : Expr) (a : List Stmt) → s ≡ tree.RankLoop e r i a → Own old new (at + 1) (at + 1 + sizes_of a) (spot_among a (at + 1) at) → Own old new (at + 1) (at + size_of s) (inside_of s s at next)
-    own_rank_loop e r i a is f = own_loop a (size_rank_loop e r i a is) (λ after w. inside_by (RankLoop e r i a) at next after w (ap out-Stmt is ∙ rank_loop_out e r i a)) f
+    own_rank_loop e r i a is f = own_loop a (size_rank_loop s e r i a is) (λ after w. inside_by s (RankLoop e r i a) at next after w (ap out-Stmt is ∙ rank_loop_out e r i a)) f
 
 -- ---- a whole body
 
@@ -217,10 +180,5 @@ body_places body new same own = record {
   spots = λ number place g k. own.inside None number place (omega arith) (within number place g) g k;
 }
   where
-    inside : {A : Type 0} (xs : List A) (i : ℕ) (x : A) → slice_get xs i ≡ Some x → i < length xs
-    inside [] i x e = absurd (none-some x e)
-    inside (y ∷ xs) zero x e = omega arith
-    inside (y ∷ xs) (suc i) x e = omega (arith, inside xs i x e)
-
     within : (number : ℕ) (place : Place) → slice_get new number ≡ Some place → number < 0 + sizes_of body
-    within number place g = omega (arith, inside new number place g, own.long)
+    within number place g = omega (arith, slice_get_within new number place g, own.long)

@@ -27,11 +27,11 @@ use Rattle.civl_weights.specs.declared.sums.actions.ActionSums.{ActionSums}
 use Rattle.civl_weights.specs.sums.Sums.{OfAction}
 use Rattle.civl_weights.proofs.sums.Groups.{two_groups, choices_bits_are}
 use Rattle.civl_weights.specs.Kinds.{instance_bits}
+use Rattle.civl_weights.proofs.Groups.{instances}
 use Rattle.civl_outlined.specs.declared.statements.StatementSums.{StatementSums}
 use Rattle.civl_outlined.specs.declared.roots.ProcSums.{ProcSums}
 use Rattle.civl_outlined.specs.declared.weights.Sums.{Sums}
 use Rattle.civl_outlined.specs.Said.{IsSaid}
-use Rattle.civl_outlined.proofs.Acting.{instances}
 use Rattle.civl_outlined.specs.Sums.{OfSums, HasProc, IsThere, AreProcs, IsOfRoot, OfFound}
 
 module _ (program : Program) (outline : Outline) where

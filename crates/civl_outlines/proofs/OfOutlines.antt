@@ -2,6 +2,7 @@
 use Rattle.std.proofs.Common.{◌≡◌, ℕ, Bool, true, false, List, [], ◌∷◌, ◌++◌, map, Some, refl, sym, ap, append-nil}
 use Rattle.std.specs.Prelude.{codes, ◌==◌, IsTrue}
 use Rattle.std.specs.List.{AllByRecursion, list_all}
+use Rattle.std.proofs.lemmas.Bool.{and_from}
 use Rattle.civl_tree.specs.Token.{Token, Reserved}
 use Rattle.civl_tree.specs.Spelling.{semicolon, joined}
 use Rattle.civl_tree.specs.SpellingDomain.{allows_expr, allows_program, HasSpelling}
@@ -12,7 +13,7 @@ use Rattle.civl_phrases.proofs.Joins.{both_is, mapped_is}
 use Rattle.civl_phrases.proofs.Tokens.{after_is, then_is, ended_is}
 use Rattle.civl_phrases.proofs.Lists.{repeated_is}
 use Rattle.civl_phrases.proofs.Heads.{heads_after, heads_repeated, heads_end}
-use Rattle.civl_phrases.proofs.Tables.{and_parts, and_join}
+use Rattle.civl_phrases.proofs.Tables.{and_parts}
 use Rattle.civl_phrases.proofs.Leaves.{number_is}
 use Rattle.civl_expressions.specs.readers.Exprs.{FitsExpr}
 use Rattle.civl_expressions.proofs.Lists.{all_from, all_to}
@@ -77,7 +78,7 @@ saying_behind new = record {
 outline_to : (p : Program) (s : Saying) → HasSpelling p → SayingFits (p.version == 2) s → OutlineHasSpelling (make_outline (p, s))
 outline_to p s f g =
     let new = p.version == 2 in
-    and_join (allows_program p) _ f (and_join (list_all (allows_expr new) s.holds) _ (all_from (allows_expr new) s.holds g.0) (all_from (λ (note : Note). allows_expr new note.expr) s.notes g.1))
+    and_from (allows_program p) _ f (and_from (list_all (allows_expr new) s.holds) _ (all_from (allows_expr new) s.holds g.0) (all_from (λ (note : Note). allows_expr new note.expr) s.notes g.1))
 
 outline_from : (o : Outline) → OutlineHasSpelling o → (v : Program × Saying) × (make_outline v ≡ o) × (HasSpelling v.0 × SayingFits (v.0.version == 2) v.1)
 outline_from o h =

@@ -2,6 +2,7 @@
 use Rattle.std.proofs.Common.{◌≡◌, ℕ, Bool, true, false, List, [], ◌∷◌, ◌++◌, map, Some, refl, sym, ap, subst, ◌∙◌, append_assoc, append-nil}
 use Rattle.std.specs.Prelude.{codes, ◌==◌}
 use Rattle.std.specs.List.{AllByRecursion, list_all}
+use Rattle.std.proofs.lemmas.Bool.{and_from}
 use Rattle.civl_tree.specs.Token.{Token, Reserved, Number}
 use Rattle.civl_tree.specs.Spelling.{semicolon, joined}
 use Rattle.civl_tree.specs.SpellingProgram.{spell_global, spell_init, spell_invariant, spell_action, spell_proc, spell_thread, spell_program}
@@ -21,7 +22,7 @@ use Rattle.civl_phrases.proofs.Joins.{both_is, mapped_is}
 use Rattle.civl_phrases.proofs.Tokens.{after_is, then_is, ended_is}
 use Rattle.civl_phrases.proofs.Lists.{repeated_is}
 use Rattle.civl_phrases.proofs.Heads.{heads_mapped, heads_repeated, heads_end}
-use Rattle.civl_phrases.proofs.Tables.{and_parts, and_join}
+use Rattle.civl_phrases.proofs.Tables.{and_parts}
 use Rattle.civl_phrases.proofs.Leaves.{number_is}
 use Rattle.civl_parser.specs.declared.programs.Header.{Header}
 use Rattle.civl_parser.specs.declared.programs.Claims.{Claims}
@@ -174,11 +175,11 @@ module _ {E : Type 0} (z : List Token → Type 0) (s : E → List Token) (f : E 
 program_to : (h : Header) (gs : List Global) (c : Claims) → AllByRecursion FitsGlobal gs → FitsClaims (h.version == 2) c → HasSpelling (make_program (h, (gs, c)))
 program_to h gs c f g =
     let new = h.version == 2 in
-    and_join (list_all allows_global gs) _ (all_from allows_global gs f)
-    (and_join (allows_expr new c.init) _ g.0
-    (and_join (list_all (allows_invariant new) c.invariants) _ (all_from (allows_invariant new) c.invariants g.1.0)
-    (and_join (list_all (allows_action new) c.bodies.actions) _ (all_from (allows_action new) c.bodies.actions g.1.1.0)
-    (and_join (list_all (allows_proc new) c.bodies.procs) _ (all_from (allows_proc new) c.bodies.procs g.1.1.1.0) (all_from (allows_thread new) c.bodies.threads g.1.1.1.1)))))
+    and_from (list_all allows_global gs) _ (all_from allows_global gs f)
+    (and_from (allows_expr new c.init) _ g.0
+    (and_from (list_all (allows_invariant new) c.invariants) _ (all_from (allows_invariant new) c.invariants g.1.0)
+    (and_from (list_all (allows_action new) c.bodies.actions) _ (all_from (allows_action new) c.bodies.actions g.1.1.0)
+    (and_from (list_all (allows_proc new) c.bodies.procs) _ (all_from (allows_proc new) c.bodies.procs g.1.1.1.0) (all_from (allows_thread new) c.bodies.threads g.1.1.1.1)))))
 
 abbrev program_parts : Program → Header × (List Global × Claims)
 program_parts p = (

@@ -2,6 +2,7 @@
 use Rattle.std.proofs.Common.{◌≡◌, ℕ, Bool, true, false, List, [], ◌∷◌, ◌++◌, map, Option, Some, refl, sym, ap, append-nil}
 use Rattle.std.specs.Prelude.{codes}
 use Rattle.std.specs.List.{AllByRecursion, list_all}
+use Rattle.std.proofs.lemmas.Bool.{and_from}
 use Rattle.civl_tree.specs.Token.{Token, Reserved}
 use Rattle.civl_tree.specs.Spelling.{joined}
 use Rattle.civl_tree.specs.SpellingScript.{spell_entry, spell_step, spell_script}
@@ -15,7 +16,7 @@ use Rattle.civl_phrases.proofs.Joins.{mapped_is}
 use Rattle.civl_phrases.proofs.Tokens.{after_is, ended_is}
 use Rattle.civl_phrases.proofs.Lists.{repeated_is}
 use Rattle.civl_phrases.proofs.Heads.{heads_after, heads_repeated, heads_end}
-use Rattle.civl_phrases.proofs.Tables.{and_parts, and_join}
+use Rattle.civl_phrases.proofs.Tables.{and_parts}
 use Rattle.civl_parser.specs.declared.script.Schedule.{Schedule}
 use Rattle.civl_declarations.specs.readers.Actions.{action_word}
 use Rattle.civl_statements.specs.readers.Procs.{proc_word}
@@ -56,7 +57,7 @@ schedule_behind = record {
 }
 
 script_to : (p : Program) (s : Schedule) → HasSpelling p → ScheduleFits s → ScriptHasSpelling (make_script (p, s))
-script_to p s f g = and_join (allows_program p) _ f (and_join (list_all allows_entry s.store) _ (all_from allows_entry s.store g.0) (all_from allows_told s.moves g.1))
+script_to p s f g = and_from (allows_program p) _ f (and_from (list_all allows_entry s.store) _ (all_from allows_entry s.store g.0) (all_from allows_told s.moves g.1))
 
 script_from : (s : Script) → ScriptHasSpelling s → (v : Program × Schedule) × (make_script v ≡ s) × (HasSpelling v.0 × ScheduleFits v.1)
 script_from s h =

@@ -5,6 +5,7 @@ use Rattle.std.specs.Prelude.{◌||◌, codes}
 use Rattle.std.specs.Str.{bytes_eq}
 use Rattle.std.proofs.lemmas.List.Sums.{sum_by-cons}
 use Rattle.std.proofs.lemmas.Slice.Eq.{bytes_eq-Decides}
+use Rattle.std.proofs.lemmas.Option.{same_Some}
 use Rattle.civl_tree.specs.Token.{Token, Named, Reserved, Sign, Number}
 use Rattle.civl_phrases.specs.Bracket.{opens, closes, IsShallow, Opens, Closes, Plain, side, turn, and_then, room}
 use Rattle.civl_phrases.specs.Reader.{lookahead}
@@ -13,16 +14,13 @@ pub lookahead_join : (b r o : List Token) → lookahead o ≡ lookahead r → lo
 lookahead_join [] r o e = e
 lookahead_join (t ∷ b) r o e = refl
 
-some_is : (d m : ℕ) → Some d ≡ Some m → d ≡ m
-some_is d m e = cc
-
 room_go : (o : Option ℕ) (m : ℕ) (out : Option ℕ) (f g : ℕ → Option ℕ) → ((k : ℕ) → f k ≡ Some m → g k ≡ out) → and_then o f ≡ Some m → and_then o g ≡ out
 room_go (Some k) m out f g step h = step k h
 room_go None m out f g step h = absurd cc
 
 pub room_then : (d m : ℕ) (x y : List Token) → room d x ≡ Some m → room d (x ++ y) ≡ room m y
 unfolding room
-room_then d m [] y e = ap (λ k. room k y) (some_is d m e)
+room_then d m [] y e = ap (λ k. room k y) (same_Some d m e)
 room_then d m (t ∷ x) y e = room_go (turn (side t) d) m (room m y) (λ k. room k x) (λ k. room k (x ++ y)) (λ k h. room_then k m x y h) e
 
 -- ---- the brackets that are open, counted over all tokens and token by token

@@ -46,10 +46,6 @@ pub and_parts : (x y : Bool) → IsTrue (x && y) → IsTrue x × IsTrue y
 and_parts true y h = (refl, h)
 and_parts false y h = absurd cc
 
-pub and_join : (x y : Bool) → IsTrue x → IsTrue y → IsTrue (x && y)
-and_join true y h k = k
-and_join false y h k = absurd cc
-
 pub form_has : {K : Type 0} (has : K → Bool) (table : List (Token × K)) (o : Option Token) (k : K) → form_in has table o ≡ Some k → IsTrue (has k)
 form_has {K} has table None k e = absurd cc
 form_has {K} has table (Some t) k e = go (lookup table t) e

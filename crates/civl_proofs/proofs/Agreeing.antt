@@ -6,6 +6,7 @@ use Rattle.std.specs.Fmt.{decimal}
 use Rattle.std.proofs.lemmas.List.{append-nil}
 use Rattle.std.proofs.lemmas.Fmt.{decimal_injective}
 use Rattle.std.proofs.lemmas.Bool.{and_parts, false≢true, eqb-true, eqb-false, ne_eqb, not-true}
+use Rattle.std.proofs.Math.Bool.{and-true}
 use Rattle.civl_cnf.specs.Literal.{Literal}
 use Rattle.civl_cnf.specs.ClauseSet.{ClauseSet}
 use Rattle.civl_proofs.specs.declared.reading.Spot.TheVariants.{First}
@@ -135,12 +136,8 @@ remark_byte byte line others set log e =
 
 -- ---- the header
 
-and_true : (b : Bool) → (b && true) ≡ b
-and_true true = refl
-and_true false = refl
-
 parts_blank : (byte : ℕ) → eqb byte 10 ≡ false → parts_words byte ≡ is_blank byte
-parts_blank byte e = ap (λ (b : Bool). is_blank byte && not b) e ∙ and_true (is_blank byte)
+parts_blank byte e = ap (λ (b : Bool). is_blank byte && not b) e ∙ and-true (is_blank byte)
 
 meets_fits : (expected byte : ℕ) → eqb byte 10 ≡ false → meets expected byte ≡ fits expected byte
 meets_fits expected byte e = ap (λ (b : Bool). cond (eqb expected 32) b (eqb byte expected)) (parts_blank byte e)

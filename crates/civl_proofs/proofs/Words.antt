@@ -3,19 +3,12 @@ use Rattle.std.proofs.Common.{◌≡◌, ℕ, Bool, true, false, not, List, [], 
 use Rattle.std.specs.Prelude.{filter}
 use Rattle.std.proofs.lemmas.List.{append-nil}
 use Rattle.std.specs.List.{slice_split, onto_first, list_all}
-use Rattle.std.proofs.lemmas.Bool.{cond-true, cond-false, and_parts}
+use Rattle.std.proofs.lemmas.Bool.{cond-true, cond-false, and_parts, not-true}
 use Rattle.civl_proofs.specs.Text.{is_blank, is_filled, words_of}
 
 -- no blank is among the bytes
 abbrev pub is_dense : List ℕ → Bool
 is_dense bytes = list_all (λ byte. not (is_blank byte)) bytes
-
-not_true : (b : Bool) → not b ≡ true → b ≡ false
-not_true true h = absurd (cc)
-not_true false h = refl
-
-pub not_false : (b : Bool) → b ≡ false → not b ≡ true
-not_false b h = ap not h
 
 -- a list that was split has a first part
 pub record IsParted (p : ℕ → Bool) (bytes : List ℕ) : Type 0 where
@@ -36,7 +29,7 @@ pub onto_parts : (p : ℕ → Bool) (front bytes first : List ℕ) (others : Lis
 onto_parts p [] bytes first others dense h = h
 onto_parts p (byte ∷ front) bytes first others dense h =
     let parts = and_parts (not (p byte)) (list_all (λ x. not (p x)) front) dense in
-    cond-false (p byte) _ _ (not_true (p byte) parts.0) ∙ ap (onto_first byte) (onto_parts p front bytes first others parts.1 h)
+    cond-false (p byte) _ _ (not-true (p byte) parts.0) ∙ ap (onto_first byte) (onto_parts p front bytes first others parts.1 h)
 
 -- ---- words
 

@@ -1,10 +1,12 @@
 -- The two literals of a clause that are watched.
 use Rattle.std.proofs.Common.{◌≡◌, ◌⊎◌, ℕ, ◌+◌, ◌<◌, ◌≤◌, List, [], ◌∷◌, ◌++◌, length, get_or, take, refl, sym, ◌∙◌, ap, subst, inl, inr, arith, Bool, true, false, not}
-use Rattle.std.specs.Prelude.{All, Contains, Option, None, Some, ◌≢◌, if◌then◌else◌}
+use Rattle.std.specs.Prelude.{All, Contains, Option, None, Some, ◌≢◌}
 use Rattle.std.proofs.lemmas.List.{get_or_append_left, get_or_push, length_push, take_all, take_more}
 use Rattle.std.proofs.lemmas.List.Elements.{All-contains, All-nil, All-push, Contains-get_or, Contains-push, Contains-append_left}
+use Rattle.std.proofs.lemmas.Bool.{cond-true, cond-false}
 use Rattle.civl_cnf.specs.Literal.{Literal}
 use Rattle.civl_cnf.specs.ClauseSet.{IsBelow}
+use Rattle.civl_cnf.proofs.Literals.{literal_or_not}
 use Rattle.civl_units.specs.Propagation.{Fails}
 use Rattle.civl_units.specs.Marks.{marked, IsQuiet}
 use Rattle.civl_units.specs.Occurrences.{BothSigns, IsSingle}
@@ -18,7 +20,6 @@ use Rattle.civl_propagation.specs.declared.choice.Best.TheVariants.{Nothing, One
 use Rattle.civl_propagation.specs.declared.watches.Pair.{Pair}
 use Rattle.civl_propagation.proofs.Trails.{some_step, before_place, before_marked, before_by}
 use Rattle.civl_propagation.proofs.Watching.{listed_by}
-use Rattle.civl_propagation.proofs.Visiting.{literal_or_not}
 
 -- the first literal is the best so far
 pub first_best : (t : TrailState) (seen : List Literal) (next : Ranked) → IsRanked t next → BestSays t seen Nothing → BestSays t (seen ++ next.lit ∷ []) (One next)
@@ -136,31 +137,20 @@ single_none t clause none l m there more = let low = there.1 in let size : lengt
 pub single_one : (t : TrailState) (clause : List Literal) (first : Ranked) → BestSays t clause (One first) → ChoiceSays t clause None
 single_one t clause first says l m there more = All-contains (λ (x : Literal). x ≡ first.lit) clause l says.2 there ∙ sym (All-contains (λ (x : Literal). x ≡ first.lit) clause m says.2 more)
 
-pub never_both : (a : Bool) → a ≡ true → a ≡ false → ⊥
-never_both a e f = let g : true ≡ false = sym e ∙ f in cc
-
-if_true : (b : Bool) (x y : ℕ) → b ≡ true → (if b then x else y) ≡ x
-if_true true x y e = refl
-if_true false x y e = cc
-
-if_false : (b : Bool) (x y : ℕ) → b ≡ false → (if b then x else y) ≡ y
-if_false true x y e = cc
-if_false false x y e = refl
-
 -- a literal is false before a place exactly where its rank is lower
 pub fails_rank : (t : TrailState) (l : Literal) (p : ℕ) → Fails (before t.marks t.places p) l → rank t l < p
 fails_rank t l p f =
     let low : get_or t.places l.variable 0 < p = before_place t.marks t.places p l.variable (not l.positive) f in
     let held = before_marked t.marks t.places p l.variable (not l.positive) f in
-    let is : rank t l ≡ get_or t.places l.variable 0 = if_true (marked t.marks l.variable (not l.positive)) (get_or t.places l.variable 0) (length t.steps) held in
+    let is : rank t l ≡ get_or t.places l.variable 0 = cond-true (marked t.marks l.variable (not l.positive)) (get_or t.places l.variable 0) (length t.steps) held in
     omega arith
 
 rank_by : (t : TrailState) (l : Literal) (p : ℕ) (b : Bool) → marked t.marks l.variable (not l.positive) ≡ b → p ≤ length t.steps → rank t l < p → Fails (before t.marks t.places p) l
 rank_by t l p true is fits low =
-    let same : rank t l ≡ get_or t.places l.variable 0 = if_true (marked t.marks l.variable (not l.positive)) (get_or t.places l.variable 0) (length t.steps) is in
+    let same : rank t l ≡ get_or t.places l.variable 0 = cond-true (marked t.marks l.variable (not l.positive)) (get_or t.places l.variable 0) (length t.steps) is in
     before_by t.marks t.places p l.variable (not l.positive) (omega arith) is
 rank_by t l p false is fits low =
-    let same : rank t l ≡ length t.steps = if_false (marked t.marks l.variable (not l.positive)) (get_or t.places l.variable 0) (length t.steps) is in
+    let same : rank t l ≡ length t.steps = cond-false (marked t.marks l.variable (not l.positive)) (get_or t.places l.variable 0) (length t.steps) is in
     absurd (omega arith)
 
 pub rank_fails : (t : TrailState) (l : Literal) (p : ℕ) → p ≤ length t.steps → rank t l < p → Fails (before t.marks t.places p) l
@@ -169,16 +159,16 @@ rank_fails t l p fits low = rank_by t l p (marked t.marks l.variable (not l.posi
 -- none became false later than one that isn't false
 rank_low : (t : TrailState) (clauses : List (List Literal)) (l : Literal) (b : Bool) → IsTrailOver t clauses → marked t.marks l.variable (not l.positive) ≡ b → rank t l ≤ length t.steps
 rank_low t clauses l true h is =
-    let same : rank t l ≡ get_or t.places l.variable 0 = if_true (marked t.marks l.variable (not l.positive)) (get_or t.places l.variable 0) (length t.steps) is in
+    let same : rank t l ≡ get_or t.places l.variable 0 = cond-true (marked t.marks l.variable (not l.positive)) (get_or t.places l.variable 0) (length t.steps) is in
     let low = (h.marks_are l.variable (not l.positive) some_step is).0 in
     omega arith
 rank_low t clauses l false h is =
-    let same : rank t l ≡ length t.steps = if_false (marked t.marks l.variable (not l.positive)) (get_or t.places l.variable 0) (length t.steps) is in
+    let same : rank t l ≡ length t.steps = cond-false (marked t.marks l.variable (not l.positive)) (get_or t.places l.variable 0) (length t.steps) is in
     omega arith
 
 rank_free : (t : TrailState) (l : Literal) (b : Bool) → marked t.marks l.variable (not l.positive) ≡ b → (Fails (marked t.marks) l → ⊥) → rank t l ≡ length t.steps
 rank_free t l true is free = absurd (free is)
-rank_free t l false is free = if_false (marked t.marks l.variable (not l.positive)) (get_or t.places l.variable 0) (length t.steps) is
+rank_free t l false is free = cond-false (marked t.marks l.variable (not l.positive)) (get_or t.places l.variable 0) (length t.steps) is
 
 -- two that aren't false are the best two
 pub free_best : (t : TrailState) (clauses : List (List Literal)) (clause : List Literal) (pair : Pair) → IsTrailOver t clauses → IsFreeIn t clause pair → IsBest t clause pair

@@ -4,13 +4,14 @@ use Rattle.std.specs.Prelude.{IsTrue, All, Option, None, Some}
 use Rattle.std.proofs.Math.ListN.{set, length-set}
 use Rattle.std.proofs.lemmas.List.{get_or_default, get_or_append_left, get_or_push, length_push, length-append, length-replicate, get_or-replicate, get_or_past, get_or-take}
 use Rattle.std.proofs.lemmas.List.Elements.{All-nil, All-push}
+use Rattle.std.proofs.lemmas.Bool.{cases_lt}
 use Rattle.civl_cnf.specs.Literal.{Literal}
 use Rattle.civl_cnf.specs.ClauseSet.{IsBelow, AreBelow}
 use Rattle.civl_units.specs.Propagation.{Holds, IsFalsified, IsUnit, IsClosed, HasConflict}
 use Rattle.civl_units.specs.Marks.{is_marked, marked, IsQuiet, IsIncluded}
 use Rattle.civl_units.specs.Occurrences.{nowhere, of_sign}
 use Rattle.civl_units.specs.Trail.{IsOpen}
-use Rattle.civl_units.proofs.MarkLemmas.{lt_or_eq, same_self, below_or_not}
+use Rattle.civl_units.proofs.MarkLemmas.{lt_or_eq, same_self, mark_absent}
 use Rattle.civl_units.proofs.Propagating.{marks_stay, unit_grows}
 use Rattle.civl_propagation.specs.Trail.{TrailState, before, IsAt, ReasonSays, IsTrailOver, IsDecided, IsCut, AreDecided, Deepens}
 use Rattle.civl_propagation.specs.Propagation.{IsServed, Grows, ServeSays}
@@ -42,15 +43,11 @@ step_lit steps n d e low = ap (λ (x : Step). x.lit) (get_or_default steps n d e
 marked_by : (m : Option Bool) (b : Bool) → m ≡ Some b → IsTrue (is_marked m b)
 marked_by m b e = ap (λ (o : Option Bool). is_marked o b) e ∙ same_self b
 
-unmarked_none : (m : Option Bool) (b : Bool) → m ≡ None → IsTrue (is_marked m b) → ⊥
-unmarked_none None b e p = cc
-unmarked_none (Some a) b e p = cc
-
 none_marked : (n v : ℕ) (b : Bool) → IsTrue (marked (replicate n None) v b) → ⊥
 none_marked n v b h =
     let marks : List (Option Bool) = replicate n None in
     let size : length marks ≡ n = length-replicate n no_mark in
-    unmarked_none (get_or marks v None) b (elim (below_or_not v n) [
+    mark_absent (get_or marks v None) b (elim (cases_lt v n) [
       | inl low ↦ get_or-replicate n v no_mark no_mark low
       | inr above ↦ get_or_past marks v no_mark (omega arith)
     ]) h
@@ -188,7 +185,7 @@ of_nowhere false = refl
 
 -- where no clause is watched, each list is empty
 none_watch : (n : ℕ) (l : Literal) → watchers (replicate n nowhere) l ≡ []
-none_watch n l = elim (below_or_not l.variable n) [
+none_watch n l = elim (cases_lt l.variable n) [
   | inl low ↦ ap (of_sign l.positive) (get_or-replicate n l.variable nowhere nowhere low) ∙ of_nowhere l.positive
   | inr above ↦
       let size : length (replicate n nowhere) ≡ n = length-replicate n nowhere in

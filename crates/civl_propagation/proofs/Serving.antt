@@ -4,13 +4,13 @@ use Rattle.std.specs.Prelude.{IsTrue, All, Option, None, Some}
 use Rattle.std.proofs.Math.ListN.{set, length-set}
 use Rattle.std.proofs.lemmas.List.{get_or-set_same, get_or_append_left, length_push}
 use Rattle.std.proofs.lemmas.List.Elements.{All-contains, Contains-push}
+use Rattle.std.proofs.Math.Bool.{not-not}
 use Rattle.civl_cnf.specs.Literal.{Literal, opposite}
 use Rattle.civl_cnf.specs.ClauseSet.{IsBelow}
 use Rattle.civl_units.specs.Propagation.{Holds, Fails, IsFalsified, IsUnit}
 use Rattle.civl_units.specs.Marks.{is_marked, marked, IsQuiet, IsIncluded}
 use Rattle.civl_units.specs.Trail.{IsOpen, open_count}
-use Rattle.civl_units.proofs.MarkLemmas.{same_self, lt_or_eq}
-use Rattle.civl_units.proofs.LawLemmas.{not_not}
+use Rattle.civl_units.proofs.MarkLemmas.{same_self, lt_or_eq, mark_absent}
 use Rattle.civl_units.proofs.Propagating.{marks_stay, same_is}
 use Rattle.civl_units.proofs.Trails.{open_set}
 use Rattle.civl_propagation.specs.Trail.{TrailState, before, IsAt, IsStep, ReasonSays, IsTrail, IsTrailOver, IsPushed, IsDecided}
@@ -24,12 +24,8 @@ falsified_grows a b clause within f = λ k d low. within (get_or clause k d).var
 pub served_quiet : (set : ℕ → Bool → Bool) (clause : List Literal) → IsQuiet set clause → IsServed set set clause
 served_quiet set clause q = record { forced = q.0; quiet = q.1 }
 
-unmarked : (m : Option Bool) (b : Bool) → m ≡ None → IsTrue (is_marked m b) → ⊥
-unmarked None b e p = cc
-unmarked (Some a) b e p = cc
-
 pub open_fails : (marks : List (Option Bool)) (l : Literal) → IsOpen marks l → Fails (marked marks) l → ⊥
-open_fails marks l free p = unmarked (get_or marks l.variable None) (not l.positive) free p
+open_fails marks l free p = mark_absent (get_or marks l.variable None) (not l.positive) free p
 
 -- a clause that forces a literal is served once this is true
 served_forced : (marks : List (Option Bool)) (large : ℕ → Bool → Bool) (clause : List Literal) (l : Literal) → IsUnit (marked marks) clause l → IsOpen marks l → Holds large l → IsServed (marked marks) large clause
@@ -56,7 +52,7 @@ step_one marks places steps starts clauses n l v b t low is held place =
 opposite_is : (marks : List (Option Bool)) (places : List ℕ) (n : ℕ) (l m : Literal) → IsStep marks places n l → m.variable ≡ l.variable → Fails (marked marks) m → m ≡ opposite l
 opposite_is marks places n l m step e fails =
     let sign : l.positive ≡ not m.positive = same_is l.positive (not m.positive) (ap (λ o. is_marked o (not m.positive)) (sym (ap (λ u. get_or marks u None) e ∙ step.mark)) ∙ fails) in
-    ap₂ (λ (v : ℕ) (b : Bool). record { variable = v; positive = b }) e (sym (not_not m.positive) ∙ ap not (sym sign))
+    ap₂ (λ (v : ℕ) (b : Bool). record { variable = v; positive = b }) e (sym (not-not m.positive) ∙ ap not (sym sign))
 
 -- a literal that fails before the place behind a step, and isn't the opposite of its literal, fails before the step
 pub fails_older : (marks : List (Option Bool)) (places : List ℕ) (steps : List Step) (starts : List ℕ) (clauses : List (List Literal)) (n : ℕ) (l m : Literal) → IsTrail marks places steps starts clauses → n < length steps → ((d : Step) → (get_or steps n d).lit ≡ l) → IsStep marks places n l → (m ≡ opposite l → ⊥) → Fails (before marks places (n + 1)) m → Fails (before marks places n) m

@@ -4,13 +4,12 @@ use mathlib.Core.Path.{fun_ext}
 use Rattle.std.specs.Prelude.{IsTrue, All, Contains, Option, None, Some, nat_lt}
 use Rattle.std.proofs.Math.ListN.{set, length-set}
 use Rattle.std.proofs.lemmas.Bool.Decides.{eqb_tells}
-use Rattle.std.proofs.lemmas.Bool.{ltb-true, lt-ltb, le-ltb}
+use Rattle.std.proofs.lemmas.Bool.{ltb-true, lt-ltb, le-ltb, and_from, and_parts}
 use Rattle.std.proofs.lemmas.List.{get_or-set_same, get_or-set_other, get_or_append_left, get_or_push, length_push, get_or-take, length-take-le}
 use Rattle.std.proofs.lemmas.List.Elements.{Contains-append_left}
 use Rattle.civl_cnf.specs.Literal.{Literal}
 use Rattle.civl_units.specs.Marks.{is_marked, marked, IsQuiet}
-use Rattle.civl_units.proofs.MarkLemmas.{lt_or_eq}
-use Rattle.civl_units.proofs.LawLemmas.{and_both}
+use Rattle.civl_units.proofs.MarkLemmas.{lt_or_eq, mark_absent}
 use Rattle.civl_propagation.specs.Trail.{those, before, IsStep, ReasonSays, IsTrail}
 use Rattle.civl_propagation.specs.declared.trail.Step.{Step}
 
@@ -20,29 +19,24 @@ some_lit = record { variable = 0; positive = true }
 pub some_step : Step
 some_step = record { lit = some_lit; reason = None }
 
-and_true : (a b : Bool) → a ≡ true → b ≡ true → (a && b) ≡ true
-and_true true true e f = refl
-and_true true false e f = cc
-and_true false b e f = cc
-
 -- a mark passes the test, and the other way round
 pub those_test : (marks : List (Option Bool)) (test : ℕ → Bool) (v : ℕ) (b : Bool) → IsTrue (those marks test v b) → IsTrue (test v)
-those_test marks test v b h = (and_both (test v) (marked marks v b) h).0
+those_test marks test v b h = (and_parts (test v) (marked marks v b) h).0
 
 pub those_marked : (marks : List (Option Bool)) (test : ℕ → Bool) (v : ℕ) (b : Bool) → IsTrue (those marks test v b) → IsTrue (marked marks v b)
-those_marked marks test v b h = (and_both (test v) (marked marks v b) h).1
+those_marked marks test v b h = (and_parts (test v) (marked marks v b) h).1
 
 pub those_by : (marks : List (Option Bool)) (test : ℕ → Bool) (v : ℕ) (b : Bool) → IsTrue (test v) → IsTrue (marked marks v b) → IsTrue (those marks test v b)
-those_by marks test v b h m = and_true (test v) (marked marks v b) h m
+those_by marks test v b h m = and_from (test v) (marked marks v b) h m
 
 pub before_place : (marks : List (Option Bool)) (places : List ℕ) (p v : ℕ) (b : Bool) → IsTrue (before marks places p v b) → get_or places v 0 < p
-before_place marks places p v b h = ltb-true (get_or places v 0) p (and_both (nat_lt (get_or places v 0) p) (marked marks v b) h).0
+before_place marks places p v b h = ltb-true (get_or places v 0) p (and_parts (nat_lt (get_or places v 0) p) (marked marks v b) h).0
 
 pub before_by : (marks : List (Option Bool)) (places : List ℕ) (p v : ℕ) (b : Bool) → get_or places v 0 < p → IsTrue (marked marks v b) → IsTrue (before marks places p v b)
-before_by marks places p v b low m = and_true (nat_lt (get_or places v 0) p) (marked marks v b) (lt-ltb (get_or places v 0) p low) m
+before_by marks places p v b low m = and_from (nat_lt (get_or places v 0) p) (marked marks v b) (lt-ltb (get_or places v 0) p low) m
 
 pub before_marked : (marks : List (Option Bool)) (places : List ℕ) (p v : ℕ) (b : Bool) → IsTrue (before marks places p v b) → IsTrue (marked marks v b)
-before_marked marks places p v b h = (and_both (nat_lt (get_or places v 0) p) (marked marks v b) h).1
+before_marked marks places p v b h = (and_parts (nat_lt (get_or places v 0) p) (marked marks v b) h).1
 
 false_and : (a b c : Bool) → a ≡ false → c ≡ false → (a && b) ≡ false
 false_and true b c e f = cc
@@ -74,10 +68,6 @@ all_by false false h = refl
 -- all marks are before the end
 pub before_all : (marks : List (Option Bool)) (places : List ℕ) (steps : List Step) (starts : List ℕ) (clauses : List (List Literal)) → IsTrail marks places steps starts clauses → before marks places (length steps) ≡ marked marks
 before_all marks places steps starts clauses t = fun_ext (λ v. fun_ext (λ b. all_by (nat_lt (get_or places v 0) (length steps)) (marked marks v b) (λ m. lt-ltb (get_or places v 0) (length steps) (t.marks_are v b some_step m).0)))
-
-mark_absent : (m : Option Bool) (b : Bool) → m ≡ None → is_marked m b ≡ true → ⊥
-mark_absent None b e h = cc
-mark_absent (Some a) b e h = cc
 
 -- one more literal is marked
 pub trail_push : (marks : List (Option Bool)) (places : List ℕ) (steps : List Step) (starts : List ℕ) (clauses : List (List Literal)) (l : Literal) (r : Option ℕ) → IsTrail marks places steps starts clauses → l.variable < length marks → get_or marks l.variable None ≡ None → ReasonSays (before marks places (length steps)) clauses starts (length steps) l r → IsTrail (set marks l.variable (Some l.positive)) (set places l.variable (length steps)) (steps ++ record { lit = l; reason = r } ∷ []) starts clauses

@@ -1,5 +1,5 @@
 -- Visits of clauses by their watches.
-use Rattle.std.proofs.Common.{◌≡◌, ◌⊎◌, ℕ, ◌+◌, ◌<◌, ◌≤◌, List, [], ◌∷◌, length, get_or, refl, sym, ◌∙◌, ap, ap₂, subst, inl, inr, arith, Bool, true, false}
+use Rattle.std.proofs.Common.{◌≡◌, ◌⊎◌, ℕ, ◌+◌, ◌<◌, ◌≤◌, List, [], ◌∷◌, length, get_or, refl, sym, ◌∙◌, ap, subst, inl, inr, arith, Bool}
 use Rattle.std.specs.Prelude.{All, Contains, Option, None, Some, ◌≢◌}
 use Rattle.std.specs.List.{swap_remove}
 use Rattle.std.proofs.Math.ListN.{set, length-set}
@@ -8,11 +8,11 @@ use Rattle.std.proofs.lemmas.List.{get_or-set_same, get_or-set_other, get_or_def
 use Rattle.std.proofs.lemmas.List.Elements.{All-contains, All-push, Contains-push, Contains-append_left}
 use Rattle.civl_cnf.specs.Literal.{Literal, opposite}
 use Rattle.civl_cnf.specs.ClauseSet.{AreBelow}
+use Rattle.civl_cnf.proofs.Literals.{opposite_twice, literal_or_not}
 use Rattle.civl_units.specs.Propagation.{Holds, Fails, IsFalsified}
 use Rattle.civl_units.specs.Marks.{is_marked, marked, IsIncluded}
 use Rattle.civl_units.specs.Occurrences.{BothSigns}
 use Rattle.civl_units.proofs.MarkLemmas.{same_self}
-use Rattle.civl_units.proofs.LawLemmas.{not_not}
 use Rattle.civl_propagation.specs.Trail.{TrailState, before, IsAt, IsStep}
 use Rattle.civl_propagation.specs.Propagation.{Grows, Goes}
 use Rattle.civl_propagation.specs.Watches.{WatchState, watchers, IsListed, IsUnlisted, IsWatchedBy, IsWatched, AreWatched, Answers, KeepsUp, AllKeepUp, IsHeld, IsDueFrom, IsVisiting, IsRelisted, IsRewatched, IsPair, OtherSays, ReplacementSays, ForceSays, VisitSays}
@@ -23,9 +23,6 @@ use Rattle.civl_propagation.specs.declared.trail.Step.{Step}
 use Rattle.civl_propagation.proofs.Trails.{some_step, before_marked}
 use Rattle.civl_propagation.proofs.Serving.{fails_older, grows_self, goes_push, holds_push}
 use Rattle.civl_propagation.proofs.Watching.{removed_keeps, removed_size, removed_all, keeps_grow, pair_answers, answers_true, answers_moved, answers_older}
-
-pub opposite_twice : (l : Literal) → opposite (opposite l) ≡ l
-opposite_twice l = ap (λ (b : Bool). record { variable = l.variable; positive = b }) (not_not l.positive)
 
 -- what holds stays so while the trail grows
 pub held_grows : (t new : TrailState) (clauses : List (List Literal)) (w : WatchState) → IsHeld t clauses w → Goes t new clauses → IsHeld new clauses w
@@ -121,21 +118,6 @@ relisted_by old mid new from to at number apart l u =
       come = u.others to apart ∙ l.here;
       others = λ m other more. u.others m other ∙ l.others m more;
     }
-
-sign_or_not : (a b : Bool) → (a ≡ b) ⊎ (a ≢ b)
-sign_or_not true true = inl refl
-sign_or_not true false = inr (λ e. cc)
-sign_or_not false true = inr (λ e. cc)
-sign_or_not false false = inl refl
-
-pub literal_or_not : (m l : Literal) → (m ≡ l) ⊎ (m ≢ l)
-literal_or_not m l = elim (eqb_tells m.variable l.variable) [
-  | inl v ↦ elim (sign_or_not m.positive l.positive) [
-    | inl p ↦ inl (ap₂ (λ (x : ℕ) (b : Bool). record { variable = x; positive = b }) v.1 p)
-    | inr p ↦ inr (λ e. p (ap (λ (x : Literal). x.positive) e))
-  ]
-  | inr v ↦ inr (λ e. v.1 (ap (λ (x : Literal). x.variable) e))
-]
 
 -- a number that isn't the one that went stands where it did
 pub relisted_stays : (old new : List BothSigns) (from to m : Literal) (at number n : ℕ) → IsRelisted old new from to at number → at < length (watchers old from) → get_or (watchers old from) at 0 ≡ number → n ≢ number → Contains (watchers old m) n → Contains (watchers new m) n

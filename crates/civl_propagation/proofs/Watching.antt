@@ -8,9 +8,9 @@ use Rattle.std.proofs.lemmas.List.{get_or-set_same, get_or-set_other, get_or_def
 use Rattle.std.proofs.lemmas.List.Elements.{All-contains}
 use Rattle.civl_cnf.specs.Literal.{Literal}
 use Rattle.civl_units.specs.Propagation.{Holds, Fails}
-use Rattle.civl_units.specs.Marks.{is_marked, marked, IsIncluded}
+use Rattle.civl_units.specs.Marks.{marked, IsIncluded}
 use Rattle.civl_units.specs.Occurrences.{BothSigns, nowhere, of_sign, with_number}
-use Rattle.civl_units.proofs.MarkLemmas.{lt_or_eq}
+use Rattle.civl_units.proofs.MarkLemmas.{lt_or_eq, not_both as not_both_by}
 use Rattle.civl_propagation.specs.Propagation.{IsServed}
 use Rattle.civl_propagation.specs.Watches.{watchers, without_number, with_listed, with_unlisted, IsListed, IsUnlisted, IsWatched, Answers, KeepsUp, IsPair}
 use Rattle.civl_propagation.specs.declared.watches.Pair.{Pair}
@@ -104,13 +104,6 @@ unlisted_by lists l at low =
       here = changed_same lists l (without_number l.positive at both) low ∙ gone_same l.positive both at;
       others = λ m apart. changed_other lists l m (without_number l.positive at both) low apart (λ sign. gone_other l.positive m.positive both at sign);
     }
-
-not_both_by : (m : Option Bool) (b : Bool) → is_marked m b ≡ true → is_marked m (not b) ≡ true → ⊥
-not_both_by None b e f = cc
-not_both_by (Some true) true e f = cc
-not_both_by (Some true) false e f = cc
-not_both_by (Some false) true e f = cc
-not_both_by (Some false) false e f = cc
 
 -- no literal is both true and false
 pub not_both : (marks : List (Option Bool)) (l : Literal) → Holds (marked marks) l → Fails (marked marks) l → ⊥

@@ -1,15 +1,17 @@
 -- Branches, one choice more or less.
-use Rattle.std.proofs.Common.{◌≡◌, ◌⊎◌, ℕ, ◌<◌, List, [], ◌∷◌, ◌++◌, length, get_or, take, refl, sym, ◌∙◌, ap, subst, inl, inr, arith, Bool, true, false, not}
+use Rattle.std.proofs.Common.{◌≡◌, ◌⊎◌, ℕ, ◌<◌, List, [], ◌∷◌, ◌++◌, length, get_or, take, refl, sym, ◌∙◌, subst, inl, inr, arith, Bool, true, false, not}
 use Rattle.std.specs.Prelude.{Contains, IsFalse}
 use Rattle.std.proofs.lemmas.List.{get_or_append_left, get_or_push, length_push, take-append-le, take_all, get_or-take, length-take-le}
 use Rattle.std.proofs.lemmas.List.Elements.{All-push, All-contains, Contains-append_left, Contains-append_right, Contains-push}
+use Rattle.std.proofs.Math.Bool.{not-not}
 use Rattle.civl_cnf.specs.Literal.{Literal, opposite}
 use Rattle.civl_cnf.specs.ClauseSet.{ClauseSet, IsBelow}
+use Rattle.civl_cnf.proofs.Literals.{opposite_twice}
 use Rattle.civl_units.specs.Propagation.{Holds, Fails, IsFalsified, IsUnit, IsClosedAt, GivesConflict}
 use Rattle.civl_rup.specs.Rup.{HasRup, HasEachOnce, Refutes}
+use Rattle.civl_rup.proofs.Standings.{conflict_more}
 use Rattle.civl_units.proofs.MarkLemmas.{lt_or_eq}
-use Rattle.civl_units.proofs.LawLemmas.{not_not}
-use Rattle.civl_units.proofs.Propagating.{all_left, any_by}
+use Rattle.civl_units.proofs.Propagating.{any_by}
 use Rattle.civl_cdcl.proofs.Outcomes.{log_push}
 use Rattle.civl_provers.specs.Branch.{IsImplied, IsLeftOpen, IsBranch}
 use Rattle.civl_provers.specs.Splitter.{IsSplit, IsRefuted}
@@ -69,14 +71,8 @@ both_sides clauses rest l one other s fails closed =
     let first = rest ++ l ∷ [] in
     let unit : IsUnit s first l = (Contains-push rest l, All-push (λ m. (m ≡ l) ⊎ Fails s m) rest l (λ k d low. inr (fails k d low)) (inl refl)) in
     let holds : Holds s l = All-contains (IsClosedAt s) clauses first closed one l unit in
-    let last : Fails s (opposite l) = subst (λ (b : Bool). s l.variable b ≡ true) (sym (not_not l.positive)) holds in
+    let last : Fails s (opposite l) = subst (λ (b : Bool). s l.variable b ≡ true) (sym (not-not l.positive)) holds in
     any_by (IsFalsified s) clauses (rest ++ opposite l ∷ []) other (All-push (Fails s) rest (opposite l) fails last)
-
--- a conflict by some clauses is one by more
-pub conflict_more : (clauses log : List (List Literal)) (falses : List Literal) → GivesConflict clauses falses → GivesConflict (clauses ++ log) falses
-conflict_more clauses log falses conflict s fails closed =
-    let found = conflict s fails (all_left (IsClosedAt s) clauses log closed) in
-    any_by (IsFalsified s) (clauses ++ log) found.1 (Contains-append_left clauses log found.1 (found.0, found.2, found.3)) found.4
 
 -- the branch's clause was learned
 pub learned : (set : ClauseSet) (falses : List Literal) (log new : List (List Literal)) → new ≡ log ++ falses ∷ [] → IsRefuted set falses log → IsSplit set falses new
@@ -97,9 +93,6 @@ all_refuted set falses log none h there = record {
   rup = h.rup;
   empty = subst (Contains log) none there;
 }
-
-opposite_twice : (l : Literal) → opposite (opposite l) ≡ l
-opposite_twice l = ap (λ (b : Bool). record { variable = l.variable; positive = b }) (not_not l.positive)
 
 -- the last choice is turned
 pub turned_last : (set : ClauseSet) (rest : List Literal) (l : Literal) (log : List (List Literal)) → IsSplit set (rest ++ l ∷ []) log → Contains log (rest ++ l ∷ []) → IsSplit set (rest ++ opposite l ∷ []) log
@@ -135,10 +128,6 @@ chosen set falses v log low free h =
       rup = h.rup;
       turned = choices_push (IsTurned log) falses l h.turned (λ f. absurd (never f));
     }
-
-pub empty_is : {X : Type 0} (xs : List X) → length xs ≡ 0 → xs ≡ []
-empty_is [] e = refl
-empty_is (x ∷ xs) e = absurd (omega arith)
 
 -- propagation refutes the branch
 pub refuted_by : (set : ClauseSet) (falses : List Literal) (log : List (List Literal)) → IsSplit set falses log → GivesConflict set.clauses falses → IsRefuted set falses log

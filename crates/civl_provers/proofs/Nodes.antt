@@ -8,6 +8,7 @@ use Rattle.civl_cnf.specs.Literal.{Literal}
 use Rattle.civl_cnf.specs.ClauseSet.{ClauseSet, AreBelow, assignment}
 use Rattle.civl_units.specs.Propagation.{Holds, IsClosed}
 use Rattle.civl_units.specs.Marks.{is_marked, marked, IsQuiet}
+use Rattle.civl_units.proofs.MarkLemmas.{mark_absent}
 use Rattle.civl_cdcl.specs.Turn.{AreBits}
 use Rattle.civl_cdcl.specs.Propagation.{ChoiceSays}
 use Rattle.civl_cdcl.proofs.Outcomes.{satisfied}
@@ -67,10 +68,6 @@ true_false e = cc
 pub not_all : (marks : List (Option Bool)) (clauses : List (List Literal)) → all_marked marks clauses ≡ false → All (λ clause. Any (Holds (marked marks)) clause) clauses → ⊥
 not_all marks clauses e h = true_false (sym (all_hold_from marks clauses h) ∙ e)
 
-unmarked : (m : Option Bool) (b : Bool) → m ≡ None → is_marked m b ≡ true → ⊥
-unmarked None b e h = cc
-unmarked (Some a) b e h = cc
-
 -- what the marks say is so of the branch, since they are the least closed set
 pub node_by : (marks : List (Option Bool)) (set : ClauseSet) (falses : List Literal) (may : Bool) (node : Node) → IsPropagated marks set falses → JudgeSays marks set may node → NodeSays set falses node
 node_by marks set falses may (True bits) p says = says
@@ -78,7 +75,7 @@ node_by marks set falses may (Open v) p says =
     let closed : IsClosed (marked marks) set.clauses = λ k d low. (p.quiet k d low).0 in
     let size = p.size in
     let low = says.1.0 in
-    (omega arith, λ b implied. unmarked (get_or marks v None) b says.1.1 (implied (marked marks) p.fails closed))
+    (omega arith, λ b implied. mark_absent (get_or marks v None) b says.1.1 (implied (marked marks) p.fails closed))
 node_by marks set falses may Stuck p says =
     let closed : IsClosed (marked marks) set.clauses = λ k d low. (p.quiet k d low).0 in
     record {

@@ -7,16 +7,17 @@ use Rattle.civl_cnf.specs.Literal.{Literal, opposite}
 use Rattle.civl_cnf.specs.ClauseSet.{ClauseSet}
 use Rattle.civl_units.specs.Propagation.{Holds, Fails, IsFalsified, IsClosed, GivesConflict}
 use Rattle.civl_units.specs.Marks.{is_marked, marked, IsQuiet}
-use Rattle.civl_units.proofs.MarkLemmas.{same_self, lt_or_eq}
+use Rattle.civl_units.proofs.MarkLemmas.{same_self, lt_or_eq, mark_absent}
 use Rattle.civl_propagation.specs.Trail.{before, IsAt, IsCut, Deepens, AreDecided}
 use Rattle.civl_propagation.specs.Engine.{EngineState, IsEngine, IsAtRest}
 use Rattle.civl_propagation.proofs.Trails.{before_marked, before_all}
 use Rattle.civl_propagation.proofs.Engines.{least_by, decided_hold, conflict_by}
+use Rattle.civl_rup.proofs.Standings.{conflict_more}
 use Rattle.civl_provers.specs.Branch.{IsLeftOpen, IsBranch}
 use Rattle.civl_provers.specs.Splitter.{IsSplit}
 use Rattle.civl_provers.specs.Node.{IsPropagated, HaveValuesFrom, EndSays}
 use Rattle.civl_provers.specs.Standing.{AreLast, IsAtBranch, LookSays, Turns, IsTurning}
-use Rattle.civl_provers.proofs.Branches.{IsChoice, choices_last, conflict_more}
+use Rattle.civl_provers.proofs.Branches.{IsChoice, choices_last}
 
 -- literals that fail have opposites that hold, and the other way round
 pub hold_opposites : (s : ℕ → Bool → Bool) (xs : List Literal) → All (Fails s) xs → All (Holds s) (map opposite xs)
@@ -54,10 +55,6 @@ open_at e set falses v b free = elim (has_value (get_or e.trail.marks v None)) [
       least_by e.trail e.clauses (map opposite falses) b.engine.trail b.decided s (hold_opposites s falses fails) (subst (IsClosed s) (sym b.clauses) closed) v some.0 some.1))
 ]
 
-no_value : (m : Option Bool) (b : Bool) → m ≡ None → is_marked m b ≡ true → ⊥
-no_value None b e h = cc
-no_value (Some a) b e h = cc
-
 -- behind the last choice all variables have values
 pub values_behind : (e : EngineState) (set : ClauseSet) (falses : List Literal) (n : ℕ) → IsAtBranch e set falses → EndSays set.variables falses n → HaveValuesFrom e.trail.marks n
 values_behind e set falses n b (inl none) w low inside free = let size = b.size in let end = none.1 in absurd (omega arith)
@@ -66,7 +63,7 @@ values_behind e set falses n b (inr some) w low inside free =
     let d : Literal = record { variable = 0; positive = true } in
     let end = some.1 d in
     let value = b.last (length falses - 1) w d (omega arith) (omega arith) inside in
-    no_value (get_or e.trail.marks w None) value.0 free (before_marked e.trail.marks e.trail.places (get_or e.trail.starts (length falses - 1) 0) w value.0 value.1)
+    mark_absent (get_or e.trail.marks w None) value.0 free (before_marked e.trail.marks e.trail.places (get_or e.trail.starts (length falses - 1) 0) w value.0 value.1)
 
 pub end_within : (set : ClauseSet) (falses : List Literal) (n : ℕ) → IsBranch set falses → EndSays set.variables falses n → n ≤ set.variables
 end_within set falses n branch (inl none) = let end = none.1 in omega arith
@@ -149,7 +146,7 @@ behind_cut old new set falses rest tail l n b was at settled cut w low inside fr
     let lit : get_or falses n l ≡ l = ap (λ (x : List Literal). get_or x n l) was ∙ ap (λ (k : ℕ). get_or (rest ++ l ∷ tail) k l) at ∙ get_or_middle rest tail l l in
     let variable : (get_or falses n l).variable ≡ l.variable = ap (λ (x : Literal). x.variable) lit in
     let value = b.last n w l (omega arith) (omega arith) (omega arith) in
-    no_value (get_or new.trail.marks w None) value.0 free (subst (λ s. IsTrue (s w value.0)) (cut_set old new n settled.engine cut) value.1)
+    mark_absent (get_or new.trail.marks w None) value.0 free (subst (λ s. IsTrue (s w value.0)) (cut_set old new n settled.engine cut) value.1)
 
 -- choices were taken back
 pub at_cut : (old new : EngineState) (set : ClauseSet) (falses rest more : List Literal) (n : ℕ) → IsAtBranch old set falses → falses ≡ rest ++ more → n ≡ length rest → n < length falses → IsAtRest new → new.clauses ≡ old.clauses → IsCut old.trail new.trail n → ((decisions : List Literal) → AreDecided old.trail decisions → AreDecided new.trail (take n decisions)) → IsAtBranch new set rest

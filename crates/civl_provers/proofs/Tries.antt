@@ -1,19 +1,19 @@
 -- The first try that makes a clause set true.
 use Rattle.std.proofs.Common.{◌≡◌, ℕ, suc, zero, ◌+◌, ◌<◌, ◌≤◌, List, [], ◌∷◌, length, get_or, drop, add-one, drop-cons, refl, sym, ◌∙◌, ap, subst, arith, Bool, true, false, ◌&&◌, leb}
 use Rattle.std.specs.Prelude.{All, if◌then◌else◌}
-use Rattle.std.proofs.lemmas.Bool.{leb-true, le-leb}
+use Rattle.std.proofs.lemmas.Bool.{leb-true, le-leb, and_parts}
 use Rattle.std.proofs.lemmas.List.Elements.{All-nil, All-cons}
+use Rattle.std.specs.Cmp.{both_ways}
 use Rattle.civl_cnf.specs.Literal.{Literal}
 use Rattle.civl_cnf.specs.ClauseSet.{ClauseSet, Satisfies, assignment}
 use Rattle.civl_cnf.proofs.Satisfying.{all_true, Satisfies-from_all_true, all_true-from_Satisfies}
-use Rattle.civl_units.proofs.LawLemmas.{and_both}
 use Rattle.civl_portfolio.specs.Attempt.{MakesTrue, Stands}
 use Rattle.civl_portfolio.specs.declared.attempt.Attempt.TheVariants.{Unsat, Sat, GaveUp, Memory}
 use Rattle.civl_provers.specs.Probe.{makes_true, first_true, IsFirstTrue}
 
 pub truth_to : (set : ClauseSet) (bits : List Bool) → makes_true set bits ≡ true → MakesTrue set bits
 truth_to set bits e =
-    let both = and_both (leb set.variables (length bits)) (all_true (assignment bits) set.clauses) e in
+    let both = and_parts (leb set.variables (length bits)) (all_true (assignment bits) set.clauses) e in
     record {
       enough = leb-true set.variables (length bits) both.0;
       truth = Satisfies-from_all_true (assignment bits) set.clauses both.1;
@@ -90,15 +90,10 @@ pub first_stands : (set : ClauseSet) (tries : List (List Bool)) → Stands set (
 first_stands set [] = tt
 first_stands set (b ∷ tries) = honest_by set b tries (makes_true set b) refl (first_stands set tries)
 
-bool_same : (a b : Bool) → (a ≡ true → b ≡ true) → (b ≡ true → a ≡ true) → a ≡ b
-bool_same true b f g = sym (f refl)
-bool_same false true f g = g refl
-bool_same false false f g = refl
-
 -- the test, where there are enough bits
 pub made_by : (set : ClauseSet) (bits : List Bool) (value : Bool) → set.variables ≤ length bits → (value ≡ true → Satisfies (assignment bits) set.clauses) × (Satisfies (assignment bits) set.clauses → value ≡ true) → value ≡ makes_true set bits
 made_by set bits value enough both =
-    bool_same value (makes_true set bits) (λ e. truth_from set bits (record { enough = enough; truth = both.0 e })) (λ e. both.1 (truth_to set bits e).truth)
+    both_ways value (makes_true set bits) (λ e. truth_from set bits (record { enough = enough; truth = both.0 e })) (λ e. both.1 (truth_to set bits e).truth)
 
 -- the next try decides, or the later ones
 pub next_try : (set : ClauseSet) (tries : List (List Bool)) (i : ℕ) (x : List Bool) (value : Bool) → i < length tries → x ≡ get_or tries i x → makes_true set x ≡ value → first_true set (drop i tries) ≡ (if value then Sat x else first_true set (drop (i + 1) tries))

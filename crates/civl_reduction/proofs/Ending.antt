@@ -1,9 +1,9 @@
 -- The end of a run, and the relation of runs.
-use Rattle.std.proofs.Common.{ℕ, ◌≡◌, ◌+◌, Bool, true, false, List, [], ◌∷◌, length, refl, sym, ap, ◌∙◌, subst, None, Some, not, suc, ◌||◌, arith, inl, inr}
-use Rattle.std.specs.Prelude.{IsTrue, is_some, nat_lt, if◌then◌else◌}
-use Rattle.std.specs.List.{list_any, position, position_or_len}
-use Rattle.std.proofs.lemmas.Bool.{false≢true, cases_lt, lt-ltb, le-ltb}
+use Rattle.std.proofs.Common.{ℕ, ◌≡◌, ◌+◌, Bool, false, List, [], ◌∷◌, refl, sym, ap, ◌∙◌, subst, None, Some}
+use Rattle.std.specs.Prelude.{IsTrue, is_some, if◌then◌else◌}
+use Rattle.std.proofs.lemmas.Bool.{false≢true}
 use Rattle.std.proofs.lemmas.Option.{same_Some, none-some}
+use Rattle.civl_tree.proofs.Lists.{some_position}
 use Rattle.civl_meaning.specs.declared.config.Move.{Move}
 use Rattle.civl_meaning.specs.declared.config.Plain.{Plain}
 use Rattle.civl_meaning.specs.declared.config.Config.{Config}
@@ -72,31 +72,6 @@ module _ (plain : Plain) (from : Config) (moves others : List Move) where
   )
 
 -- ---- a run that ends failing
-
-some_at : (b : Bool) (n : ℕ) → is_some (if b then Some n else None) ≡ b
-some_at true n = refl
-some_at false n = refl
-
-next_less : (a n : ℕ) → nat_lt (suc a) (suc n) ≡ nat_lt a n
-next_less a n = elim (cases_lt a n) [
-  | inl h ↦ lt-ltb (suc a) (suc n) (omega (arith, h)) ∙ sym (lt-ltb a n h)
-  | inr h ↦ le-ltb (suc a) (suc n) (omega (arith, h)) ∙ sym (le-ltb a n h)
-]
-
-one_more : (n : ℕ) → 1 + n ≡ suc n
-one_more n = omega arith
-
-place_within : {A : Type 0} (p : A → Bool) (xs : List A) → nat_lt (position_or_len p xs) (length xs) ≡ list_any p xs
-place_within p [] = refl
-place_within p (x ∷ xs) = go (p x) (place_within p xs)
-  where
-    go : (b : Bool) → nat_lt (position_or_len p xs) (length xs) ≡ list_any p xs → nat_lt (if not b then 1 + position_or_len p xs else 0) (suc (length xs)) ≡ (b || list_any p xs)
-    go true ih = lt-ltb 0 (suc (length xs)) (omega arith)
-    go false ih = ap (λ n. nat_lt n (suc (length xs))) (one_more (position_or_len p xs)) ∙ (next_less (position_or_len p xs) (length xs) ∙ ih)
-
--- there is a first one that passes where any does
-some_position : {A : Type 0} (p : A → Bool) (xs : List A) → is_some (position p xs) ≡ list_any p xs
-some_position p xs = some_at (nat_lt (position_or_len p xs) (length xs)) (position_or_len p xs) ∙ place_within p xs
 
 module _ (plain : Plain) (from : Config) (moves : List Move) where
   pub fails_not : None ≡ end_of plain moves from → (IsTrue false → RunsFailing plain from moves) × (RunsFailing plain from moves → IsTrue false)

@@ -1,11 +1,12 @@
 -- Moves that were brought to the front: their order, and where they run.
-use Rattle.std.proofs.Common.{ℕ, zero, suc, ◌+◌, ◌-◌, ◌<◌, ◌≤◌, ◌≡◌, List, [], ◌∷◌, ◌++◌, length, Bool, true, false, nat_eq, true≢false, if◌then◌else◌, sym, refl, ap, ◌∙◌, subst, arith, inl, inr, slice_index, add-one, append_assoc}
+use Rattle.std.proofs.Common.{ℕ, zero, suc, ◌+◌, ◌-◌, ◌<◌, ◌≤◌, ◌≡◌, List, [], ◌∷◌, ◌++◌, length, Bool, true, false, nat_eq, true≢false, if◌then◌else◌, sym, refl, ap, ◌∙◌, subst, arith, inl, inr, slice_index, append_assoc}
 use Rattle.std.specs.Prelude.{All}
 use Rattle.std.specs.List.Sorted.{IsStrictlyIncreasing}
 use Rattle.std.proofs.lemmas.List.{length-append}
 use Rattle.std.proofs.lemmas.List.Elements.{All-head, All-tail}
 use Rattle.std.proofs.lemmas.Bool.{eqb-true, eq-eqb}
 use Rattle.std.proofs.lemmas.Option.{same_Some}
+use Rattle.civl_tree.proofs.Lists.{rises_tail}
 use Rattle.civl_meaning.specs.declared.config.Move.{Move}
 use Rattle.civl_meaning.specs.declared.config.Plain.{Plain}
 use Rattle.civl_meaning.specs.declared.config.Config.{Config}
@@ -23,11 +24,6 @@ use Rattle.civl_reduction.proofs.Ending.{runs_end}
 abbrev Rising : ℕ → List ℕ → Type 0
 Rising n [] = Unit {0}
 Rising n (p ∷ ps) = (n ≤ p) × Rising (p + 1) ps
-
-rises_tail : (p : ℕ) (ps : List ℕ) → IsStrictlyIncreasing (p ∷ ps) → IsStrictlyIncreasing ps
-rises_tail p ps h k l =
-    let x = h (suc k) (omega (arith, l)) in
-    subst (λ n. slice_index ps k < slice_index ps n) (sym (add-one k)) (subst (λ n. slice_index ps k < slice_index (p ∷ ps) n) (add-one (suc k)) x)
 
 rises : (n : ℕ) (ps : List ℕ) → IsStrictlyIncreasing ps → (0 < length ps → n ≤ slice_index ps 0) → Rising n ps
 rises n [] h low = tt

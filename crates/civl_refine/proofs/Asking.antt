@@ -1,15 +1,14 @@
 -- What is asked at the end of a path.
 use Rattle.std.specs.Prelude.{slice_get, not, ◌||◌, if◌then◌else◌}
 use Rattle.std.specs.Option.{option_map_or}
-use Rattle.std.proofs.Common.{◌≡◌, ◌∙◌, ℕ, Bool, true, false, ◌&&◌, List, refl, sym, ap, Option, Some, None}
+use Rattle.std.proofs.Common.{◌≡◌, ◌∙◌, ℕ, Bool, true, false, ◌&&◌, refl, sym, ap, Option, Some, None}
 use Rattle.std.proofs.lemmas.Bool.{false≢true}
-use Rattle.civl_bits.specs.declared.value.Value.{Value}
+use Rattle.std.proofs.Math.Bool.{not-not}
 use Rattle.civl_tree.specs.declared.expr.Expr.{Expr}
 use Rattle.civl_tree.specs.declared.action.Action.{Action}
 use Rattle.civl_tree.specs.declared.program.Proc.{Proc}
 use Rattle.civl_tree.specs.declared.program.Program.{Program}
 use Rattle.civl_firing.specs.declared.scope.Scope.{Scope}
-use Rattle.civl_firing.specs.declared.store.Store.{Store}
 use Rattle.civl_firing.specs.Fired.{fires, guard_holds, store_after, outs_after}
 use Rattle.civl_meaning.specs.Change.{outs_in}
 use Rattle.civl_layers.specs.declared.cut.Cut.{Cut}
@@ -24,12 +23,9 @@ use Rattle.civl_conditions.specs.Movers.{on_some}
 use Rattle.civl_conditions.specs.Invariants.{holds_in}
 use Rattle.civl_conditions.specs.Assumed.{inputs_of, cut_invariant, note_holds}
 use Rattle.civl_conditions.specs.Parts.{end_values}
+use Rattle.civl_states.proofs.Firing.{fires_where}
 use Rattle.civl_refine.specs.Assuming.{IsRefined}
 use Rattle.civl_refine.specs.Judging.{fails_at, comes_to, with_values}
-
-pub not_not : (a : Bool) → a ≡ not (not a)
-not_not true = refl
-not_not false = refl
 
 -- at an end where the part asks nothing
 pub unasked : (a b : Bool) → a ≡ false → not (a && b) ≡ true
@@ -42,10 +38,6 @@ asked true b e = refl
 asked false b e = absurd (false≢true e)
 
 -- ---- perform
-
-fires_where : (guard : Bool) (s : Store × List Value) (test : Store × List Value → Bool) → on_some (if guard then Some s else None) test ≡ (guard && test s)
-fires_where true s test = refl
-fires_where false s test = refl
 
 perform_bools : (d o c : Bool) → (not d || (o || c)) ≡ not (d && (not o && not c))
 perform_bools true true c = refl
@@ -85,7 +77,7 @@ pub invariant_is : (program : Program) (step : ℕ) (proc : Proc) (c : ℕ) (k :
 invariant_is program step proc c k b end p cut e at is =
     ap (λ (x : Scope). holds_in x e) (values_there program proc b end p cut at)
     ∙ ap (λ (o : Option Expr). note_holds (end_values program proc b end p) o) (sym is)
-    ∙ not_not (note_holds (end_values program proc b end p) (cut_invariant proc cut))
+    ∙ sym (not-not (note_holds (end_values program proc b end p) (cut_invariant proc cut)))
     ∙ ap (λ (o : Option Cut). not (on_some o (λ x. not (note_holds (end_values program proc b end p) (cut_invariant proc x))))) (sym at)
 
 pub invariant_none : (program : Program) (step : ℕ) (proc : Proc) (c : ℕ) (k : Cut) (b : Begun) (end : ℕ) (p : Progress) (cut : Cut) → slice_get (proc_cuts proc) end ≡ Some cut → cut_invariant proc cut ≡ None

@@ -1,8 +1,8 @@
 -- What is assumed at a cut, test by test.
-use Rattle.std.specs.Prelude.{map, filter, take, drop, get_or, slice_get, not, ◌||◌, nat_eq, if◌then◌else◌, All}
+use Rattle.std.specs.Prelude.{map, filter, take, drop, get_or, slice_get, ◌||◌, nat_eq, if◌then◌else◌, All}
 use Rattle.std.specs.List.{list_all}
 use Rattle.std.proofs.Common.{◌≡◌, ◌∙◌, ℕ, zero, suc, ◌+◌, ◌*◌, ◌≤◌, ◌<◌, Bool, true, false, ◌&&◌, List, [], ◌∷◌, ◌++◌, length, refl, sym, ap, ap₂, subst, arith, Option, Some, None}
-use Rattle.std.proofs.lemmas.List.{drop_more, drop_all, length-map, length-append}
+use Rattle.std.proofs.lemmas.List.{drop_more, drop_all, length-map, length-append, take-map, take_at}
 use Rattle.civl_tree.specs.declared.program.Proc.{Proc}
 use Rattle.civl_tree.specs.rules.Uses.{param_sorts}
 use Rattle.civl_meaning.specs.Config.{frame_sorts}
@@ -20,26 +20,25 @@ use Rattle.std.proofs.lemmas.List.{get_or-map}
 use Rattle.civl_bits.specs.declared.value.Value.{Value}
 use Rattle.civl_tree.specs.declared.expr.Sort.{Sort}
 use Rattle.civl_tree.specs.declared.expr.Sort.TheVariants.{Word}
-use Rattle.civl_tree.specs.declared.expr.Two.TheVariants.{Implies}
-use Rattle.civl_tree.specs.rules.Sorts.{two_sort}
-use Rattle.civl_firing.specs.values.Operators.{nothing, two_value}
-use Rattle.civl_firing.specs.values.Weights.{bits_in, two_weight}
+use Rattle.civl_firing.specs.values.Operators.{nothing}
 use Rattle.civl_meaning.specs.Permissions.{permissions_of_word}
 use Rattle.civl_terms.specs.declared.node.Node.{Node}
 use Rattle.civl_terms.specs.Graphs.{value_at, sort_at}
-use Rattle.civl_terms.specs.Building.{Grows, Built}
+use Rattle.civl_terms.specs.Building.{Grows}
 use Rattle.civl_actions.specs.Scopes.{AreOf}
 use Rattle.civl_actions.specs.Actions.{values_at}
 use Rattle.civl_conditions.specs.Permissions.{of_held}
 use Rattle.civl_states.specs.formula_parts.Said.{Env, IsTest}
 use Rattle.std.specs.Prelude.{IfSome, IsSome}
 use Rattle.std.proofs.lemmas.Bool.{false≢true}
+use Rattle.std.proofs.Math.Bool.{and_assoc, and-true}
 use Rattle.civl_layers.specs.declared.cut.CutKind.{CutKind}
 use Rattle.civl_layers.specs.declared.cut.CutKind.TheVariants as kind
 use Rattle.civl_conditions.specs.paths.Ends.{is_entry}
 use Rattle.std.specs.Option.{option_map_or}
 use Rattle.civl_tree.specs.declared.expr.Sort.TheVariants.{Bool as Truth}
 use Rattle.civl_tree.specs.declared.action.Action.{Action}
+use Rattle.civl_tree.proofs.Lists.{heads}
 use Rattle.civl_firing.specs.values.ActionWeights.{gate_weight}
 use Rattle.civl_firing.specs.Fired.{gate_holds}
 use Rattle.civl_layers.specs.declared.cut.Cut.{Cut}
@@ -53,14 +52,6 @@ use Rattle.civl_states.specs.Stores.{AreStore, AreGlobals}
 use Rattle.civl_states.specs.Notes.{CanSee, AreSeen}
 use Rattle.civl_states.specs.Beginnings.{AreBegun, CanBegin}
 use Rattle.civl_refine.specs.Assuming.{holds_at, gate_or_done, IsRefined}
-
-and_assoc : (a b c : Bool) → ((a && b) && c) ≡ (a && (b && c))
-and_assoc true b c = refl
-and_assoc false b c = refl
-
-and_true : (a : Bool) → (a && true) ≡ a
-and_true true = refl
-and_true false = refl
 
 -- ---- the invariants of a step
 
@@ -103,29 +94,19 @@ module _ (program : Program) (step : ℕ) where
         by false p q = omega (arith, h, p, q)
 
   pub hold_end : (is : List Invariant) (k : ℕ) → length is ≤ k → (g : Store) (f : Bool) → (f && all_hold g (drop k is)) ≡ f
-  hold_end is k l g f = ap (λ (js : List Invariant). f && all_hold g js) (drop_all k is l) ∙ and_true f
-
--- ---- one test implies another
-
-pub implied_test : (old new : List Node) (a b id : ℕ) (f h : Env → Bool) → Grows old new
-    → Built old new id (λ env. two_value Implies (value_at env old a) (value_at env old b)) (two_sort Implies (sort_at old a) (sort_at old b)) (two_weight Implies (bits_in (sort_at old a)))
-    → IsTest old a f → IsTest old b h → IsTest new id (λ env. not (f env) || h env)
-implied_test old new a b id f h g u s t = record {
-  sorted = u.sorted ∙ ap₂ (two_sort Implies) s.sorted t.sorted;
-  is = λ env fits. u.is env fits ∙ ap₂ (two_value Implies) (s.is env (g.fits env fits)) (t.is env (g.fits env fits));
-}
+  hold_end is k l g f = ap (λ (js : List Invariant). f && all_hold g js) (drop_all k is l) ∙ and-true f
 
 -- ---- the refined action's gate
 
 pub gate_entry : (o d g : Bool) → o ≡ false → g ≡ gate_or_done o d g
 gate_entry true d g e = absurd (cc)
-gate_entry false d g e = sym (and_true g)
+gate_entry false d g e = sym (and-true g)
 
 pub gate_yield : (o d g : Bool) → o ≡ d → (o || g) ≡ gate_or_done o d g
 gate_yield true true g e = refl
 gate_yield true false g e = absurd (cc)
 gate_yield false true g e = absurd (cc)
-gate_yield false false g e = sym (and_true g)
+gate_yield false false g e = sym (and-true g)
 
 -- ---- what is held
 
@@ -136,9 +117,6 @@ held_words ns p ids ss held are all = (
   λ k d l. sorted ids ss are (get_or held k d) (Word p) (all k d l),
 )
   where
-    heads : (a b : Option Sort) (os ps : List (Option Sort)) → a ∷ os ≡ b ∷ ps → (a ≡ b) × (os ≡ ps)
-    heads a b os ps e = (cc, cc)
-
     within : (ids : List ℕ) (ss : List Sort) → AreOf ns ids ss → (n : ℕ) (s : Sort) → slice_get ss n ≡ Some s → n < length ids
     within [] [] h n s e = absurd (cc)
     within [] (t ∷ ss) h n s e = absurd (cc)
@@ -165,34 +143,20 @@ held_carry env ns ids (n ∷ held) vs h e =
 
 -- ---- the parameters among the terms of a frame
 
-map_take : {A B : Type 0} (f : A → B) (n : ℕ) (xs : List A) → map f (take n xs) ≡ take n (map f xs)
-map_take f zero xs = refl
-map_take f (suc n) [] = refl
-map_take f (suc n) (x ∷ xs) = ap (λ ys. f x ∷ ys) (map_take f n xs)
-
-take_front : {A : Type 0} (n : ℕ) (xs ys : List A) → length xs ≡ n → take n (xs ++ ys) ≡ xs
-take_front zero [] ys e = refl
-take_front zero (x ∷ xs) ys e = absurd (omega (arith, e))
-take_front (suc n) [] ys e = absurd (omega (arith, e))
-take_front (suc n) (x ∷ xs) ys e = ap (λ zs. x ∷ zs) (take_front n xs ys (omega (arith, e)))
-
 module _ (ns : List Node) (proc : Proc) (ids : List ℕ) where
   pub inputs_sorted : AreOf ns ids (frame_sorts proc) → AreOf ns (take (length proc.params) ids) (param_sorts proc.params)
   inputs_sorted h =
-      map_take (sort_at ns) (length proc.params) ids ∙ ap (take (length proc.params)) h ∙ sym (map_take (λ (s : Sort). Some s) (length proc.params) (frame_sorts proc))
-      ∙ ap (map (λ (s : Sort). Some s)) (take_front (length proc.params) (param_sorts proc.params) _ (length-map proc.params (λ p. p.sort)))
+      sym (take-map (sort_at ns) (length proc.params) ids) ∙ ap (take (length proc.params)) h ∙ take-map (λ (s : Sort). Some s) (length proc.params) (frame_sorts proc)
+      ∙ ap (map (λ (s : Sort). Some s)) (take_at (param_sorts proc.params) _ (length proc.params) (length-map proc.params (λ p. p.sort)))
 
   pub inputs_said : (v : Env → List Value) → AreSaid ns ids (frame_sorts proc) v → AreSaid ns (take (length proc.params) ids) (param_sorts proc.params) (λ env. take (length proc.params) (v env))
   inputs_said v h = record {
     sorted = inputs_sorted h.sorted;
-    are = λ env fits. map_take (value_at env ns) (length proc.params) ids ∙ ap (take (length proc.params)) (h.are env fits);
+    are = λ env fits. sym (take-map (value_at env ns) (length proc.params) ids) ∙ ap (take (length proc.params)) (h.are env fits);
   }
 
   pub frame_long : AreOf ns ids (frame_sorts proc) → length proc.params ≤ length ids
   frame_long h = omega (arith, length-map ids (sort_at ns), ap length h, length-map (frame_sorts proc) (λ (s : Sort). Some s), length-append (param_sorts proc.params) (param_sorts proc.outs ++ map (λ l. l.sort) proc.locals), length-map proc.params (λ p. p.sort))
-
-pub same_some : {A : Type 0} (o : Option A) (a b : A) → o ≡ Some a → o ≡ Some b → a ≡ b
-same_some o a b p q = cc
 
 pub words_stay : (old new : List Node) (p : ℕ) (ids held : List ℕ) → Grows old new → All (λ n. sort_at old (get_or ids n 0) ≡ Some (Word p)) held → All (λ i. sort_at new i ≡ Some (Word p)) (map (λ n. get_or ids n 0) held)
 words_stay old new p ids held g all k d l =

@@ -5,6 +5,7 @@ use Rattle.std.specs.List.{list_all, Contains}
 use Rattle.std.proofs.Common.{◌≡◌, ◌∙◌, ℕ, Bool, true, false, ◌&&◌, List, [], ◌∷◌, refl, sym, ap, ap₂, Some, inl, inr, arith}
 use Rattle.std.proofs.lemmas.Bool.{eq-eqb, eqb-true}
 use Rattle.std.proofs.lemmas.List.Elements.{All-weaker}
+use Rattle.std.proofs.Math.Bool.{or-false, and-false}
 use Rattle.civl_tree.specs.declared.program.Proc.{Proc}
 use Rattle.civl_tree.specs.declared.program.Program.{Program}
 use Rattle.civl_tree.proofs.Pairs.{contains_cons, contains_nil}
@@ -27,16 +28,12 @@ use Rattle.civl_refine.specs.Ways.{kept_by}
 use Rattle.civl_refine.specs.Failing.{ArrivesAmong}
 use Rattle.civl_refine.proofs.Taking.{take_stays, way_stays}
 
-or_false : (a : Bool) → (a || false) ≡ a
-or_false true = refl
-or_false false = refl
-
 never_on : (a : Option ℕ) → on_some a (λ end. false) ≡ false
 never_on None = refl
 never_on (Some end) = refl
 
 pub part_split : (program : Program) (step : ℕ) (proc : Proc) (c : ℕ) (cut : Cut) (b : Begun) (o : Outcome) (part : Part) → part_fails program step proc c cut b o part ≡ (fails_before o part || at_end proc o (fails_at program step proc c cut b part))
-part_split program step proc c cut b o Gate = sym (ap (λ (x : Bool). has_failed o || x) (never_on (arrived proc o)) ∙ or_false (has_failed o))
+part_split program step proc c cut b o Gate = sym (ap (λ (x : Bool). has_failed o || x) (never_on (arrived proc o)) ∙ or-false (has_failed o))
 part_split program step proc c cut b o Invariant = refl
 part_split program step proc c cut b o Once = refl
 part_split program step proc c cut b o Stutter = refl
@@ -57,15 +54,11 @@ module _ (t : ℕ → Bool) (e : ℕ) where
   all_kept [] f = refl
   all_kept (k ∷ ks) f = ap₂ (λ (x y : Bool). x && y) (not_here k (nat_eq k e) f refl) (all_kept ks f)
 
-  and_false : (a : Bool) → (a && false) ≡ false
-  and_false true = refl
-  and_false false = refl
-
   one_fails : (ends : List ℕ) → t e ≡ true → Contains ends e → list_all kept_here ends ≡ false
   one_fails [] q there = absurd (contains_nil e there)
   one_fails (k ∷ ks) q there = elim (contains_cons k ks e there) [
     | inl same ↦ ap (λ (x : Bool). x && list_all kept_here ks) (ap₂ (λ (x y : Bool). not (x && y)) (eq-eqb k e same) (ap t same ∙ q))
-    | inr more ↦ ap (λ (x : Bool). kept_here k && x) (one_fails ks q more) ∙ and_false (kept_here k)
+    | inr more ↦ ap (λ (x : Bool). kept_here k && x) (one_fails ks q more) ∙ and-false (kept_here k)
   ]
 
   pub at_one : (ends : List ℕ) (b : Bool) → t e ≡ b → Contains ends e → list_all kept_here ends ≡ not b

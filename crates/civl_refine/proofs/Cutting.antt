@@ -1,13 +1,10 @@
 -- A cut that has its place among a procedure's cuts, and the action that the procedure refines.
-use Rattle.std.specs.Prelude.{map, slice_get, IsSome, is_none}
-use Rattle.std.specs.List.{Contains}
-use Rattle.std.proofs.Common.{◌≡◌, ◌∙◌, ℕ, zero, suc, ◌+◌, ◌<◌, ◌^◌, true, false, ◌&&◌, List, [], ◌∷◌, ◌++◌, length, refl, sym, ap, ap₂, subst, arith, Option, Some, None}
-use Rattle.std.proofs.lemmas.Bool.{false≢true, not-false, or_parts}
+use Rattle.std.specs.Prelude.{map, slice_get, IsSome}
+use Rattle.std.proofs.Common.{◌≡◌, ◌∙◌, ℕ, zero, suc, ◌+◌, ◌<◌, ◌^◌, false, List, [], ◌∷◌, ◌++◌, refl, sym, ap, subst, arith, Option, Some, None}
+use Rattle.std.proofs.lemmas.Bool.{false≢true, not-false, or_parts, and_parts}
 use Rattle.std.proofs.lemmas.Option.{slice_get-map, slice_get_within, get_or_from_slice_get}
-use Rattle.civl_tree.specs.declared.expr.Sort.{Sort}
 use Rattle.civl_tree.specs.declared.name.Name.{Name}
 use Rattle.civl_tree.specs.declared.action.Action.{Action}
-use Rattle.civl_tree.specs.declared.action.Param.{Param}
 use Rattle.civl_tree.specs.declared.stmt.Stmt.{Stmt, out-Stmt}
 use Rattle.civl_tree.specs.declared.stmt.Stmt.TheOpen as stmt
 use Rattle.civl_tree.specs.declared.program.Refines.{Refines}
@@ -15,15 +12,15 @@ use Rattle.civl_tree.specs.declared.program.Proc.{Proc}
 use Rattle.civl_tree.specs.declared.program.Program.{Program}
 use Rattle.civl_tree.specs.Numbering.{statements_of, statement_at, sizes_of}
 use Rattle.civl_tree.specs.rules.Names.{action_named}
-use Rattle.civl_tree.specs.rules.Signature.{same_mode, same_params, signature_differs, refined_differs}
-use Rattle.civl_tree.specs.rules.Sorts.{same_sort}
+use Rattle.civl_tree.specs.rules.Signature.{same_params, signature_differs, refined_differs}
 use Rattle.civl_tree.specs.rules.Typing.{typing_rules, unknown_rule, signature_rule}
 use Rattle.civl_tree.specs.rules.Unknown.{refined_unknown, any_unknown}
-use Rattle.civl_tree.specs.rules.Uses.{param_sorts, with_uses}
+use Rattle.civl_tree.specs.rules.Uses.{with_uses}
 use Rattle.civl_tree.proofs.Kept.{proc_kept, unknown_among}
-use Rattle.civl_firing.proofs.values.Sorting.{both, same_sort-true}
+use Rattle.civl_tree.proofs.Options.{some_of}
 use Rattle.civl_firing.specs.Truth.{place_of}
 use Rattle.civl_firing.proofs.Finding.{found_at}
+use Rattle.civl_firing.proofs.SortLimits.{same_sorts}
 use Rattle.civl_meaning.specs.Meaning.{refined, meaning_of_action}
 use Rattle.civl_layers.specs.declared.cut.Cut.{Cut}
 use Rattle.civl_layers.specs.declared.cut.CutKind.{CutKind}
@@ -113,24 +110,7 @@ pub some_is : {A : Type 0} (o : Option A) → IsSome o → (x : A) × (o ≡ Som
 some_is None h = absurd (false≢true h)
 some_is (Some x) h = (x, refl)
 
--- it is one of them
-pub cut_among : {A : Type 0} (xs : List A) (c : ℕ) (x : A) → slice_get xs c ≡ Some x → Contains xs x
-cut_among xs c x e = (c, slice_get_within xs c x e, get_or_from_slice_get xs c x x e)
-
 -- ---- the action that a procedure refines
-
-none_not : {A : Type 0} (o : Option A) → is_none o ≡ false → (x : A) × (o ≡ Some x)
-none_not None e = absurd (false≢true (sym e))
-none_not (Some x) e = (x, refl)
-
-same_sorts : (params others : List Param) → same_params params others ≡ true → param_sorts params ≡ param_sorts others
-same_sorts [] [] e = refl
-same_sorts [] (q ∷ qs) e = absurd (false≢true e)
-same_sorts (p ∷ ps) [] e = absurd (false≢true e)
-same_sorts (p ∷ ps) (q ∷ qs) e =
-    let h = both (same_mode p.mode q.mode) (same_sort p.sort q.sort && same_params ps qs) e in
-    let k = both (same_sort p.sort q.sort) (same_params ps qs) h.1 in
-    ap₂ (λ (s : Sort) (ss : List Sort). s ∷ ss) (same_sort-true p.sort q.sort k.0) (same_sorts ps qs k.1)
 
 abbrev place_named : Program → Name → ℕ
 place_named program name = place_of (map (λ a. a.name) program.actions) name
@@ -138,10 +118,10 @@ place_named program name = place_of (map (λ a. a.name) program.actions) name
 pub is_refined : (program : Program) → IsLayered program → (proc : Proc) → IsProcIn program proc → (r : Refines) → proc.refines ≡ Some r → IsRefined program proc (place_named program r.action)
 is_refined program layered proc there r e =
     let known = or_parts (refined_unknown program proc.refines) (any_unknown (with_uses program proc proc.refines)) (proc_kept typing_rules program layered.rules unknown_rule unknown_among there.0 proc there.1) in
-    let found = none_not (action_named program r.action) (ap (refined_unknown program) (sym e) ∙ known.0) in
+    let found = some_of (action_named program r.action) (ap (refined_unknown program) (sym e) ∙ known.0) in
     let signed : refined_differs program proc proc.refines ≡ false = proc_kept layer_rules program layered.layers signature_rule (4, omega arith, refl) there.0 proc there.1 in
     let differs : signature_differs proc (Some found.0) ≡ false = ap (signature_differs proc) (sym found.1) ∙ ap (refined_differs program proc) (sym e) ∙ signed in
-    let same = both (same_params proc.params found.0.params) (same_params proc.outs found.0.outs) (not-false _ differs) in
+    let same = and_parts (same_params proc.params found.0.params) (same_params proc.outs found.0.outs) (not-false _ differs) in
     record {
       action = found.0;
       is = found_at (λ (a : Action). a.name) program.actions r.action ∙ found.1;
@@ -162,9 +142,6 @@ held_is program q c proc cuts at e =
 pub statements_few : (program : Program) → IsLayered program → (number : ℕ) (proc : Proc) → slice_get program.procs number ≡ Some proc → sizes_of proc.body < 2 ^ 32
 statements_few program layered number proc found =
     subst (λ (p : Proc). sizes_of p.body < 4294967296) (get_or_from_slice_get program.procs number proc proc found) (omega (arith, layered.numbered.statements number proc (slice_get_within program.procs number proc found)))
-
-pub actions_few : (program : Program) → IsLayered program → length program.actions < 2 ^ 32
-actions_few program layered = omega (arith, layered.numbered.items)
 
 -- a procedure that refines an action does so by its `refines`
 pub refines_some : (program : Program) (proc : Proc) (number : ℕ) → IsRefined program proc number → IsSome proc.refines

@@ -1,5 +1,5 @@
 -- The guard and the updates of an action, at terms that say these values.
-use Rattle.std.proofs.Common.{◌≡◌, ◌∙◌, ℕ, List, ap, ap₂}
+use Rattle.std.proofs.Common.{◌≡◌, ◌∙◌, ℕ, List, ap}
 use Rattle.civl_bits.specs.declared.value.Value.{Value}
 use Rattle.civl_bits.specs.declared.value.Value.TheVariants as value
 use Rattle.civl_tree.specs.declared.action.Action.{Action}
@@ -14,11 +14,8 @@ use Rattle.civl_actions.specs.Actions.{store_at, IsGuard, IsChange}
 use Rattle.civl_states.specs.formula_parts.Said.{Env, IsTest}
 use Rattle.civl_states.specs.formula_parts.Lists.{AreSaid}
 use Rattle.civl_states.specs.Stores.{AreStore}
+use Rattle.civl_states.proofs.Runs.{at_three}
 use Rattle.civl_meaning.specs.Config.{choice_sorts}
-
--- equal stores, inputs and choices
-at_three : {A : Type 0} (f : Store → List Value → List Value → A) (s t : Store) (i j c d : List Value) → s ≡ t → i ≡ j → c ≡ d → f s i c ≡ f t j d
-at_three f s t i j c d p q r = ap (λ (u : Store). f u i c) p ∙ ap₂ (λ (u v : List Value). f t u v) q r
 
 stored : (old : List Node) (program : Program) (globals : List ℕ) (g : Env → Store) → AreStore old program globals g → (env : Env) → Fits env old → store_at env old globals ≡ g env
 stored old program globals g sg env f = ap (λ (vs : List Value). record { values = vs }) (sg.are env f)

@@ -1,7 +1,7 @@
 -- What the parts of the condition on paths come to at the end of a path.
 use Rattle.std.specs.Prelude.{map, take, drop, filter, not, ◌||◌, if◌then◌else◌}
-use Rattle.std.proofs.Common.{◌≡◌, ◌∙◌, ℕ, zero, suc, ◌+◌, ◌-◌, ◌≤◌, Bool, true, false, ◌&&◌, List, [], ◌∷◌, ◌++◌, length, refl, sym, ap, ap₂, arith, Option, Some, None}
-use Rattle.std.proofs.lemmas.List.{length-map, length-append, take-append-drop, take_all, length-drop}
+use Rattle.std.proofs.Common.{◌≡◌, ◌∙◌, ℕ, ◌+◌, ◌≤◌, Bool, true, false, ◌&&◌, List, [], ◌∷◌, ◌++◌, length, refl, sym, ap, ap₂, arith, Option, Some, None}
+use Rattle.std.proofs.lemmas.List.{length-map, length-append, take-append-drop, take-map, drop-map, take_at, drop_at, drop-drop}
 use Rattle.civl_bits.specs.declared.value.Value.{Value}
 use Rattle.civl_tree.specs.declared.expr.Sort.{Sort}
 use Rattle.civl_tree.specs.declared.program.Global.{Global}
@@ -58,28 +58,6 @@ use Rattle.civl_refine.specs.Judging.{IsAt}
 
 -- ---- outputs among the terms of a frame
 
-map_take : {A B : Type 0} (f : A → B) (n : ℕ) (xs : List A) → map f (take n xs) ≡ take n (map f xs)
-map_take f zero xs = refl
-map_take f (suc n) [] = refl
-map_take f (suc n) (x ∷ xs) = ap (λ ys. f x ∷ ys) (map_take f n xs)
-
-map_drop : {A B : Type 0} (f : A → B) (n : ℕ) (xs : List A) → map f (drop n xs) ≡ drop n (map f xs)
-map_drop f zero xs = refl
-map_drop f (suc n) [] = refl
-map_drop f (suc n) (x ∷ xs) = map_drop f n xs
-
-take_front : {A : Type 0} (n : ℕ) (xs ys : List A) → length xs ≡ n → take n (xs ++ ys) ≡ xs
-take_front zero [] ys e = refl
-take_front zero (x ∷ xs) ys e = absurd (omega (arith, e))
-take_front (suc n) [] ys e = absurd (omega (arith, e))
-take_front (suc n) (x ∷ xs) ys e = ap (λ zs. x ∷ zs) (take_front n xs ys (omega (arith, e)))
-
-drop_past : {A : Type 0} (n : ℕ) (xs ys : List A) → length xs ≡ n → drop n (xs ++ ys) ≡ ys
-drop_past zero [] ys e = refl
-drop_past zero (x ∷ xs) ys e = absurd (omega (arith, e))
-drop_past (suc n) [] ys e = absurd (omega (arith, e))
-drop_past (suc n) (x ∷ xs) ys e = drop_past n xs ys (omega (arith, e))
-
 module _ (ns : List Node) (proc : Proc) (ids : List ℕ) where
   abbrev pub outs_of : List ℕ
   outs_of = take (length proc.outs) (drop (length proc.params) ids)
@@ -89,15 +67,15 @@ module _ (ns : List Node) (proc : Proc) (ids : List ℕ) where
       let p = length proc.params in
       let o = length proc.outs in
       let here : take o (drop p (frame_sorts proc)) ≡ param_sorts proc.outs =
-      ap (take o) (drop_past p (param_sorts proc.params) (param_sorts proc.outs ++ map (λ l. l.sort) proc.locals) (length-map proc.params (λ q. q.sort)))
-      ∙ take_front o (param_sorts proc.outs) (map (λ l. l.sort) proc.locals) (length-map proc.outs (λ q. q.sort)) in
-      map_take (sort_at ns) o (drop p ids) ∙ ap (take o) (map_drop (sort_at ns) p ids ∙ ap (drop p) h ∙ sym (map_drop (λ (t : Sort). Some t) p (frame_sorts proc)))
-      ∙ sym (map_take (λ (t : Sort). Some t) o (drop p (frame_sorts proc))) ∙ ap (map (λ (t : Sort). Some t)) here
+      ap (take o) (drop_at (param_sorts proc.params) (param_sorts proc.outs ++ map (λ l. l.sort) proc.locals) p (length-map proc.params (λ q. q.sort)))
+      ∙ take_at (param_sorts proc.outs) (map (λ l. l.sort) proc.locals) o (length-map proc.outs (λ q. q.sort)) in
+      sym (take-map (sort_at ns) o (drop p ids)) ∙ ap (take o) (sym (drop-map (sort_at ns) p ids) ∙ ap (drop p) h ∙ drop-map (λ (t : Sort). Some t) p (frame_sorts proc))
+      ∙ take-map (λ (t : Sort). Some t) o (drop p (frame_sorts proc)) ∙ ap (map (λ (t : Sort). Some t)) here
 
   pub outs_said : (v : Env → List Value) → AreSaid ns ids (frame_sorts proc) v → AreSaid ns outs_of (param_sorts proc.outs) (λ env. outs_in proc (v env))
   outs_said v h = record {
     sorted = outs_sorted h.sorted;
-    are = λ env fits. map_take (value_at env ns) (length proc.outs) (drop (length proc.params) ids) ∙ ap (take (length proc.outs)) (map_drop (value_at env ns) (length proc.params) ids ∙ ap (drop (length proc.params)) (h.are env fits));
+    are = λ env fits. sym (take-map (value_at env ns) (length proc.outs) (drop (length proc.params) ids)) ∙ ap (take (length proc.outs)) (sym (drop-map (value_at env ns) (length proc.params) ids) ∙ ap (drop (length proc.params)) (h.are env fits));
   }
 
   pub outs_within : AreOf ns ids (frame_sorts proc) → length proc.params + length proc.outs ≤ length ids
@@ -113,26 +91,14 @@ module _ (ns : List Node) (proc : Proc) (ids : List ℕ) where
         length-map proc.outs (λ p. p.sort),
       )
 
-pub part_to : (o p : ℕ) (xs : List ℕ) → take o (take (length xs - p) (drop p xs)) ≡ take o (drop p xs)
-part_to o p xs = ap (take o) (take_all (length xs - p) (drop p xs) (omega (arith, length-drop p xs)))
-
 -- ---- the values that notes see
-
-drop_twice : {A : Type 0} (m n : ℕ) (xs : List A) → drop (m + n) xs ≡ drop n (drop m xs)
-drop_twice zero n xs = let e : 0 + n ≡ n = omega arith in ap (λ (k : ℕ). drop k xs) e
-drop_twice (suc m) n [] = let e : suc m + n ≡ suc (m + n) = omega arith in ap (λ (k : ℕ). drop k []) e ∙ sym (drop_nothing n)
-  where
-    drop_nothing : {A : Type 0} (k : ℕ) → ◌≡◌ {A = List A} (drop k []) []
-    drop_nothing zero = refl
-    drop_nothing (suc k) = refl
-drop_twice (suc m) n (x ∷ xs) = let e : suc m + n ≡ suc (m + n) = omega arith in ap (λ (k : ℕ). drop k (x ∷ xs)) e ∙ drop_twice m n xs
 
 -- with its own outputs a frame is as it is
 pub own_outs : (proc : Proc) (vs : List Value) → with_outs proc vs (outs_in proc vs) ≡ vs
 own_outs proc vs =
     let p = length proc.params in
     let o = length proc.outs in
-    ap (λ (us : List Value). take p vs ++ us) (ap (λ (us : List Value). take o (drop p vs) ++ us) (drop_twice p o vs) ∙ take-append-drop o (drop p vs)) ∙ take-append-drop p vs
+    ap (λ (us : List Value). take p vs ++ us) (ap (λ (us : List Value). take o (drop p vs) ++ us) (sym (drop-drop o p vs)) ∙ take-append-drop o (drop p vs)) ∙ take-append-drop p vs
 
 pub plain_is : (globals : List Global) (proc : Proc) (g : Store) (vs : List Value) → steady_note_values globals proc g vs false ≡ plain_note_values globals proc g vs
 plain_is globals proc g vs =
@@ -155,10 +121,6 @@ stutter_is true false o t = refl
 stutter_is true true false t = refl
 stutter_is true true true true = refl
 stutter_is true true true false = refl
-
--- a test of a bool as a value
-pub bool_said : (ns : List Node) (i : ℕ) (f : Env → Bool) → IsTest ns i f → IsSaid ns i Truth (λ env. value.Bool (f env))
-bool_said ns i f t = record { sorted = t.sorted; is = t.is }
 
 -- ---- what it weighs to compare results
 

@@ -28,7 +28,7 @@ use Rattle.civl_conditions.specs.paths.Ends.{is_entry, is_rank_loop}
 use Rattle.civl_conditions.specs.paths.Seen.{exists_near}
 use Rattle.civl_conditions.specs.paths.Flows.{flow_from}
 use Rattle.civl_conditions.specs.Variables.{choices_of, layer_choices, passed_choices, path_variables}
-use Rattle.civl_conditions.specs.Values.{count_of, where_so, choices_count, layout}
+use Rattle.civl_conditions.specs.Values.{count_of, choices_count, layout}
 use Rattle.civl_conditions.specs.Weights.{bits_of_variables}
 use Rattle.civl_states.specs.formula_parts.Given.{bits_of_sorts}
 use Rattle.civl_states.specs.declared.stores.Existing.TheVariants.{Near}
@@ -37,18 +37,10 @@ use Rattle.civl_states.specs.Laying.{sorts_where, inner_sorts, call_sorts}
 use Rattle.civl_states.specs.Notes.{IsProcIn}
 use Rattle.civl_states.proofs.Laying.{inner_long}
 use Rattle.civl_states.proofs.Limits.{AreSorts, sorts_append, choice_sorts_are, proc_param_sorts_are, proc_out_sorts_are}
-use Rattle.civl_states.proofs.Starting.{path_sorts_are, path_bits, inner_limits}
+use Rattle.civl_states.proofs.Starting.{path_sorts_are, path_bits, inner_limits, where_long}
 use Rattle.civl_states.proofs.Variables.{existing_are}
 
-pub append_end : {A : Type 0} (xs : List A) → xs ++ [] ≡ xs
-append_end [] = refl
-append_end (x ∷ xs) = ap (λ ys. x ∷ ys) (append_end xs)
-
 -- ---- how many there are
-
-where_long : (b : Bool) (ss : List Sort) (n : ℕ) → length ss ≡ n → length (sorts_where b ss) ≡ where_so b n
-where_long true ss n e = e
-where_long false ss n e = refl
 
 calls_long : (qs : List (ℕ × List Choice)) → length (call_sorts qs) ≡ choices_count qs
 calls_long [] = refl

@@ -3,6 +3,7 @@ use Rattle.std.specs.Prelude.{map, drop, get_or, not, ◌||◌}
 use Rattle.std.specs.List.{list_all}
 use Rattle.std.proofs.Common.{◌≡◌, ◌∙◌, ℕ, ◌+◌, ◌≤◌, ◌<◌, Bool, true, false, ◌&&◌, List, ◌∷◌, length, refl, sym, ap}
 use Rattle.std.proofs.lemmas.List.{drop_more, drop_all}
+use Rattle.std.proofs.Math.Bool.{and_assoc, and-true}
 use Rattle.civl_bits.specs.declared.value.Value.{Value}
 use Rattle.civl_firing.specs.values.Values.{is_true}
 use Rattle.civl_tree.specs.declared.expr.Sort.TheVariants.{Bool as Truth}
@@ -77,14 +78,6 @@ way_stays old new program proc o way g w = record {
 
 -- ---- one way more
 
-and_assoc : (a b c : Bool) → ((a && b) && c) ≡ (a && (b && c))
-and_assoc true b c = refl
-and_assoc false b c = refl
-
-and_true : (a : Bool) → (a && true) ≡ a
-and_true true = refl
-and_true false = refl
-
 module _ (ways : List Way) (i : ℕ) where
   abbrev pub ends_of : List Way → List ℕ
   ends_of ws = map (λ w. w.end) ws
@@ -100,4 +93,4 @@ module _ (ways : List Way) (i : ℕ) where
     ways_weigh weight = ap (λ (ws : List Way). summed (map weight (ends_of ws))) here
 
   pub ways_end : length ways ≤ i → (test : ℕ → Bool) (f : Bool) → (f && list_all test (ends_of (drop i ways))) ≡ f
-  ways_end l test f = ap (λ (ws : List Way). f && list_all test (ends_of ws)) (drop_all i ways l) ∙ and_true f
+  ways_end l test f = ap (λ (ws : List Way). f && list_all test (ends_of ws)) (drop_all i ways l) ∙ and-true f

@@ -1,5 +1,5 @@
 -- The notes of a checked program have their sorts: the invariants of steps, and those of cuts.
-use Rattle.std.specs.Prelude.{not, slice_get, IsSome}
+use Rattle.std.specs.Prelude.{not, slice_get}
 use Rattle.std.specs.List.{list_any}
 use Rattle.std.specs.Option.{option_map_or}
 use Rattle.std.proofs.Common.{◌≡◌, ◌∙◌, ℕ, zero, suc, Bool, true, false, List, [], ◌∷◌, refl, sym, ap, Option, Some, None}
@@ -16,38 +16,23 @@ use Rattle.civl_tree.specs.Numbering.{statement_at}
 use Rattle.civl_tree.specs.rules.Scopes.{Scope, global_scope, note_scope}
 use Rattle.civl_tree.specs.rules.Sorts.{sort_of}
 use Rattle.civl_tree.specs.rules.Exprs.{widths_fit, indices_fit}
-use Rattle.civl_tree.specs.rules.Uses.{Use, Need, AnyWord, Only, serves, truth_use, form_uses, stmt_uses, invariant_uses}
+use Rattle.civl_tree.specs.rules.Uses.{Use, AnyWord, serves, truth_use, form_uses, stmt_uses, invariant_uses}
 use Rattle.civl_tree.specs.rules.Sorted.{any_missorted, stmt_missorted}
 use Rattle.civl_tree.specs.rules.Width.{any_width}
 use Rattle.civl_tree.specs.rules.Index.{any_index}
 use Rattle.civl_tree.specs.rules.Rules.{Keeps}
 use Rattle.civl_tree.specs.rules.Typing.{typing_rules, width_rule, sort_rule, index_rule}
 use Rattle.civl_tree.proofs.Kept.{invariant_kept, statement_kept, width_among, sort_among, index_among}
-use Rattle.civl_firing.proofs.values.Sorting.{same_sort-true}
+use Rattle.civl_firing.proofs.Serving.{served_only}
 use Rattle.civl_layers.specs.declared.cut.Cut.{Cut}
 use Rattle.civl_layers.specs.declared.cut.CutKind.{CutKind}
 use Rattle.civl_layers.specs.declared.cut.CutKind.TheVariants as kind
 use Rattle.civl_actions.specs.Scopes.{IsTyped}
+use Rattle.civl_actions.proofs.Rules.{Sound, typed_use}
 use Rattle.civl_conditions.specs.Assumed.{layer_invariant, layer_rank, said_at, cut_invariant, cut_rank}
 use Rattle.civl_states.specs.Notes.{IsProcIn}
 
 -- ---- a list of expressions at their places
-
-served_only : (o : Option Sort) (s : Sort) → serves o (Only s) ≡ true → o ≡ Some s
-served_only None s e = absurd (false≢true e)
-served_only (Some t) s e = ap (λ (r : Sort). Some r) (same_sort-true t s e)
-
-served_some : (o : Option Sort) (n : Need) → serves o n ≡ true → IsSome o
-served_some None n e = absurd (false≢true e)
-served_some (Some t) n e = refl
-
-pub record Sound (u : Use) : Type 0 where
-  pub serves_it : serves (sort_of u.scope u.expression) u.need ≡ true
-  pub widths_it : widths_fit u.scope u.expression ≡ true
-  pub indices_it : indices_fit u.expression ≡ true
-
-pub sound_typed : (u : Use) → Sound u → IsTyped u.scope u.expression
-sound_typed u h = record { sorted = served_some (sort_of u.scope u.expression) u.need h.serves_it; widths = h.widths_it; indices = h.indices_it }
 
 pub sound_sort : (scope : Scope) (e : Expr) → Sound (truth_use scope e) → sort_of scope e ≡ Some Truth
 sound_sort scope e h = served_only (sort_of scope e) Truth h.serves_it
@@ -73,7 +58,7 @@ module _ (program : Program) (keeps : Keeps typing_rules program) where
     invariant_sound = sound_at (invariant_uses program i) 0 _ (invariant_kept typing_rules program keeps sort_rule sort_among place i at) (invariant_kept typing_rules program keeps width_rule width_among place i at) (invariant_kept typing_rules program keeps index_rule index_among place i at) refl
 
     pub invariant_typed : IsTyped (global_scope program) i.expr
-    invariant_typed = sound_typed (truth_use (global_scope program) i.expr) invariant_sound
+    invariant_typed = typed_use (truth_use (global_scope program) i.expr) invariant_sound
 
     pub invariant_truth : sort_of (global_scope program) i.expr ≡ Some Truth
     invariant_truth = sound_sort (global_scope program) i.expr invariant_sound
@@ -133,7 +118,7 @@ module _ (program : Program) (keeps : Keeps typing_rules program) where
         stmt_sound cut.statement s.0 s.1 u.0 (truth_use (note_scope program proc) e) u.1
 
     pub cut_typed : (cut : Cut) (e : Expr) → cut_invariant proc cut ≡ Some e → IsTyped (note_scope program proc) e
-    cut_typed cut e q = sound_typed (truth_use (note_scope program proc) e) (cut_sound cut e q)
+    cut_typed cut e q = typed_use (truth_use (note_scope program proc) e) (cut_sound cut e q)
 
     pub cut_truth : (cut : Cut) (e : Expr) → cut_invariant proc cut ≡ Some e → sort_of (note_scope program proc) e ≡ Some Truth
     cut_truth cut e q = sound_sort (note_scope program proc) e (cut_sound cut e q)
@@ -142,7 +127,7 @@ module _ (program : Program) (keeps : Keeps typing_rules program) where
     rank_typed cut e q =
         let s = said_there layer_rank cut.statement cut.kind e q in
         let u = rank_use (out-Stmt s.0) e s.2 in
-        sound_typed (record { scope = note_scope program proc; expression = e; need = AnyWord }) (stmt_sound cut.statement s.0 s.1 u.0 (record { scope = note_scope program proc; expression = e; need = AnyWord }) u.1)
+        typed_use (record { scope = note_scope program proc; expression = e; need = AnyWord }) (stmt_sound cut.statement s.0 s.1 u.0 (record { scope = note_scope program proc; expression = e; need = AnyWord }) u.1)
 
     pub rank_word : (cut : Cut) (e : Expr) → cut_rank proc cut ≡ Some e → (w : ℕ) × (sort_of (note_scope program proc) e ≡ Some (Word w))
     rank_word cut e q =

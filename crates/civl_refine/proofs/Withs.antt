@@ -1,8 +1,9 @@
 -- The values behind `with`, and what the refined action makes of them.
-use Rattle.std.specs.Prelude.{map, take, drop, get_or, slice_get}
-use Rattle.std.proofs.Common.{◌≡◌, ◌∙◌, ℕ, zero, suc, ◌+◌, ◌≤◌, ◌<◌, true, false, List, [], ◌∷◌, ◌++◌, length, refl, sym, ap, ap₂, subst, arith, Option, Some, None}
-use Rattle.std.proofs.lemmas.Bool.{false≢true, not-false, or_parts, eqb-true}
+use Rattle.std.specs.Prelude.{map, take, drop, slice_get}
+use Rattle.std.proofs.Common.{◌≡◌, ◌∙◌, ℕ, zero, suc, ◌+◌, ◌≤◌, false, List, [], ◌∷◌, ◌++◌, length, refl, sym, ap, ap₂, subst, arith, Option, Some, None}
+use Rattle.std.proofs.lemmas.Bool.{not-false, or_parts, eqb-true}
 use Rattle.std.proofs.lemmas.List.{map-append, take_more, take_all, drop_more, length-map}
+use Rattle.std.proofs.lemmas.Option.{get_or_from_slice_get, slice_get_within}
 use Rattle.civl_bits.specs.declared.value.Value.{Value}
 use Rattle.civl_tree.specs.declared.expr.Expr.{Expr}
 use Rattle.civl_tree.specs.declared.expr.Sort.{Sort}
@@ -13,14 +14,14 @@ use Rattle.civl_tree.specs.declared.program.Program.{Program}
 use Rattle.civl_tree.specs.rules.Names.{action_named}
 use Rattle.civl_tree.specs.rules.Scopes.{Scope as Sorts, note_scope}
 use Rattle.civl_tree.specs.rules.Sorts.{sort_of}
-use Rattle.civl_tree.specs.rules.Uses.{Use, Only, serves, argument_uses, target_use, chosen_sorts, with_uses}
+use Rattle.civl_tree.specs.rules.Uses.{Use, argument_uses, target_use, chosen_sorts, with_uses}
 use Rattle.civl_tree.specs.rules.Arity.{refines_arity, with_arity}
 use Rattle.civl_tree.specs.rules.Rules.{Keeps}
 use Rattle.civl_tree.specs.rules.Typing.{typing_rules, width_rule, sort_rule, index_rule, arity_rule}
 use Rattle.civl_tree.proofs.Kept.{proc_kept, width_among, sort_among, index_among, arity_among}
-use Rattle.civl_firing.proofs.values.Sorting.{same_sort-true}
 use Rattle.civl_firing.specs.declared.scope.Scope.{Scope}
 use Rattle.civl_firing.specs.Eval.{value_of, values_of}
+use Rattle.civl_firing.proofs.Serving.{served_only}
 use Rattle.civl_meaning.specs.Meaning.{refined, meaning_of_action}
 use Rattle.civl_conditions.specs.paths.Choices.{action_meant}
 use Rattle.civl_terms.specs.declared.node.Node.{Node}
@@ -28,6 +29,7 @@ use Rattle.civl_terms.specs.Graphs.{sort_at}
 use Rattle.civl_terms.specs.Building.{Grows}
 use Rattle.civl_terms.proofs.Growing.{lengthened}
 use Rattle.civl_actions.specs.Scopes.{AreOf, IsTyped}
+use Rattle.civl_actions.proofs.Rules.{typed_use}
 use Rattle.civl_conditions.specs.Assumed.{refined_action, with_of}
 use Rattle.civl_conditions.specs.Weights.{weights_of}
 use Rattle.civl_states.specs.formula_parts.Said.{Env, IsSaid}
@@ -35,13 +37,9 @@ use Rattle.civl_states.specs.formula_parts.Lists.{AreSaid}
 use Rattle.civl_states.proofs.formula_parts.Listing.{said_more}
 use Rattle.civl_meaning.specs.Config.{choice_sorts}
 use Rattle.civl_states.specs.Notes.{IsProcIn}
-use Rattle.civl_refine.proofs.Typing.{sound_at, sound_typed}
+use Rattle.civl_refine.proofs.Typing.{sound_at}
 
 -- ---- the expressions behind `with` have the sorts of the choices
-
-served_only : (o : Option Sort) (s : Sort) → serves o (Only s) ≡ true → o ≡ Some s
-served_only None s e = absurd (false≢true e)
-served_only (Some t) s e = ap (λ (r : Sort). Some r) (same_sort-true t s e)
 
 argument_at : (scope : Sorts) (es : List Expr) (ss : List Sort) → length es ≡ length ss → (i : ℕ) (e : Expr) → slice_get es i ≡ Some e → (s : Sort) × (slice_get ss i ≡ Some s) × (slice_get (argument_uses scope es ss) i ≡ Some (target_use scope e (Some s)))
 argument_at scope [] ss l i e at = absurd (cc)
@@ -73,25 +71,15 @@ module _ (program : Program) (keeps : Keeps typing_rules program) (proc : Proc) 
       let sound = sound_at (with_uses program proc proc.refines) i (target_use (note_scope program proc) e (Some u.0)) (proc_kept typing_rules program keeps sort_rule sort_among there.0 proc there.1)
       (or_parts _ _ (or_parts _ _ (proc_kept typing_rules program keeps width_rule width_among there.0 proc there.1)).1).1 (or_parts _ _ (or_parts _ _ (proc_kept typing_rules program keeps index_rule index_among there.0 proc there.1)).1).1
       (ap (λ (us : List Use). slice_get us i) with_used ∙ u.2) in
-      (u.0, u.1, served_only (sort_of (note_scope program proc) e) u.0 sound.serves_it, sound_typed (target_use (note_scope program proc) e (Some u.0)) sound)
+      (u.0, u.1, served_only (sort_of (note_scope program proc) e) u.0 sound.serves_it, typed_use (target_use (note_scope program proc) e (Some u.0)) sound)
 
 -- ---- one value more
 
-get_of : {A : Type 0} (xs : List A) (i : ℕ) (x d : A) → slice_get xs i ≡ Some x → get_or xs i d ≡ x
-get_of [] i x d e = absurd (cc)
-get_of (y ∷ xs) zero x d e = cc
-get_of (y ∷ xs) (suc i) x d e = get_of xs i x d e
-
-within_of : {A : Type 0} (xs : List A) (i : ℕ) (x : A) → slice_get xs i ≡ Some x → i < length xs
-within_of [] i x e = absurd (cc)
-within_of (y ∷ xs) zero x e = omega arith
-within_of (y ∷ xs) (suc i) x e = omega (arith, within_of xs i x e)
-
 pub take_next : {A : Type 0} (xs : List A) (i : ℕ) (x : A) → slice_get xs i ≡ Some x → take (i + 1) xs ≡ take i xs ++ x ∷ []
-take_next xs i x e = take_more xs i x (within_of xs i x e) ∙ ap (λ y. take i xs ++ y ∷ []) (get_of xs i x x e)
+take_next xs i x e = take_more xs i x (slice_get_within xs i x e) ∙ ap (λ y. take i xs ++ y ∷ []) (get_or_from_slice_get xs i x x e)
 
 pub drop_next : {A : Type 0} (xs : List A) (i : ℕ) (x : A) → slice_get xs i ≡ Some x → drop i xs ≡ x ∷ drop (i + 1) xs
-drop_next xs i x e = drop_more xs i x (within_of xs i x e) ∙ ap (λ y. y ∷ drop (i + 1) xs) (get_of xs i x x e)
+drop_next xs i x e = drop_more xs i x (slice_get_within xs i x e) ∙ ap (λ y. y ∷ drop (i + 1) xs) (get_or_from_slice_get xs i x x e)
 
 pub sorted_next : (old new : List Node) (ids more : List ℕ) (ss : List Sort) (i id : ℕ) (s : Sort) → AreOf new ids (take i ss) → slice_get ss i ≡ Some s → sort_at new id ≡ Some s → more ≡ ids ++ id ∷ [] → AreOf new more (take (i + 1) ss)
 sorted_next old new ids more ss i id s h at e m =

@@ -4,6 +4,7 @@ use Rattle.std.specs.Prelude.{IsTrue}
 use Rattle.std.specs.List.{list_any}
 use Rattle.std.proofs.lemmas.List.Elements.{All-contains}
 use Rattle.std.proofs.lemmas.List.Folds.{Any-from_list_any}
+use Rattle.std.proofs.lemmas.Bool.{or_parts}
 use Rattle.civl_cnf.specs.Literal.{Literal, truth_of}
 use Rattle.civl_cnf.specs.ClauseSet.{SatisfiesClause, Satisfies}
 use Rattle.civl_units.specs.Propagation.{Fails, IsFalsified, IsClosedAt, HasConflict}
@@ -33,15 +34,11 @@ or_left : (a b : Bool) → (a || b) ≡ false → a ≡ false
 or_left true b e = cc
 or_left false b e = refl
 
-or_right : (a b : Bool) → (a || b) ≡ false → b ≡ false
-or_right true b e = cc
-or_right false b e = e
-
 -- a clause with no true literal is falsified
 all_fail : (v : ℕ → Bool) (clause : List Literal) → list_any (truth_of v) clause ≡ false → IsFalsified (true_set v) clause
 all_fail v [] e k d low = absurd (omega arith)
 all_fail v (l ∷ ls) e zero d low = untrue_not (v l.variable) l.positive (or_left _ _ e)
-all_fail v (l ∷ ls) e (suc k) d low = all_fail v ls (or_right _ _ e) k d (omega arith)
+all_fail v (l ∷ ls) e (suc k) d low = all_fail v ls (or_parts _ _ e).1 k d (omega arith)
 
 -- the set of an assignment is closed under the clauses that it satisfies
 closed_under : (v : ℕ → Bool) (clause : List Literal) → SatisfiesClause v clause → IsClosedAt (true_set v) clause

@@ -1,10 +1,10 @@
 -- New clauses.
-use Rattle.std.proofs.Common.{◌<◌, length, ◌≡◌, ◌⊎◌, ℕ, zero, suc, List, [], ◌∷◌, get_or, refl, ◌∙◌, ap, inl, inr, arith, Bool, true, false, ◌++◌, take}
-use Rattle.std.specs.Prelude.{All, Contains, ◌↔◌, ◌≢◌}
-use Rattle.std.proofs.lemmas.Bool.Decides.{eqb_tells}
+use Rattle.std.proofs.Common.{◌<◌, length, ◌≡◌, ◌⊎◌, ℕ, zero, suc, List, [], ◌∷◌, get_or, inl, inr, arith, Bool, ◌++◌, take}
+use Rattle.std.specs.Prelude.{All, Contains, ◌↔◌}
 use Rattle.std.proofs.lemmas.List.Elements.{All-nil, All-cons, All-head, All-tail, All-contains, Contains-get_or}
 use Rattle.civl_cnf.specs.Literal.{Literal}
 use Rattle.civl_cnf.specs.ClauseSet.{ClauseSet}
+use Rattle.civl_cnf.proofs.Literals.{literal_or_not}
 use Rattle.civl_units.specs.Propagation.{Holds, Fails, IsFalsified, HasConflict}
 use Rattle.civl_rup.specs.Rup.{IsNew, IsNewBy, Spends}
 use Rattle.civl_units.specs.Laws.{set_of, IsRun, IsComplete}
@@ -12,24 +12,6 @@ use Rattle.civl_rup.specs.Laws.{AreOthers}
 use Rattle.civl_units.specs.Marks.{IsIncluded}
 use Rattle.civl_units.proofs.LawLemmas.{run_sound}
 use Rattle.civl_units.proofs.Propagating.{any_by, conflict_grows}
-
-signs_tell : (a b : Bool) → (a ≡ b) ⊎ (a ≢ b)
-signs_tell true true = inl refl
-signs_tell true false = inr (λ e. cc)
-signs_tell false true = inr (λ e. cc)
-signs_tell false false = inl refl
-
-literals_tell : (m l : Literal) → (m ≡ l) ⊎ (m ≢ l)
-literals_tell m l = elim (eqb_tells m.variable l.variable) [
-  | inl v ↦ elim (signs_tell m.positive l.positive) [
-    | inl p ↦
-        let with_variable : ℕ → Literal = λ x. record { variable = x; positive = m.positive } in
-        let with_sign : Bool → Literal = λ x. record { variable = l.variable; positive = x } in
-        inl (ap with_variable v.1 ∙ ap with_sign p)
-    | inr p ↦ inr (λ e. p (ap (λ (x : Literal). x.positive) e))
-  ]
-  | inr v ↦ inr (λ e. v.1 (ap (λ (x : Literal). x.variable) e))
-]
 
 -- where the other literals fail
 others_fail : (clause others : List Literal) (l : Literal) (s : ℕ → Bool → Bool) → AreOthers clause l others → All (λ m. (m ≡ l) ⊎ Fails s m) clause → All (Fails s) others
@@ -49,7 +31,7 @@ run_shows_new clauses clause l others run there are steps complete = (
     set = set_of run;
     others = λ k d low.
         let m : Literal = get_or clause k d in
-        elim (literals_tell m l) [
+        elim (literal_or_not m l) [
           | inl e ↦ inl e
           | inr differ ↦ inr (All-contains (Fails (set_of run)) others m complete.0 ((are m).1 (Contains-get_or clause k d low, differ)))
         ];

@@ -3,6 +3,7 @@ use Rattle.std.proofs.Common.{◌≡◌, ℕ, ◌+◌, ◌<◌, ◌≤◌, List,
 use Rattle.std.specs.Prelude.{IsTrue, All, Option, ◌↔◌}
 use Rattle.std.proofs.lemmas.List.Elements.{All-append, All-more}
 use Rattle.std.proofs.lemmas.List.{get_or_default, length-take-le, get_or-take}
+use Rattle.std.proofs.lemmas.Bool.{cases_lt}
 use Rattle.civl_cnf.specs.Literal.{Literal}
 use Rattle.civl_cnf.specs.ClauseSet.{ClauseSet, IsBelow, AreBelow, SatisfiesClause, Satisfies}
 use Rattle.civl_units.specs.Propagation.{Fails, HasConflict}
@@ -11,7 +12,7 @@ use Rattle.civl_units.specs.Marks.{marked, EndsBy, AreAssumed, IsQuiet, Propagat
 use Rattle.civl_rup.specs.Standing.{ScanSays}
 use Rattle.civl_rup.specs.declared.answer.Replay.{Replay}
 use Rattle.civl_rup.specs.declared.answer.Replay.TheVariants.{Refutes as Refuting, NotRup, NoEmpty}
-use Rattle.civl_units.proofs.MarkLemmas.{lt_or_eq, below_or_not}
+use Rattle.civl_units.proofs.MarkLemmas.{lt_or_eq}
 use Rattle.civl_rup.proofs.Entailing.{rup_entails}
 use Rattle.civl_units.proofs.Propagating.{conflict_grows}
 
@@ -77,9 +78,9 @@ first_once : (set : ClauseSet) (log : List (List Literal)) (i j : ℕ) → IsFir
 first_once set log i j p q less = p.refused (q.before i less)
 
 first_same : (set : ClauseSet) (log : List (List Literal)) (i j : ℕ) → IsFirstWithoutRup set log i → IsFirstWithoutRup set log j → i ≡ j
-first_same set log i j p q = elim (below_or_not i j) [
+first_same set log i j p q = elim (cases_lt i j) [
   | inl less ↦ absurd (first_once set log i j p q less)
-  | inr more ↦ elim (below_or_not j i) [ inl less ↦ absurd (first_once set log j i q p less) | inr most ↦ omega arith ]
+  | inr more ↦ elim (cases_lt j i) [ inl less ↦ absurd (first_once set log j i q p less) | inr most ↦ omega arith ]
 ]
 
 first_or_all : (set : ClauseSet) (log : List (List Literal)) (i : ℕ) → IsFirstWithoutRup set log i → HaveRup set log (length log) → ⊥

@@ -5,6 +5,8 @@ use Rattle.std.specs.Prelude.{IsTrue, All, Contains, Option, None, Some}
 use Rattle.std.proofs.lemmas.List.{get_or_default, get_or_append_left, get_or_push, length_push, take-append-drop}
 use Rattle.std.proofs.lemmas.List.Elements.{All-nil, Contains-append_left}
 use Rattle.civl_cnf.specs.Literal.{Literal, opposite}
+use Rattle.civl_cnf.proofs.Extending.{beq_equal}
+use Rattle.civl_cnf.proofs.Literals.{literal_is}
 use Rattle.civl_units.specs.Propagation.{Holds, Fails, IsFalsified, IsClosedAt, IsClosed, HasConflict, GivesConflict}
 use Rattle.civl_units.specs.Marks.{is_marked, marked, IsQuiet, IsIncluded}
 use Rattle.civl_units.proofs.MarkLemmas.{lt_or_eq, same_self}
@@ -95,9 +97,6 @@ reason_falsified t clauses s i l (Some r) within fails undecided says =
         | inr f ↦ within (get_or clause k d).variable (not (get_or clause k d).positive) (before_marked t.marks t.places i (get_or clause k d).variable (not (get_or clause k d).positive) f)
       ],
     )
-
-literal_is : (m l : Literal) → m.variable ≡ l.variable → m.positive ≡ l.positive → m ≡ l
-literal_is m l v p = ap (λ (x : ℕ). record { variable = x; positive = m.positive }) v ∙ ap (λ (x : Bool). record { variable = l.variable; positive = x }) p
 
 -- where one of the literals became true, while no variable stands twice, they give a conflict: a clause forced it, since what was decided makes others false
 pub true_conflict : (e : EngineState) (variables : ℕ) (clauses : List (List Literal)) (lits : List Literal) (n : ℕ) → n < length lits → HasEachOnce lits → IsMaking e variables clauses lits n → Holds (marked e.trail.marks) (get_or lits n some_lit) → GivesConflict clauses lits
@@ -215,12 +214,6 @@ value_fails marks l value is differ = fails_by (get_or marks l.variable None) va
 value_holds : (marks : List (Option Bool)) (l : Literal) (value : Bool) → get_or marks l.variable None ≡ Some value → value ≡ l.positive → Holds (marked marks) l
 value_holds marks l value is same = ap (λ (o : Option Bool). is_marked o l.positive) is ∙ ap (λ (b : Bool). is_marked (Some value) b) (sym same) ∙ same_self value
 
-beq_true : (a b : Bool) → beq a b ≡ true → a ≡ b
-beq_true true true e = refl
-beq_true true false e = cc
-beq_true false true e = cc
-beq_true false false e = refl
-
 beq_false : (a b : Bool) → beq a b ≡ false → a ≡ b → ⊥
 beq_false true true e same = cc
 beq_false true false e same = cc
@@ -233,7 +226,7 @@ mark_at marks all inner variable l value a b v is = ap (λ (x : ℕ). get_or all
 
 -- the value is the literal's sign: the literal is true
 pub marked_true : (marks : List (Option Bool)) (l : Literal) (value positive : Bool) → get_or marks l.variable None ≡ Some value → positive ≡ l.positive → beq value positive ≡ true → Holds (marked marks) l
-marked_true marks l value positive is sign same = value_holds marks l value is (beq_true value positive same ∙ sign)
+marked_true marks l value positive is sign same = value_holds marks l value is (beq_equal value positive same ∙ sign)
 
 -- it isn't: the literal is false
 pub marked_false : (marks : List (Option Bool)) (l : Literal) (value positive : Bool) → get_or marks l.variable None ≡ Some value → positive ≡ l.positive → beq value positive ≡ false → Fails (marked marks) l

@@ -12,6 +12,7 @@ use Rattle.civl_tree.specs.declared.program.Proc.{Proc}
 use Rattle.civl_tree.specs.declared.program.Program.{Program}
 use Rattle.civl_tree.specs.Numbering.{statement_at}
 use Rattle.civl_tree.proofs.Kept.{global_kept}
+use Rattle.civl_tree.proofs.Bools.{not_second}
 use Rattle.civl_outlines.specs.declared.outline.Outline.{Outline}
 use Rattle.civl_firing.specs.declared.store.Store.{Store}
 use Rattle.civl_firing.specs.Stores.{IsStore}
@@ -36,7 +37,6 @@ use Rattle.civl_conditions.proofs.paths.Seeing.{MeansSeen, CallSeen, step_alike}
 use Rattle.civl_conditions.specs.Permissions.{in_store}
 use Rattle.civl_condition_laws.proofs.Gathering.{Fit}
 use Rattle.civl_condition_laws.proofs.Carrying.{LinearPass, same_linear}
-use Rattle.civl_condition_laws.proofs.Meeting.{not_second}
 use Rattle.civl_reduction.proofs.permissions.Lasting.{call_exists}
 use Rattle.civl_reduction.proofs.permissions.Reaching.{meant_begins}
 use Rattle.civl_goals.specs.Outlines.{exists_on_top, invariant_holds, note_holds}

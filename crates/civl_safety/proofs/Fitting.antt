@@ -1,6 +1,6 @@
 -- Where an outline fits: each hold says something of the topmost program's globals, and each note stands before a statement of a
 -- root and says something of that place.
-use Rattle.std.proofs.Common.{◌≡◌, ℕ, zero, suc, ◌+◌, ◌<◌, Bool, true, false, ◌&&◌, List, [], ◌∷◌, ◌++◌, length, find, Option, Some, None, refl, sym, ap, ◌∙◌, subst, arith}
+use Rattle.std.proofs.Common.{◌≡◌, ℕ, ◌+◌, ◌<◌, Bool, true, false, ◌&&◌, List, [], ◌∷◌, ◌++◌, length, find, Option, Some, None, refl, sym, ap, ◌∙◌, subst, arith}
 use Rattle.std.specs.Prelude.{slice_get, nat_eq, nat_lt, if◌then◌else◌}
 use Rattle.std.specs.Option.{option_map, option_map_or}
 use Rattle.std.proofs.lemmas.Bool.{and_parts, false≢true, eqb-true, ltb-true}
@@ -9,13 +9,15 @@ use Rattle.civl_tree.specs.declared.expr.Expr.{Expr}
 use Rattle.civl_tree.specs.declared.program.Proc.{Proc}
 use Rattle.civl_tree.specs.declared.program.Program.{Program}
 use Rattle.civl_tree.specs.Numbering.{proc_item, sizes_of}
+use Rattle.civl_tree.proofs.Lists.{none_left, none_right, none_hidden, found_one}
 use Rattle.civl_conditions.specs.Steps.{each_at}
+use Rattle.civl_conditions.proofs.Contained.{numbered}
 use Rattle.civl_outlines.specs.declared.outline.Note.{Note}
 use Rattle.civl_outlines.specs.declared.outline.Outline.{Outline}
 use Rattle.civl_goals.specs.Outlines.{stands_before, written_before}
 use Rattle.civl_goals.specs.Listed.{is_root}
 use Rattle.civl_goals.specs.Rules.{says_of, hold_scope, outline_scope, root_at, stands_in, note_fits, misplaced, unfit_holds, unfit}
-use Rattle.civl_safety.proofs.Listing.{none_left, none_right, none_hidden, each_none, found_one}
+use Rattle.civl_safety.proofs.Listing.{each_none}
 
 module _ (program : Program) where
   -- a note that is written among those that all fit
@@ -29,14 +31,6 @@ module _ (program : Program) where
       go : (b : Bool) → test n ≡ b → (if b then Some n else find test ns) ≡ Some note → (find test ns ≡ Some note → (before : List Note) × (note_fits program before note ≡ true) × (test note ≡ true)) → (before : List Note) × (note_fits program before note ≡ true) × (test note ≡ true)
       go true t k later = let same = same_Some n note k in (earlier, subst (λ (x : Note). note_fits program earlier x ≡ true) same here, subst (λ (x : Note). test x ≡ true) same t)
       go false t k later = later k
-
-  -- what has a number among the procedures
-  numbered : (procs : List Proc) (at i : ℕ) (q : ℕ × Proc) → slice_get (each_at (λ r proc. (r, proc) ∷ []) at procs) i ≡ Some q → (k : ℕ) × (slice_get procs k ≡ Some q.1) × (q.0 ≡ at + k)
-  numbered [] at i q e = absurd (none-some q e)
-  numbered (p ∷ ps) at zero q e =
-      let same = same_Some (at, p) q e in
-      (0, ap (λ (x : ℕ × Proc). Some x.1) same, sym (ap (λ (x : ℕ × Proc). x.0) same) ∙ omega arith)
-  numbered (p ∷ ps) at (suc i) q e = let r = numbered ps (at + 1) i q e in let n = r.2 in (suc r.0, r.1, omega (arith, n))
 
   root_is : (item : ℕ) (proc : Proc) → root_at program item ≡ Some proc → (r : ℕ) × (slice_get program.procs r ≡ Some proc) × (proc_item program r ≡ item) × (is_root proc ≡ true)
   root_is item proc e = by_found (find (λ (q : ℕ × Proc). nat_eq (proc_item program q.0) item && is_root q.1) (each_at (λ r p. (r, p) ∷ []) 0 program.procs)) refl e

@@ -11,11 +11,12 @@ use Rattle.civl_tree.specs.declared.program.Program.{Program}
 use Rattle.civl_tree.specs.rules.Uses.{param_sorts}
 use Rattle.civl_firing.specs.declared.store.Store.{Store}
 use Rattle.civl_firing.specs.Stores.{IsStore}
+use Rattle.civl_firing.proofs.Having.{have_length}
 use Rattle.civl_meaning.specs.Config.{frame_sorts}
 use Rattle.civl_conditions.specs.footprints.Agreement.{StoresAgree}
 use Rattle.civl_conditions.specs.Variables.{call_front, of_params, of_locals, of_choices, of_globals}
 use Rattle.civl_conditions.specs.Values.{part, count_of}
-use Rattle.civl_condition_laws.proofs.Gathering.{Fit, have_length, fit_more, sorts_named, fit_named, kept, kept_fit, kept_length, spread_agrees, part_is}
+use Rattle.civl_condition_laws.proofs.Gathering.{Fit, fit_more, sorts_named, fit_named, kept, kept_fit, kept_length, spread_agrees, part_is}
 use Rattle.civl_goals.specs.Outlines.{exists_on_top, top_globals}
 use Rattle.civl_goals.specs.Variables.{of_names, of_frame, frame_count, choices_at, of_statement}
 use Rattle.civl_goals.specs.Failed.{store_in, frame_of, behind_frame, chosen_of, other_of}

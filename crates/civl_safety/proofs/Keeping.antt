@@ -1,9 +1,8 @@
 -- Which actions keep permissions: those whose first layer is below the top by K2, and the others by a goal, or because they move none.
-use Rattle.std.proofs.Common.{◌≡◌, ℕ, zero, suc, ◌+◌, ◌<◌, ◌≤◌, Bool, true, false, not, ◌&&◌, List, [], ◌∷◌, ◌++◌, Option, Some, None, refl, sym, ap, ap₂, ◌∙◌, inl, inr, ◌⊎◌, arith}
+use Rattle.std.proofs.Common.{◌≡◌, ℕ, ◌+◌, ◌<◌, ◌≤◌, Bool, true, false, not, ◌&&◌, List, [], ◌∷◌, ◌++◌, Option, Some, None, refl, sym, ap, ap₂, ◌∙◌, inl, inr, ◌⊎◌, arith}
 use Rattle.std.specs.Prelude.{slice_get, nat_eq, flat_map, ◌==◌, if◌then◌else◌}
 use Rattle.std.specs.List.{list_any, list_all}
-use Rattle.std.proofs.lemmas.Bool.{or_parts, or_left, or_right, and_parts, and_from, eq-eqb, cases_lt, false≢true}
-use Rattle.std.proofs.lemmas.Option.{same_Some, none-some}
+use Rattle.std.proofs.lemmas.Bool.{or_parts, or_left, or_right, and_parts, and_from, eq-eqb, cases_lt, false≢true, and_right, and_left}
 use Rattle.civl_bits.specs.declared.value.Value.{Value}
 use Rattle.civl_tree.specs.declared.action.Action.{Action}
 use Rattle.civl_tree.specs.declared.action.Mode.{Mode}
@@ -14,6 +13,8 @@ use Rattle.civl_tree.specs.declared.program.Program.{Program}
 use Rattle.civl_tree.specs.SpellingDomain.{is_out_mode, allows_name, allows_param, allows_out, allows_global, allows_expr, allows_invariant, allows_action, allows_program}
 use Rattle.civl_tree.specs.rules.Names.{has_name, targets_of}
 use Rattle.civl_tree.specs.rules.Width.{is_linear}
+use Rattle.civl_tree.proofs.Bools.{not_second}
+use Rattle.civl_tree.proofs.Lists.{all_get}
 use Rattle.civl_outlines.specs.declared.outline.Outline.{Outline}
 use Rattle.civl_firing.specs.declared.store.Store.{Store}
 use Rattle.civl_firing.specs.Stores.{IsStore}
@@ -88,18 +89,6 @@ none_given (p ∷ ps) (v ∷ vs) w h =
 
 -- ---- an action that moves no permissions
 
-and_false : (a b : Bool) → b ≡ false → (a && b) ≡ false
-and_false true b e = e
-and_false false b e = refl
-
-first_false : (a b : Bool) → a ≡ false → (a && b) ≡ false
-first_false true b e = absurd (false≢true (sym e))
-first_false false b e = refl
-
-second_false : (a b : Bool) → a ≡ true → (a && b) ≡ false → b ≡ false
-second_false true b e h = h
-second_false false b e h = absurd (false≢true e)
-
 module _ (program : Program) (a : Action) (outs : list_all allows_out a.outs ≡ true) (still : moves_permissions program a ≡ false) where
   inputs_still : list_any (λ p. is_linear p.mode) a.params ≡ false
   inputs_still = (or_parts (list_any (λ p. is_linear p.mode) a.params) _ still).0
@@ -111,7 +100,7 @@ module _ (program : Program) (a : Action) (outs : list_all allows_out a.outs ≡
   globals_still = (or_parts (list_any (λ p. is_given p.mode) a.outs) _ (or_parts (list_any (λ p. is_linear p.mode) a.params) _ still).1).1
 
   linear_kept : LinearPass (no_target a) program.globals
-  linear_kept place g there is = ap not (second_false g.linear (has_name (targets_of a) g.name) is (none_at (λ (g : Global). g.linear && has_name (targets_of a) g.name) program.globals place g there globals_still))
+  linear_kept place g there is = ap not (not_second g.linear (has_name (targets_of a) g.name) is (none_at (λ (g : Global). g.linear && has_name (targets_of a) g.name) program.globals place g there globals_still))
 
   module _ (store : Store) (fit : IsStore program.globals store) (inputs chosen : List Value) where
     abbrev x : Invoked
@@ -139,15 +128,10 @@ module _ (program : Program) (a : Action) (outs : list_all allows_out a.outs ≡
             (pairwise_disjoint (in_store program store ++ of_params a.params inputs)
             && (gate_of program store x
             && on_some (fires_of program store x) (λ b. not (pairwise_disjoint (in_store program b.0 ++ (of_modes is_lent a.params inputs ++ of_params a.outs b.1)) && included (in_store program b.0 ++ (of_modes is_lent a.params inputs ++ of_params a.outs b.1)) (in_store program store ++ of_params a.params inputs))))) ≡ false
-        by_apart true d = and_false _ _ (and_false (gate_of program store x) _ (by_fires d (fires_of program store x) refl))
-        by_apart false d = first_false _ _ d
+        by_apart true d = and_right _ _ (and_right (gate_of program store x) _ (by_fires d (fires_of program store x) refl))
+        by_apart false d = and_left _ _ d
 
 -- ---- all
-
-all_get : {A : Type 0} (p : A → Bool) (xs : List A) (i : ℕ) (x : A) → list_all p xs ≡ true → slice_get xs i ≡ Some x → p x ≡ true
-all_get p [] i x h e = absurd (none-some x e)
-all_get p (y ∷ ys) zero x h e = ap p (sym (same_Some y x e)) ∙ (and_parts (p y) (list_all p ys) h).0
-all_get p (y ∷ ys) (suc i) x h e = all_get p ys i x (and_parts (p y) (list_all p ys) h).1 e
 
 module _ (program : Program) (written : allows_program program ≡ true) (layered : IsLayered program) (outline : Outline) (o : IsOutlined program outline) (lower : LowerKeepPermissions program) where
   outs_written : (number : ℕ) (a : Action) → slice_get program.actions number ≡ Some a → list_all allows_out a.outs ≡ true

@@ -14,12 +14,12 @@ use Rattle.civl_tree.specs.declared.name.Name.{Name}
 use Rattle.civl_tree.specs.declared.expr.Expr.{Expr}
 use Rattle.civl_tree.specs.Numbering.{statement_at, statements_of}
 use Rattle.civl_tree.proofs.Pairs.{contains_here, contains_there, contains_map}
+use Rattle.civl_conditions.proofs.Contained.{shown, in_each}
 use Rattle.civl_outlines.specs.declared.outline.Outline.{Outline}
 use Rattle.civl_goals.specs.declared.goal.Goal.{Goal}
 use Rattle.civl_goals.specs.declared.goal.Goal.TheVariants as goal
 use Rattle.civl_goals.specs.Outlines.{written_before}
 use Rattle.civl_goals.specs.Listed.{begins, thread_goal, thread_goals, moves_permissions, linear_goal, linear_goals, is_root, noted_at, noted_in, noted_of, noted, form_goals, stmt_goals, root_goals, proc_goals, statement_goals, goals}
-use Rattle.civl_safety.proofs.Listing.{shown, in_each}
 
 module _ (program : Program) (outline : Outline) where
   pub invariant_listed : Contains (goals program outline) goal.Invariant

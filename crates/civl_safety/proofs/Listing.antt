@@ -1,50 +1,20 @@
 -- Elements of lists of lists, and what is said of each item where nothing is.
-use Rattle.std.proofs.Common.{◌≡◌, ℕ, zero, suc, ◌+◌, Bool, true, false, not, ◌||◌, List, [], ◌∷◌, ◌++◌, Some, refl, sym, ap, ◌∙◌, subst, arith}
+use Rattle.std.proofs.Common.{◌≡◌, ℕ, zero, suc, ◌+◌, Bool, true, false, List, [], ◌∷◌, Some, refl, sym, ap, ◌∙◌, subst, arith}
 use Rattle.std.specs.Prelude.{slice_get, slice_set, All, if◌then◌else◌}
-use Rattle.std.specs.List.{Contains, list_any, find}
-use Rattle.std.proofs.lemmas.Bool.{false≢true, or_parts}
+use Rattle.std.specs.List.{list_any}
+use Rattle.std.proofs.lemmas.Bool.{or_parts}
 use Rattle.std.proofs.lemmas.Option.{same_Some, none-some}
-use Rattle.std.proofs.lemmas.List.Elements.{All-nil, All-cons, Contains-append_left, Contains-append_right}
+use Rattle.std.proofs.lemmas.List.Elements.{All-nil, All-cons}
 use Rattle.civl_tree.specs.declared.stmt.Stmt.{Stmt}
 use Rattle.civl_tree.specs.rules.Rules.{Place, statement_places, numbers_where, each_place}
+use Rattle.civl_tree.proofs.Lists.{none_left, none_right}
 use Rattle.civl_conditions.specs.Steps.{each_at}
 
--- ---- bools
-
-pub not_not : (b : Bool) → not b ≡ false → b ≡ true
-not_not true e = refl
-not_not false e = absurd (false≢true (sym e))
-
 -- ---- lists
-
--- nothing in two lists is nothing in each
-pub none_left : {A : Type 0} (xs ys : List A) → xs ++ ys ≡ [] → xs ≡ []
-none_left [] ys e = refl
-none_left (x ∷ xs) ys e = absurd cc
-
-pub none_right : {A : Type 0} (xs ys : List A) → xs ++ ys ≡ [] → ys ≡ []
-none_right [] ys e = e
-none_right (x ∷ xs) ys e = absurd cc
 
 pub none_shown : {A : Type 0} (b : Bool) (x : A) (xs : List A) → (if b then x ∷ xs else []) ≡ [] → b ≡ false
 none_shown true x xs e = absurd cc
 none_shown false x xs e = refl
-
-pub none_hidden : {A : Type 0} (b : Bool) (x : A) (xs : List A) → (if b then [] else x ∷ xs) ≡ [] → b ≡ true
-none_hidden true x xs e = refl
-none_hidden false x xs e = absurd cc
-
--- an element of a list that is there
-pub shown : {A : Type 0} (b : Bool) (x : A) (xs : List A) → b ≡ true → Contains xs x → Contains (if b then xs else []) x
-shown true x xs e h = h
-shown false x xs e h = absurd (false≢true e)
-
-pub in_each : {A B : Type 0} (f : ℕ → A → List B) (at : ℕ) (xs : List A) (i n : ℕ) (x : A) (y : B) → slice_get xs i ≡ Some x → n ≡ at + i → Contains (f n x) y → Contains (each_at f at xs) y
-in_each f at [] i n x y e s h = absurd (none-some x e)
-in_each f at (z ∷ zs) zero n x y e s h =
-    let here : n ≡ at = omega (arith, s) in
-    Contains-append_left (f at z) (each_at f (at + 1) zs) y (subst (λ a. Contains (f at a) y) (sym (same_Some z x e)) (subst (λ k. Contains (f k x) y) here h))
-in_each f at (z ∷ zs) (suc i) n x y e s h = Contains-append_right (f at z) (each_at f (at + 1) zs) y (in_each f (at + 1) zs i n x y e (omega (arith, s)) h)
 
 -- where nothing is said of all items, nothing is said of one
 pub each_none : {A B : Type 0} (f : ℕ → A → List B) (at : ℕ) (xs : List A) (i n : ℕ) (x : A) → slice_get xs i ≡ Some x → n ≡ at + i → each_at f at xs ≡ [] → f n x ≡ []
@@ -73,22 +43,6 @@ statements_none item [] e = refl
 statements_none item (n ∷ ns) e = absurd cc
 
 -- ---- the first that passes a test, and one that does
-
-pub found_one : {A : Type 0} (test : A → Bool) (xs : List A) (x : A) → find test xs ≡ Some x → (i : ℕ) × (slice_get xs i ≡ Some x) × (test x ≡ true)
-found_one test [] x e = absurd (none-some x e)
-found_one {A = A} test (y ∷ ys) x e = go (test y) refl e (found_one test ys x)
-  where
-    go : (b : Bool) → test y ≡ b → (if b then Some y else find test ys) ≡ Some x → (find test ys ≡ Some x → (i : ℕ) × (slice_get ys i ≡ Some x) × (test x ≡ true)) → (i : ℕ) × (slice_get (y ∷ ys) i ≡ Some x) × (test x ≡ true)
-    go true t h later = let same = same_Some y x h in (0, ap (λ (z : A). Some z) same, ap test (sym same) ∙ t)
-    go false t h later = let r = later h in (suc r.0, r.1, r.2)
-
-pub any_one : {A : Type 0} (test : A → Bool) (xs : List A) → list_any test xs ≡ true → (i : ℕ) × (x : A) × (slice_get xs i ≡ Some x) × (test x ≡ true)
-any_one test [] e = absurd (false≢true e)
-any_one {A = A} test (x ∷ xs) e = go (test x) refl e (any_one test xs)
-  where
-    go : (b : Bool) → test x ≡ b → (b || list_any test xs) ≡ true → (list_any test xs ≡ true → (i : ℕ) × (y : A) × (slice_get xs i ≡ Some y) × (test y ≡ true)) → (i : ℕ) × (y : A) × (slice_get (x ∷ xs) i ≡ Some y) × (test y ≡ true)
-    go true t h later = (0, x, refl, t)
-    go false t h later = let r = later h in (suc r.0, r.1, r.2, r.3)
 
 pub none_at : {A : Type 0} (test : A → Bool) (xs : List A) (i : ℕ) (x : A) → slice_get xs i ≡ Some x → list_any test xs ≡ false → test x ≡ false
 none_at test [] i x e h = absurd (none-some x e)

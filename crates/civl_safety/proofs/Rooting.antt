@@ -1,9 +1,9 @@
 -- The topmost program runs roots, which call actions.
-use Rattle.std.proofs.Common.{◌≡◌, ℕ, zero, suc, ◌<◌, ◌≤◌, Bool, true, false, not, ◌&&◌, ◌||◌, List, [], ◌∷◌, length, map, Option, Some, None, refl, sym, ap, ◌∙◌, subst, inl, inr, ◌⊎◌, arith}
+use Rattle.std.proofs.Common.{◌≡◌, ℕ, ◌<◌, ◌≤◌, Bool, true, false, not, ◌&&◌, ◌||◌, [], ◌∷◌, length, Option, Some, None, refl, sym, ap, ◌∙◌, subst, inl, inr, ◌⊎◌, arith}
 use Rattle.std.specs.Prelude.{slice_get, nat_eq, is_none, is_some, IsTrue, if◌then◌else◌}
 use Rattle.std.specs.List.{list_any}
 use Rattle.std.specs.Option.{option_map_or}
-use Rattle.std.proofs.lemmas.Bool.{false≢true, eqb-true, cases_lt, le-ltb}
+use Rattle.std.proofs.lemmas.Bool.{false≢true, eqb-true, cases_lt, le-ltb, not-false}
 use Rattle.std.proofs.lemmas.Option.{same_Some, none-some}
 use Rattle.civl_tree.specs.declared.name.Name.{Name}
 use Rattle.civl_tree.specs.declared.action.Action.{Action}
@@ -18,14 +18,17 @@ use Rattle.civl_tree.specs.rules.Names.{action_named, proc_named}
 use Rattle.civl_tree.specs.rules.Rules.{Keeps, statements_where, each_place}
 use Rattle.civl_tree.proofs.Numbers.{sizes_are_counts}
 use Rattle.civl_tree.proofs.Kept.{statement_kept}
+use Rattle.civl_tree.proofs.Lists.{any_place, get_there, none_left, none_right}
 use Rattle.civl_meaning.specs.declared.config.Plain.{Plain}
-use Rattle.civl_meaning.specs.Meaning.{Runs, proc_number, meaning_of_action, refined, meaning_by, meaning_of, meaning_else, called}
+use Rattle.civl_meaning.specs.Meaning.{Runs, proc_number, refined, meaning_by, meaning_of, meaning_else, called}
 use Rattle.civl_meaning.specs.Layers.{means_body, topmost}
 use Rattle.civl_meaning.specs.Places.{Spot, is_skipped, skip_layer, spot_at}
 use Rattle.civl_meaning.specs.Rest.{Rest, place_in, head_of}
 use Rattle.civl_meaning.specs.Config.{begins_threads, spawns, layer_spawns}
 use Rattle.civl_meaning.proofs.Begun.{proc_is}
 use Rattle.civl_meaning.proofs.Rests.{spot_of_rest}
+use Rattle.civl_meaning.proofs.Stacking.{refined_runs_not}
+use Rattle.civl_meaning.proofs.Bodies.{bodies_at}
 use Rattle.civl_layers.specs.Layered.{IsLayered}
 use Rattle.civl_layers.proofs.PlainPrograms.{layered_is_plain}
 use Rattle.civl_conditions.proofs.paths.Belonging.{exit_is}
@@ -36,7 +39,7 @@ use Rattle.civl_condition_laws.proofs.Nearby.{layer_within}
 use Rattle.civl_reduction.specs.permissions.Apart.{SpawnsStandInRoots}
 use Rattle.civl_goals.specs.Listed.{is_root}
 use Rattle.civl_goals.specs.Rules.{names_layered, names_root, form_descends, descending_in, descending_thread, descending}
-use Rattle.civl_safety.proofs.Listing.{not_not, none_left, none_right, none_shown, places_none, numbers_none, statements_none, any_one}
+use Rattle.civl_safety.proofs.Listing.{none_shown, places_none, numbers_none, statements_none}
 
 pub root_refines : (proc : Proc) → is_root proc ≡ true → proc.refines ≡ None
 root_refines proc = go proc.refines
@@ -55,16 +58,6 @@ not_root proc = go proc.refines
     go None e = absurd (false≢true (sym e))
     go (Some r) e = (r, refl)
 
-pub get_there : {A : Type 0} (xs : List A) (n : ℕ) → n < length xs → (a : A) × (slice_get xs n ≡ Some a)
-get_there [] n h = absurd (omega (arith, h))
-get_there (x ∷ xs) zero h = (x, refl)
-get_there (x ∷ xs) (suc n) h = get_there xs n (omega (arith, h))
-
-bodies_at : (layer : ℕ) (procs : List Proc) (j : ℕ) (proc : Proc) → slice_get procs j ≡ Some proc → slice_get (map (λ p. means_body layer p.refines) procs) j ≡ Some (means_body layer proc.refines)
-bodies_at layer [] j proc at = absurd (none-some proc at)
-bodies_at layer (p ∷ ps) zero proc at = ap (λ (q : Proc). Some (means_body layer q.refines)) (same_Some p proc at)
-bodies_at layer (p ∷ ps) (suc j) proc at = bodies_at layer ps j proc at
-
 module _ (program : Program) (layered : IsLayered program) where
   abbrev plain : Plain
   plain = topmost program
@@ -74,21 +67,13 @@ module _ (program : Program) (layered : IsLayered program) where
   root_runs k proc at root =
       ap (λ (b : Option Bool). meaning_by program b k (slice_get program.procs k)) ((layered_is_plain program layered program.layers).roots k proc at (root_refines proc root)) ∙ ap (λ (o : Option Proc). meaning_by program (Some true) k o) at
 
-  refined_runs : (o : Option Refines) (n : ℕ) (p : Proc) → refined program o ≡ Runs n p → ⊥
-  refined_runs None n p e = cc
-  refined_runs (Some r) n p e = go (action_named program r.action) e
-    where
-      go : (o : Option Action) → meaning_of_action o ≡ Runs n p → ⊥
-      go None h = cc
-      go (Some a) h = cc
-
   -- and any other procedure means an action
   other_acts : (k : ℕ) (proc : Proc) → slice_get program.procs k ≡ Some proc → is_root proc ≡ false → (n : ℕ) (p : Proc) → meaning_of plain k ≡ Runs n p → ⊥
   other_acts k proc at other n p e =
       let r = not_root proc other in
       let within = (layer_within program layered r.0.layer k proc (record { there = at; refines = r.0; refined = r.1; layered = refl })).1 in
       let body : slice_get plain.bodies k ≡ Some false = bodies_at program.layers program.procs k proc at ∙ ap Some (ap (means_body program.layers) r.1 ∙ le-ltb program.layers r.0.layer within) in
-      refined_runs proc.refines n p
+      refined_runs_not program proc.refines n p
       (sym (ap (λ (b : Option Bool). meaning_by program b k (slice_get program.procs k)) body ∙ ap (λ (o : Option Proc). meaning_by program (Some false) k o) at) ∙ e)
 
   module _ (yields : Keeps yield_rules program) where
@@ -146,7 +131,7 @@ module _ (program : Program) (layered : IsLayered program) where
     -- what isn't a procedure that refines an action is a root
     pub named_root : (name : Name) (proc : Proc) → names_layered program name ≡ false → slice_get program.procs (proc_number program name) ≡ Some proc → is_root proc ≡ true
     named_root name proc h at =
-        not_not (is_root proc) (sym (ap (λ (o : Option Proc). option_map_or (λ p. not (is_root p)) o false) (sym (proc_is program name) ∙ at)) ∙ h)
+        not-false (is_root proc) (sym (ap (λ (o : Option Proc). option_map_or (λ p. not (is_root p)) o false) (sym (proc_is program name) ∙ at)) ∙ h)
 
     -- threads run roots
     pub callee_root : SpawnsStandInRoots program → (k : ℕ) → IsTrue (begins_threads program k) → (proc : Proc) → slice_get program.procs k ≡ Some proc → is_root proc ≡ true
@@ -162,12 +147,12 @@ module _ (program : Program) (layered : IsLayered program) where
 
         by_cases : (b : Bool) → list_any (λ (t : Thread). nat_eq (proc_number program t.callee) k) program.threads ≡ b → (b || list_any (λ (p : Proc). list_any (spawns program k) (statements_of p.body)) program.procs) ≡ true → is_root proc ≡ true
         by_cases true e h =
-            let t = any_one (λ (t : Thread). nat_eq (proc_number program t.callee) k) program.threads e in
+            let t = any_place (λ (t : Thread). nat_eq (proc_number program t.callee) k) program.threads e in
             let number : proc_number program t.1.callee ≡ k = eqb-true (proc_number program t.1.callee) k t.3 in
             named_root t.1.callee proc (thread_descends t.0 t.1 t.2) (ap (slice_get program.procs) number ∙ at)
         by_cases false e h =
-            let p = any_one (λ (p : Proc). list_any (spawns program k) (statements_of p.body)) program.procs h in
-            let s = any_one (spawns program k) (statements_of p.1.body) p.3 in
+            let p = any_place (λ (p : Proc). list_any (spawns program k) (statements_of p.body)) program.procs h in
+            let s = any_place (spawns program k) (statements_of p.1.body) p.3 in
             by_form p.0 p.1 p.2 s.0 s.1 s.2 (out-Stmt s.1) refl s.3
 
     -- and a root's call isn't one of a body

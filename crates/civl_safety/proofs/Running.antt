@@ -3,9 +3,9 @@ use Rattle.std.proofs.Common.{◌≡◌, ℕ, zero, suc, ◌≤◌, Bool, true, 
 use Rattle.std.specs.Prelude.{slice_get, slice_set, All, flat_map}
 use Rattle.std.specs.List.{list_any}
 use Rattle.std.specs.Option.{option_map, option_map_or}
-use Rattle.std.proofs.lemmas.Bool.{and_from, lt-ltb, false≢true, true≢false}
+use Rattle.std.proofs.lemmas.Bool.{and_from, lt-ltb, false≢true, true≢false, not-false}
 use Rattle.std.proofs.lemmas.Option.{same_Some}
-use Rattle.std.proofs.lemmas.List.Elements.{All-nil, All-cons, All-head, All-tail, All-push, All-map}
+use Rattle.std.proofs.lemmas.List.Elements.{All-nil, All-head, All-tail, All-push, All-map}
 use Rattle.civl_bits.specs.Value.{IsValue}
 use Rattle.civl_bits.specs.declared.value.Value.{Value}
 use Rattle.civl_firing.specs.values.Values.{HaveSorts}
@@ -17,6 +17,8 @@ use Rattle.civl_tree.specs.Numbering.{sizes_of, statement_at}
 use Rattle.civl_tree.specs.rules.Names.{proc_named}
 use Rattle.civl_tree.specs.rules.Rules.{Keeps}
 use Rattle.civl_tree.specs.rules.Uses.{param_sorts}
+use Rattle.civl_tree.proofs.Bools.{not_second}
+use Rattle.civl_tree.proofs.Lists.{all_by_get}
 use Rattle.civl_outlines.specs.declared.outline.Outline.{Outline}
 use Rattle.civl_firing.specs.declared.store.Store.{Store}
 use Rattle.civl_firing.specs.Stores.{IsStore}
@@ -51,7 +53,6 @@ use Rattle.civl_conditions.specs.Permissions.{in_store}
 use Rattle.civl_conditions.specs.Invariants.{is_initial}
 use Rattle.civl_conditions.specs.Movers.{on_some}
 use Rattle.civl_condition_laws.proofs.Gathering.{fit_named}
-use Rattle.civl_condition_laws.proofs.Meeting.{not_second}
 use Rattle.civl_soundness.proofs.Fitting.{all_at}
 use Rattle.civl_soundness.proofs.Scopes.{new_locals}
 use Rattle.civl_reduction.specs.permissions.Apart.{SpawnsStandInRoots}
@@ -70,7 +71,7 @@ use Rattle.civl_goals.specs.Failed as failing
 use Rattle.civl_goals.specs.Failed.{owned_in, does, failed}
 use Rattle.civl_safety.specs.Outlined.{IsOutlined}
 use Rattle.civl_safety.specs.Stands.{StateStands, ThreadStands, Stands}
-use Rattle.civl_safety.proofs.Listing.{not_not, set_all}
+use Rattle.civl_safety.proofs.Listing.{set_all}
 use Rattle.civl_safety.proofs.Fitting.{written}
 use Rattle.civl_safety.proofs.Listed.{invariant_listed, thread_listed}
 use Rattle.civl_safety.proofs.Rooting.{root_runs, root_spot, callee_root}
@@ -303,7 +304,7 @@ module _ (program : Program) (outline : Outline) (layered : IsLayered program) (
     start_invariant : invariant_holds program outline store ≡ true
     unfolding failed variables
     start_invariant =
-        not_not (invariant_holds program outline store)
+        not-false (invariant_holds program outline store)
         (not_second (is_initial program store) _ starts (o.hold goal.Invariant (invariant_listed program outline) store.values (fit_named (λ x. x.name) (λ x. x.sort) [] program.globals store.values initial.store_fits)))
 
     thread_goal : (i : ℕ) (thread : Thread) → slice_get program.threads i ≡ Some thread → begins program thread.callee ≡ true → failing.thread_fails program outline store thread ≡ false
@@ -320,13 +321,9 @@ module _ (program : Program) (outline : Outline) (layered : IsLayered program) (
         let known = written program outline o.fits (proc_number program thread.callee) 0 proc there note w in
         let named : proc_named program thread.callee ≡ Some proc = sym (proc_is program thread.callee) ∙ there in
         let some : begins program thread.callee ≡ true = ap (λ (p : Option Proc). option_map_or has_statement p false) named ∙ lt-ltb 0 (sizes_of proc.body) known.within in
-        not_not _
+        not-false _
         (sym (ap (λ (p : Option Proc). on_some (option_map (λ q. new_frame (proc_number program thread.callee) q (values_of (global_values program.globals store) thread.args)) p) (λ first. not (note_holds program outline store first))) there)
         ∙ thread_goal i thread at some))
-
-    all_by_get : {A : Type 0} (P : A → Type 0) (xs : List A) → ((i : ℕ) (x : A) → slice_get xs i ≡ Some x → P x) → All P xs
-    all_by_get P [] f = All-nil P
-    all_by_get P (x ∷ xs) f = All-cons P x xs (f zero x refl) (all_by_get P xs (λ i y e. f (suc i) y e))
 
     pub start_holds : Holds (start plain store)
     start_holds = record {

@@ -1,9 +1,8 @@
 -- What an outline says sees the globals of the topmost program alone.
-use Rattle.std.proofs.Common.{◌≡◌, ℕ, zero, suc, ◌<◌, Bool, true, false, not, ◌||◌, ◌&&◌, List, [], ◌∷◌, ◌++◌, find, filter, Option, Some, None, refl, sym, ap, ◌∙◌, inl, inr, arith}
-use Rattle.std.specs.Prelude.{slice_get, take, is_some, if◌then◌else◌}
-use Rattle.std.specs.List.{list_any}
-use Rattle.std.proofs.lemmas.Bool.{or_parts, or_from, and_parts, false≢true, true≢false}
-use Rattle.std.proofs.lemmas.Option.{same_Some, none-some}
+use Rattle.std.proofs.Common.{◌≡◌, ℕ, zero, suc, Bool, true, false, not, ◌||◌, ◌&&◌, List, [], ◌∷◌, ◌++◌, find, filter, Option, Some, None, refl, sym, ap, ◌∙◌, inl, inr, arith}
+use Rattle.std.specs.Prelude.{slice_get, is_some, if◌then◌else◌}
+use Rattle.std.proofs.lemmas.Bool.{or_from, and_parts, false≢true, true≢false}
+use Rattle.std.proofs.lemmas.Option.{none-some}
 use Rattle.std.proofs.lemmas.Slice.Eq.{bytes_eq-Decides}
 use Rattle.civl_tree.specs.declared.name.Name.{Name}
 use Rattle.civl_tree.specs.declared.expr.Expr.{Expr, map-Expr}
@@ -13,16 +12,16 @@ use Rattle.civl_tree.specs.declared.expr.Sort.{Sort}
 use Rattle.civl_tree.specs.declared.program.Global.{Global}
 use Rattle.civl_tree.specs.declared.program.Proc.{Proc}
 use Rattle.civl_tree.specs.declared.program.Program.{Program}
-use Rattle.civl_tree.specs.rules.Names.{same_name, global_names}
+use Rattle.civl_tree.specs.rules.Names.{same_name}
 use Rattle.civl_tree.specs.rules.Scopes.{Scope, sort_in, bind_globals, bind_proc}
 use Rattle.civl_tree.specs.rules.Exprs.{names_known, known_step}
 use Rattle.civl_tree.specs.rules.Rules.{Keeps}
-use Rattle.civl_tree.specs.rules.Typing.{typing_rules, twice_rule}
-use Rattle.civl_tree.proofs.Kept.{global_kept, twice_among}
-use Rattle.civl_firing.proofs.Finding.{swapped}
+use Rattle.civl_tree.specs.rules.Typing.{typing_rules}
+use Rattle.civl_tree.proofs.Naming.{same_name_sym}
+use Rattle.civl_tree.proofs.Distinct.{Distinct, distinct}
+use Rattle.civl_meaning.proofs.Bindings.{in_either, no_global}
 use Rattle.civl_layers.specs.Names.{uses, use_step}
 use Rattle.civl_conditions.specs.footprints.Agreement.{fails_test, names_other}
-use Rattle.civl_soundness.proofs.Bindings.{in_either, no_global}
 use Rattle.civl_soundness.proofs.Scopes.{proc_declares}
 
 -- ---- names that are in scope
@@ -64,22 +63,6 @@ module _ (scope : Scope) (others : Name → Bool) (names : (n : Name) → is_som
 
 -- ---- the globals' names
 
--- no two globals have one name
-abbrev Distinct : List Global → Type 0
-Distinct gs = (i j : ℕ) (g h : Global) → slice_get gs i ≡ Some g → slice_get gs j ≡ Some h → i < j → same_name h.name g.name ≡ false
-
-among_first : (p : Name → Bool) (gs : List Global) (i j : ℕ) (g : Global) → slice_get gs i ≡ Some g → i < j → list_any p (global_names (take j gs)) ≡ false → p g.name ≡ false
-among_first p [] i j g e l h = absurd (none-some g e)
-among_first p (x ∷ xs) i zero g e l h = absurd (omega (arith, l))
-among_first p (x ∷ xs) zero (suc j) g e l h = ap (λ (y : Global). p y.name) (sym (same_Some x g e)) ∙ (or_parts (p x.name) (list_any p (global_names (take j xs))) h).0
-among_first p (x ∷ xs) (suc i) (suc j) g e l h = among_first p xs i j g e (omega (arith, l)) (or_parts (p x.name) (list_any p (global_names (take j xs))) h).1
-
-distinct : (program : Program) → Keeps typing_rules program → Distinct program.globals
-distinct program keeps i j g h a b l = among_first (same_name h.name) program.globals i j g a l (global_kept typing_rules program keeps twice_rule twice_among j h b)
-
-same_turned : (a b : Name) → same_name a b ≡ same_name b a
-same_turned a b = swapped a.bytes b.bytes
-
 -- two names that are the same as a third
 same_then : (a b c : Name) → same_name a b ≡ true → same_name b c ≡ true → same_name a c ≡ true
 same_then a b c h k = (bytes_eq-Decides a.bytes c.bytes).1 ((bytes_eq-Decides a.bytes b.bytes).0 h ∙ (bytes_eq-Decides b.bytes c.bytes).0 k)
@@ -112,8 +95,8 @@ module _ (test : Global → Bool) where
   passes_seen (g ∷ gs) d n s e = by_test (test g) refl (λ k. passes_seen gs (λ i j a b x y l. d (suc i) (suc j) a b x y (omega (arith, l))) n s k) e
     where
       by_name : test g ≡ true → (b : Bool) → same_name g.name n ≡ b → (sort_in (bind_globals (filter test gs)) n ≡ Some s → names_other test gs n ≡ false) → (if b then Some g.sort else sort_in (bind_globals (filter test gs)) n) ≡ Some s → names_other test (g ∷ gs) n ≡ false
-      by_name t true q later h = others_first g gs n true (same_turned n g.name ∙ q) ∙ ap not t
-      by_name t false q later h = others_first g gs n false (same_turned n g.name ∙ q) ∙ later h
+      by_name t true q later h = others_first g gs n true (same_name_sym n g.name ∙ q) ∙ ap not t
+      by_name t false q later h = others_first g gs n false (same_name_sym n g.name ∙ q) ∙ later h
 
       by_test : (b : Bool) → test g ≡ b → (sort_in (bind_globals (filter test gs)) n ≡ Some s → names_other test gs n ≡ false) → sort_in (bind_globals (if b then g ∷ filter test gs else filter test gs)) n ≡ Some s → names_other test (g ∷ gs) n ≡ false
       by_test true t later h = by_name t (same_name g.name n) refl later h
@@ -136,7 +119,7 @@ module _ (test : Global → Bool) where
     where
       go : (b : Bool) → same_name g.name n ≡ b → (if b then Some g.sort else sort_in (bind_globals gs) n) ≡ None → (sort_in (bind_globals gs) n ≡ None → names_other test gs n ≡ false) → names_other test (g ∷ gs) n ≡ false
       go true q h later = absurd cc
-      go false q h later = others_first g gs n false (same_turned n g.name ∙ q) ∙ later h
+      go false q h later = others_first g gs n false (same_name_sym n g.name ∙ q) ∙ later h
 
 some_is : {A : Type 0} (o : Option A) → is_some o ≡ true → (x : A) × (o ≡ Some x)
 some_is None e = absurd (false≢true e)

@@ -24,6 +24,8 @@ use Rattle.civl_tree.specs.rules.Rules.{Keeps}
 use Rattle.civl_tree.specs.rules.Typing.{typing_rules, width_rule, index_rule}
 use Rattle.civl_tree.proofs.Kept.{action_kept, width_among, index_among}
 use Rattle.civl_tree.proofs.Numbers.{sizes_are_counts}
+use Rattle.civl_tree.proofs.Bools.{not_second}
+use Rattle.civl_tree.proofs.Lists.{get_there}
 use Rattle.civl_outlines.specs.declared.outline.Note.{Note}
 use Rattle.civl_outlines.specs.declared.outline.Outline.{Outline}
 use Rattle.civl_firing.specs.declared.store.Store.{Store}
@@ -35,6 +37,7 @@ use Rattle.civl_firing.specs.Eval.{value_of, values_of}
 use Rattle.civl_firing.specs.Scope.{frame_values}
 use Rattle.civl_firing.specs.Fired.{gate_holds, choices_fit, fired}
 use Rattle.civl_firing.proofs.Having.{no_sorts}
+use Rattle.civl_firing.proofs.SortLimits.{limits}
 use Rattle.civl_meaning.specs.declared.config.Plain.{Plain}
 use Rattle.civl_meaning.specs.declared.config.Activation.{Activation}
 use Rattle.civl_meaning.specs.declared.config.Running.{Running}
@@ -60,8 +63,7 @@ use Rattle.civl_conditions.specs.Invariants.{holds_in}
 use Rattle.civl_conditions.specs.Variables.{choices_of, layer_choices}
 use Rattle.civl_conditions.specs.Movers.{on_some}
 use Rattle.civl_condition_laws.proofs.Carrying.{same_linear}
-use Rattle.civl_condition_laws.proofs.Meeting.{not_second}
-use Rattle.civl_soundness.proofs.Sorted.{sort_fits, zeros_fit, none_at}
+use Rattle.civl_soundness.proofs.Sorted.{zeros_fit, none_at}
 use Rattle.civl_reduction.proofs.permissions.Reaching.{meant_begins}
 use Rattle.civl_goals.specs.declared.goal.Goal.TheVariants as goal
 use Rattle.civl_goals.specs.Outlines.{exists_on_top, invariant_holds, written_before, note_holds}
@@ -70,12 +72,11 @@ use Rattle.civl_goals.specs.Listed.{is_root, has_statement, begins, goals}
 use Rattle.civl_goals.specs.Rules.{descending, form_descends}
 use Rattle.civl_goals.specs.Failed.{owned_in, beside, does, other_of, loses_invariant, begins_badly, leads_astray, interferes, failed}
 use Rattle.civl_safety.specs.Outlined.{IsOutlined}
-use Rattle.civl_safety.proofs.Listing.{not_not}
 use Rattle.civl_safety.proofs.Agreeing.{invariant_same, note_same}
 use Rattle.civl_safety.proofs.Fitting.{written}
 use Rattle.civl_safety.proofs.Gathering.{other_there, other_fit}
 use Rattle.civl_safety.proofs.Listed.{next_listed, assert_listed, safe_listed, keep_listed, other_listed, spawn_listed, noted_listed}
-use Rattle.civl_safety.proofs.Rooting.{get_there, statement_descends, call_acts}
+use Rattle.civl_safety.proofs.Rooting.{statement_descends, call_acts}
 use Rattle.civl_safety.proofs.Concluding.{linear_on_top, does_is, does_alike, IsAssumed, given, store_given, agrees, concluded, given_fit}
 
 -- ---- steps that do alike
@@ -134,7 +135,7 @@ call_shape plain g chosen names locals results at next Missing args h = tt
 
 choices_zero : (program : Program) → Keeps typing_rules program → (number : ℕ) (action : Action) → slice_get program.actions number ≡ Some action → HaveSorts (map (λ c. zero_of c.sort) action.choices) (map (λ c. c.sort) action.choices)
 choices_zero program keeps number action at =
-    zeros_fit (λ (c : Choice). c.sort) action.choices (λ k c e. sort_fits c.sort (not-false (sort_width_fits c.sort) (none_at choice_width action.choices wide k c e)) (none_at (λ (d : Choice). sort_index d.sort) action.choices low k c e))
+    zeros_fit (λ (c : Choice). c.sort) action.choices (λ k c e. limits c.sort (not-false (sort_width_fits c.sort) (none_at choice_width action.choices wide k c e)) (none_at (λ (d : Choice). sort_index d.sort) action.choices low k c e))
   where
     wide : list_any choice_width action.choices ≡ false
     wide = (or_parts (list_any choice_width action.choices) (any_width (action_uses program action)) (or_parts (list_any (param_width program) (action.params ++ action.outs)) _ (action_kept typing_rules program keeps width_rule width_among number action at)).1).0
@@ -264,19 +265,19 @@ module _ (program : Program) (layered : IsLayered program) (outline : Outline) (
     goes_led ls place e =
         let same = goes_also program ls place (does program (store_with []) frame chosen) (subst (λ (c : Change). Alike program c (does program (store_with []) frame chosen)) e (alike [])) in
         let there : leads_astray program outline (store_with []) frame (Goes ls place) ≡ false = subst (λ (c : Change). leads_astray program outline (store_with []) frame c ≡ false) (sym same) next_there in
-        note_same program layered outline o.fits g (store_with []) (agree_with []) (moved_frame frame ls place) ∙ not_not (note_holds program outline (store_with []) (moved_frame frame ls place)) there
+        note_same program layered outline o.fits g (store_with []) (agree_with []) (moved_frame frame ls place) ∙ not-false (note_holds program outline (store_with []) (moved_frame frame ls place)) there
 
     spawns_led : (new : Running) (place : ℕ) → does program g frame chosen ≡ Spawns new place → note_holds program outline g (moved_frame frame locals place) ≡ true
     spawns_led new place e =
         let same = spawns_also program new place (does program (store_with []) frame chosen) (subst (λ (c : Change). Alike program c (does program (store_with []) frame chosen)) e (alike [])) in
         let there : leads_astray program outline (store_with []) frame (Spawns new place) ≡ false = subst (λ (c : Change). leads_astray program outline (store_with []) frame c ≡ false) (sym same) next_there in
-        note_same program layered outline o.fits g (store_with []) (agree_with []) (moved_frame frame locals place) ∙ not_not (note_holds program outline (store_with []) (moved_frame frame locals place)) there
+        note_same program layered outline o.fits g (store_with []) (agree_with []) (moved_frame frame locals place) ∙ not-false (note_holds program outline (store_with []) (moved_frame frame locals place)) there
 
     acts_led : (after : Store) (ls : List Value) (place : ℕ) → does program g frame chosen ≡ Acts after ls place → note_holds program outline after (moved_frame frame ls place) ≡ true
     acts_led after ls place e =
         let also = acts_also program after ls place (does program (store_with []) frame chosen) (subst (λ (c : Change). Alike program c (does program (store_with []) frame chosen)) e (alike [])) in
         let there : leads_astray program outline (store_with []) frame (Acts also.store ls place) ≡ false = subst (λ (c : Change). leads_astray program outline (store_with []) frame c ≡ false) also.is next_there in
-        note_same program layered outline o.fits after also.store also.agree (moved_frame frame ls place) ∙ not_not (note_holds program outline also.store (moved_frame frame ls place)) there
+        note_same program layered outline o.fits after also.store also.agree (moved_frame frame ls place) ∙ not-false (note_holds program outline also.store (moved_frame frame ls place)) there
 
     -- ---- a call
 
@@ -291,7 +292,7 @@ module _ (program : Program) (layered : IsLayered program) (outline : Outline) (
       acts_kept after ls place e =
           let also = acts_also program after ls place (does program (store_with []) frame chosen) (subst (λ (c : Change). Alike program c (does program (store_with []) frame chosen)) e (alike [])) in
           let there : loses_invariant program outline (store_with []) frame (Acts also.store ls place) ≡ false = subst (λ (c : Change). loses_invariant program outline (store_with []) frame c ≡ false) also.is keep_there in
-          invariant_same program layered outline o.fits after also.store also.agree ∙ not_not (invariant_holds program outline also.store) there
+          invariant_same program layered outline o.fits after also.store also.agree ∙ not-false (invariant_holds program outline also.store) there
 
       -- another thread's frame
       module _ (k t : ℕ) (other : Proc) (there : slice_get program.procs k ≡ Some other) (rest : List Value) (sorts : HaveSorts rest (frame_sorts other)) where
@@ -325,7 +326,7 @@ module _ (program : Program) (layered : IsLayered program) (outline : Outline) (
             by_goal h =
                 let one : interferes program outline (record { procedure = k; place = t; locals = rest }) (store_with rest) frame (Acts also.store ls place) ≡ false = subst (λ (c : Change). interferes program outline (record { procedure = k; place = t; locals = rest }) (store_with rest) frame c ≡ false) also.is h in
                 let two = not_second (beside program outline (store_with rest) frame (record { procedure = k; place = t; locals = rest })) _ beside_there one in
-                note_same program layered outline o.fits after also.store also.agree (record { procedure = k; place = t; locals = rest }) ∙ not_not (note_holds program outline also.store (record { procedure = k; place = t; locals = rest })) two
+                note_same program layered outline o.fits after also.store also.agree (record { procedure = k; place = t; locals = rest }) ∙ not-false (note_holds program outline also.store (record { procedure = k; place = t; locals = rest })) two
 
     -- ---- a spawn
 
@@ -346,7 +347,7 @@ module _ (program : Program) (layered : IsLayered program) (outline : Outline) (
           let one : begins_badly program outline (store_with []) frame (Spawns new place) ≡ false = subst (λ (c : Change). begins_badly program outline (store_with []) frame c ≡ false) (sym same) (first_there some) in
           let two : not (note_holds program outline (store_with []) (new_frame new.callee callee new.args)) ≡ false =
           sym (ap (λ (p : Option Proc). on_some (option_map (λ p. new_frame new.callee p new.args) p) (λ first. not (note_holds program outline (store_with []) first))) there) ∙ one in
-          note_same program layered outline o.fits g (store_with []) (agree_with []) (new_frame new.callee callee new.args) ∙ not_not (note_holds program outline (store_with []) (new_frame new.callee callee new.args)) two)
+          note_same program layered outline o.fits g (store_with []) (agree_with []) (new_frame new.callee callee new.args) ∙ not-false (note_holds program outline (store_with []) (new_frame new.callee callee new.args)) two)
 
     -- ---- all changes
 

@@ -45,7 +45,7 @@ behind : (xs ys : List Token) → length ys ≤ length (xs ++ ys)
 behind xs ys = omega (arith, length-append xs ys)
 
 -- at most as many parts as tokens, where each part takes one
-parts_within : {X : Type 0} (spell : X → List Token) → ((x : X) → 0 < length (spell x)) → (xs : List X) → length xs ≤ length (joined (map spell xs))
+pub parts_within : {X : Type 0} (spell : X → List Token) → ((x : X) → 0 < length (spell x)) → (xs : List X) → length xs ≤ length (joined (map spell xs))
 parts_within spell some [] = omega arith
 parts_within spell some (x ∷ xs) = omega (arith, some x, parts_within spell some xs, length-append (spell x) (joined (map spell xs)))
 

@@ -1,6 +1,7 @@
 -- A script has one schedule, or one first place at which it doesn't fit.
-use Rattle.std.proofs.Common.{◌≡◌, ℕ, zero, suc, ◌+◌, ◌<◌, ◌≤◌, inl, inr, List, [], ◌∷◌, take, length, refl, sym, ap, ap₂, ◌∙◌, subst, arith}
+use Rattle.std.proofs.Common.{◌≡◌, ℕ, zero, suc, ◌+◌, ◌<◌, inl, inr, List, [], ◌∷◌, take, length, refl, sym, ap, ap₂, ◌∙◌, subst, arith}
 use Rattle.std.proofs.lemmas.Bool.{cases_lt}
+use Rattle.std.proofs.lemmas.List.{take-take}
 use Rattle.civl_bits.specs.declared.value.Value.{Value}
 use Rattle.civl_tree.specs.declared.program.Global.{Global}
 use Rattle.civl_tree.specs.declared.script.Entry.{Entry}
@@ -72,12 +73,6 @@ moves_take (suc n) [] (m ∷ ms) h = absurd h
 moves_take (suc n) (t ∷ ts) [] h = absurd h
 moves_take (suc n) (t ∷ ts) (m ∷ ms) h = (h.0, moves_take n ts ms h.1)
 
-take_twice : {A : Type 0} (m n : ℕ) (xs : List A) → m ≤ n → take m (take n xs) ≡ take m xs
-take_twice zero n xs low = refl
-take_twice (suc m) zero xs low = absurd (omega (arith, low))
-take_twice (suc m) (suc n) [] low = refl
-take_twice (suc m) (suc n) (x ∷ xs) low = ap (λ (ys : List _). x ∷ ys) (take_twice m n xs (omega (arith, low)))
-
 -- ---- one place
 
 fits_nowhere_wrong : (gs : List Global) (es : List Entry) (vs : List Value) (n : ℕ) → AreEntriesOf gs es vs → IsWrongEntry gs es n → ⊥
@@ -86,15 +81,15 @@ fits_nowhere_wrong gs es vs n h w = w.wrong (take (n + 1) vs) (entries_take (n +
 entry_not_below : (gs : List Global) (es : List Entry) (m n : ℕ) → m < n → IsWrongEntry gs es m → IsWrongEntry gs es n → ⊥
 entry_not_below gs es m n low a b =
     let part = entries_take (m + 1) (take n gs) (take n es) b.before.0 b.before.1 in
-    a.wrong (take (m + 1) b.before.0) (subst (λ (xs : List Global). AreEntriesOf xs (take (m + 1) es) (take (m + 1) b.before.0)) (take_twice (m + 1) n gs (omega (arith, low)))
-    (subst (λ (ys : List Entry). AreEntriesOf (take (m + 1) (take n gs)) ys (take (m + 1) b.before.0)) (take_twice (m + 1) n es (omega (arith, low))) part))
+    a.wrong (take (m + 1) b.before.0) (subst (λ (xs : List Global). AreEntriesOf xs (take (m + 1) es) (take (m + 1) b.before.0)) (take-take (m + 1) n gs (omega (arith, low)))
+    (subst (λ (ys : List Entry). AreEntriesOf (take (m + 1) (take n gs)) ys (take (m + 1) b.before.0)) (take-take (m + 1) n es (omega (arith, low))) part))
 
 moves_nowhere_wrong : (ts : List Told) (ms : List Move) (n : ℕ) → AreMovesOf ts ms → IsWrongMove ts n → ⊥
 moves_nowhere_wrong ts ms n h w = w.wrong (take (n + 1) ms) (moves_take (n + 1) ts ms h)
 
 move_not_below : (ts : List Told) (m n : ℕ) → m < n → IsWrongMove ts m → IsWrongMove ts n → ⊥
 move_not_below ts m n low a b =
-    a.wrong (take (m + 1) b.before.0) (subst (λ (xs : List Told). AreMovesOf xs (take (m + 1) b.before.0)) (take_twice (m + 1) n ts (omega (arith, low)))
+    a.wrong (take (m + 1) b.before.0) (subst (λ (xs : List Told). AreMovesOf xs (take (m + 1) b.before.0)) (take-take (m + 1) n ts (omega (arith, low)))
     (moves_take (m + 1) (take n ts) b.before.0 b.before.1))
 
 same_by : (m n : ℕ) → (m < n → ⊥) → (n < m → ⊥) → m ≡ n

@@ -10,11 +10,8 @@ use Rattle.civl_firing.specs.declared.store.Store.{Store}
 use Rattle.civl_meaning.specs.declared.config.Activation.{Activation}
 use Rattle.civl_meaning.specs.declared.config.Plain.{Plain}
 use Rattle.civl_tree.specs.declared.stmt.Stmt.{Stmt, out-Stmt}
-use Rattle.civl_tree.specs.Numbering.{sizes_of}
 use Rattle.civl_meaning.specs.Change.{new_frame, outs_in}
 use Rattle.civl_meaning.specs.Places.{Spot, spot_at}
-use Rattle.civl_meaning.specs.Rest.{Rest, rest_at, head_of}
-use Rattle.civl_meaning.proofs.Rests.{spot_of_rest}
 use Rattle.civl_meaning.specs.Meaning.{Meaning, Runs, meaning_by, meaning_of, meaning_else, called, proc_number}
 use Rattle.civl_conditions.specs.Steps.{has_layer}
 use Rattle.civl_reduction.specs.exchanges.Doing.{call_doing, layer_doing, leaving, spot_doing, proc_doing}
@@ -84,7 +81,3 @@ module _ (plain : Plain) (layer : ℕ) (store : Store) (frame : Activation) (pro
           says s.number s.next
           ∙ (ap (λ (x : Stmt). call_challenged plain.program layer store (layer_doing plain proc frame.locals s.number s.next (out-Stmt x))) (sym (same_Some s.stmt st q))
           ∙ sym (at_spot caller (Some s) e))
-
--- the statement at a place is the first one of what is still to run
-pub head_at : (proc : Proc) (place : ℕ) (k : Rest) (o : Option Stmt) → k ≡ rest_at proc.body place → ((end : ℕ) → o ≡ stmt_of (head_of end k)) → stmt_of (spot_at proc.body place) ≡ o
-head_at proc place k o e h = ap stmt_of (spot_of_rest proc.body place) ∙ (ap (λ (r : Rest). stmt_of (head_of (sizes_of proc.body) r)) (sym e) ∙ sym (h (sizes_of proc.body)))

@@ -4,6 +4,7 @@ use Rattle.std.specs.Prelude.{if◌then◌else◌}
 use Rattle.std.specs.Option.{option_map_or}
 use Rattle.std.proofs.lemmas.List.{drop_all}
 use Rattle.civl_tree.specs.declared.stmt.Stmt.{Stmt, out-Stmt}
+use Rattle.civl_tree.proofs.Lists.{drop_is}
 use Rattle.civl_meaning.specs.Places.{Spot, is_skipped}
 use Rattle.civl_meaning.specs.Rest.{Rest, place_in, head_of}
 use Rattle.civl_conditions.specs.paths.Paths.{Progress}
@@ -16,13 +17,12 @@ use Rattle.civl_shadows.specs.declared.notes.Noting.{Noting}
 use Rattle.civl_shadows.specs.declared.rests.Numbered.{Numbered}
 use Rattle.civl_shadows.specs.Notes.{noted}
 use Rattle.civl_shadows.specs.Rests.{rest_of}
-use Rattle.civl_shadows.proofs.Dropping.{drop_more}
 
 abbrev entry : Numbered → ℕ × Stmt
 entry q = (q.number, q.stmt.now)
 
 pub rest_more : (items : List Numbered) (at : ℕ) (q : Numbered) → at < length items → q ≡ get_or items at q → rest_of (drop at items) ≡ (q.number, q.stmt.now) ∷ rest_of (drop (at + 1) items)
-rest_more items at q h e = ap rest_of (drop_more items at q h e)
+rest_more items at q h e = ap rest_of (drop_is items at q h e)
 
 pub rest_end : (items : List Numbered) (at : ℕ) → length items ≤ at → rest_of (drop at items) ≡ []
 rest_end items at h = ap rest_of (drop_all at items h)

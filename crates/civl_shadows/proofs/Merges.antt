@@ -4,9 +4,10 @@ use Rattle.std.proofs.lemmas.List.{drop_all}
 use Rattle.std.specs.Prelude.{nat_eq, if◌then◌else◌}
 use Rattle.civl_bits.specs.declared.value.Value.{Value}
 use Rattle.civl_tree.specs.declared.program.Global.{Global}
+use Rattle.civl_tree.proofs.Lists.{drop_is}
 use Rattle.civl_reduction.specs.blocks.Shadow.{merged_values}
 use Rattle.civl_shadows.specs.Merging.{picked}
-use Rattle.civl_shadows.proofs.Dropping.{tail, drop_tail, drop_more}
+use Rattle.civl_shadows.proofs.Dropping.{tail, drop_tail}
 
 merged_none : (first : ℕ) (gs : List Global) (vs : List Value) → merged_values first gs vs [] ≡ vs
 merged_none first [] vs = refl
@@ -22,7 +23,7 @@ merged_more first (g ∷ gs) v vs (w ∷ ws) = refl
 pub merged_at : (first at : ℕ) (gs : List Global) (vs ws : List Value) (v : Value) → at < length vs → v ≡ get_or vs at v
     → merged_values first (drop at gs) (drop at vs) (drop at ws) ≡ picked first (drop at gs) v (drop at ws) ∷ merged_values first (drop (at + 1) gs) (drop (at + 1) vs) (drop (at + 1) ws)
 merged_at first at gs vs ws v h e =
-    ap (λ (l : List Value). merged_values first (drop at gs) l (drop at ws)) (drop_more vs at v h e)
+    ap (λ (l : List Value). merged_values first (drop at gs) l (drop at ws)) (drop_is vs at v h e)
     ∙ (merged_more first (drop at gs) v (drop (at + 1) vs) (drop at ws)
     ∙ (ap (λ (l : List Global). picked first (drop at gs) v (drop at ws) ∷ merged_values first l (drop (at + 1) vs) (tail (drop at ws))) (sym (drop_tail at gs))
     ∙ ap (λ (l : List Value). picked first (drop at gs) v (drop at ws) ∷ merged_values first (drop (at + 1) gs) (drop (at + 1) vs) l) (sym (drop_tail at ws))))
@@ -49,4 +50,4 @@ picked_none first at gs v ws h = ap (λ (l : List Value). picked first (drop at 
 pub picked_there : (first at : ℕ) (gs : List Global) (v : Value) (ws : List Value) (g : Global) (w : Value) → at < length gs → g ≡ get_or gs at g → at < length ws → w ≡ get_or ws at w
     → picked first (drop at gs) v (drop at ws) ≡ (if nat_eq g.first first then w else v)
 picked_there first at gs v ws g w h e i f =
-    ap (λ (l : List Global). picked first l v (drop at ws)) (drop_more gs at g h e) ∙ ap (λ (l : List Value). picked first (g ∷ drop (at + 1) gs) v l) (drop_more ws at w i f)
+    ap (λ (l : List Global). picked first l v (drop at ws)) (drop_is gs at g h e) ∙ ap (λ (l : List Value). picked first (g ∷ drop (at + 1) gs) v l) (drop_is ws at w i f)

@@ -1,35 +1,27 @@
 -- What stands at a place of a body is one of its statements.
-use Rattle.std.proofs.Common.{◌≡◌, ℕ, zero, suc, ◌+◌, Bool, true, false, List, [], ◌∷◌, ◌++◌, map, refl, sym, ap, ◌∙◌, subst, Option, None, Some, slice_get}
+use Rattle.std.proofs.Common.{◌≡◌, ℕ, zero, suc, ◌+◌, Bool, true, false, List, [], ◌∷◌, ◌++◌, map, refl, sym, ap, ◌∙◌, subst, Option, None, Some, slice_get, map-id}
 use Rattle.std.specs.Prelude.{nat_lt, nat_eq, if◌then◌else◌}
 use Rattle.civl_tree.specs.declared.stmt.Stmt.{Stmt, roll-Stmt, out-roll-Stmt, map-Stmt}
 use Rattle.civl_tree.specs.declared.stmt.Stmt.TheOpen.{Stmt-F, If, While, YieldLoop, RankLoop}
 use Rattle.civl_tree.specs.declared.stmt.Stmt.TheFolds.{ind-Stmt}
 use Rattle.civl_tree.specs.Numbering.{inner_of, statements_of, size_of, sizes_of}
 use Rattle.civl_tree.proofs.Preorder.{inner_layer, inner_is}
+use Rattle.civl_tree.proofs.Lists.{get_front}
 use Rattle.civl_meaning.specs.Places.{Spot, is_skipped, skip_layer, start_of, first_in, spot_among, spot_at, inside_of, loop_spot}
 use Rattle.civl_meaning.proofs.Placing.{inside_is, inside_layer}
 use Rattle.civl_meaning.proofs.Finding.{among_is}
+use Rattle.civl_meaning.proofs.Spots.{chosen}
 
 -- a statement stands in this list, at some place
 abbrev pub Among : List Stmt → Stmt → Type 0
 Among ss s = (n : ℕ) × (slice_get ss n ≡ Some s)
 
-left_at : (xs ys : List Stmt) (n : ℕ) (s : Stmt) → slice_get xs n ≡ Some s → slice_get (xs ++ ys) n ≡ Some s
-left_at [] ys n s e = absurd (cc)
-left_at (x ∷ xs) ys zero s e = e
-left_at (x ∷ xs) ys (suc n) s e = left_at xs ys n s e
-
 on_left : (xs ys : List Stmt) (s : Stmt) → Among xs s → Among (xs ++ ys) s
-on_left xs ys s a = (a.0, left_at xs ys a.0 s a.1)
+on_left xs ys s a = (a.0, get_front xs ys a.0 s a.1)
 
 on_right : (xs ys : List Stmt) (s : Stmt) → Among ys s → Among (xs ++ ys) s
 on_right [] ys s a = a
 on_right (x ∷ xs) ys s a = let r = on_right xs ys s a in (suc r.0, r.1)
-
-chosen : (P : Option Spot → Type 0) (b c : Bool) (x y z : Option Spot) → P x → P y → P z → P (if b then (if c then x else y) else z)
-chosen P true true x y z p q r = p
-chosen P true false x y z p q r = q
-chosen P false c x y z p q r = r
 
 either : (P : Option Spot → Type 0) (c : Bool) (x y : Option Spot) → P x → P y → P (if c then x else y)
 either P true x y p q = p
@@ -97,14 +89,10 @@ module _ (Holds : Stmt → Type 0) where
       let inner = inner_is t ∙ ap inner_layer q in
       subst Good (sym inside) (layer_finds y (λ z. z.0) (λ z. z.1) t at next after wanted own (ap skip_layer q) (λ u a. h u (subst (λ (l : List Stmt). Among l u) (sym inner) a)) g)) s
 
-  map_same : (ss : List Stmt) → map (λ s. s) ss ≡ ss
-  map_same [] = refl
-  map_same (s ∷ ss) = ap (λ (r : List Stmt). s ∷ r) (map_same ss)
-
   body_good : (body : List Stmt) (wanted : ℕ) → Each (statements_of body) → Good (spot_at body wanted)
   body_good body wanted h =
       let all = λ (k : Each (statements_of (map (λ s. s) body))). all_find body (λ s. s) finds 0 (sizes_of body) None wanted k (λ t e. absurd (cc)) in
-      subst (λ (ss : List Stmt). Good (spot_among ss 0 (sizes_of body) None wanted)) (map_same body) (all (subst (λ (ss : List Stmt). Each (statements_of ss)) (sym (map_same body)) h))
+      subst (λ (ss : List Stmt). Good (spot_among ss 0 (sizes_of body) None wanted)) (map-id body) (all (subst (λ (ss : List Stmt). Each (statements_of ss)) (sym (map-id body)) h))
 
 among_all : (body : List Stmt) (wanted : ℕ) (s : Spot) → spot_at body wanted ≡ Some s → Among (statements_of body) s.stmt × (is_skipped s.stmt ≡ false)
 among_all body wanted s e = body_good (Among (statements_of body)) body wanted (λ t a. a) s e

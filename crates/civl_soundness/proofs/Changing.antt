@@ -1,9 +1,10 @@
 -- What a step of a thread does has its sorts.
-use Rattle.std.proofs.Common.{◌≡◌, ℕ, zero, suc, ◌-◌, Bool, true, false, ◌||◌, not, List, [], ◌∷◌, ◌++◌, map, length, drop, refl, sym, ap, ◌∙◌, subst, Option, None, Some, slice_get, slice_set, arith}
+use Rattle.std.proofs.Common.{◌≡◌, ℕ, ◌-◌, Bool, true, false, not, List, [], ◌∷◌, ◌++◌, map, length, drop, refl, sym, ap, ◌∙◌, subst, Option, None, Some, slice_get, slice_set}
 use Rattle.std.specs.Prelude.{All, is_none, nat_eq, IsTrue, if◌then◌else◌}
 use Rattle.std.specs.List.{list_any}
-use Rattle.std.proofs.lemmas.Bool.{false≢true, not-false, or_parts, eqb-true, eq-eqb}
+use Rattle.std.proofs.lemmas.Bool.{false≢true, not-false, or_parts, eqb-true, eq-eqb, or_right}
 use Rattle.std.proofs.lemmas.List.{length-map}
+use Rattle.std.proofs.lemmas.Map.Keys.{any_passes_from_place}
 use Rattle.civl_bits.specs.Value.{IsValue}
 use Rattle.civl_bits.specs.declared.value.Value.{Value}
 use Rattle.civl_tree.specs.declared.name.Name.{Name}
@@ -27,6 +28,7 @@ use Rattle.civl_tree.specs.rules.Unknown.{any_unknown, place_unknown, form_unkno
 use Rattle.civl_tree.specs.rules.Arity.{call_arity, thread_arity, form_arity, stmt_arity}
 use Rattle.civl_tree.specs.rules.Typing.{typing_rules, unknown_rule, width_rule, sort_rule, index_rule, arity_rule}
 use Rattle.civl_tree.proofs.Kept.{statement_kept, unknown_among, width_among, sort_among, index_among, arity_among}
+use Rattle.civl_tree.proofs.Options.{some_of}
 use Rattle.civl_firing.specs.values.Values.{is_true, HasSort, HaveSorts}
 use Rattle.civl_firing.specs.declared.store.Store.{Store}
 use Rattle.civl_meaning.specs.declared.config.Plain.{Plain}
@@ -50,11 +52,13 @@ use Rattle.civl_meaning.specs.Meaning.{Meaning, Does, Runs, Missing, called, mea
 use Rattle.civl_meaning.specs.Change.{with_results, new_frame, acted, action_change, call_change, layer_change, returned_layer, returned_at, returned_in, returned, leaves, outs_in, spot_change, proc_change, caller_of, state_change, change_of}
 use Rattle.civl_meaning.specs.Config.{IsPlain, layer_spawns, spawns, begins_threads, frame_sorts, HasLocals, IsBodyOf, LayerCalls, SpotCalls, ProcCalls, Waits, AreWaiting, StateIsStacked, StateIsSorted, ThreadIsSorted, IsStacked}
 use Rattle.civl_firing.proofs.Having.{first_sort, rest_sorts, args_have_sorts}
+use Rattle.civl_firing.proofs.Serving.{served_only}
 use Rattle.civl_meaning.proofs.Begun.{proc_is}
-use Rattle.civl_soundness.proofs.Bindings.{sorts_of, proc_names, proc_sorts}
+use Rattle.civl_meaning.proofs.Bindings.{sorts_of, proc_names, proc_sorts}
+use Rattle.civl_meaning.proofs.Stacking.{last_waits}
 use Rattle.civl_soundness.proofs.Sorted.{first_values, rest_values, set_fits}
 use Rattle.civl_soundness.proofs.Scopes.{new_locals, frame_sorted}
-use Rattle.civl_soundness.proofs.Firing.{served, first_fits, fired_is_sorted}
+use Rattle.civl_soundness.proofs.Firing.{first_fits, fired_is_sorted}
 use Rattle.civl_soundness.proofs.Among.{Among, spot_is_among}
 use Rattle.civl_soundness.proofs.Called.{Serves, number_serves, called_serves}
 use Rattle.civl_soundness.proofs.Fitting.{all_at, LocalsFit, Fits}
@@ -78,7 +82,7 @@ results_set proc (r ∷ rs) given [] locals m k h = h
 results_set proc (r ∷ rs) [] (v ∷ vs) locals m k h = absurd (false≢true k.are)
 results_set proc (r ∷ rs) (t ∷ ts) (v ∷ vs) locals m k h =
     let p = or_parts (not (serves (place_sort proc r) (Only t))) (results_missorted proc rs ts) m in
-    let here = served (place_sort proc r) t (not-false (serves (place_sort proc r) (Only t)) p.0) in
+    let here = served_only (place_sort proc r) t (not-false (serves (place_sort proc r) (Only t)) p.0) in
     let fits = λ (s : Sort) (e : place_sort proc r ≡ Some s). (let q : t ≡ s = (let c = sym here ∙ e in cc) in subst (HasSort v) q (first_sort v t vs ts k)) in
     results_set proc rs ts vs (slice_set locals (place_of (names_in_proc proc) r) v) p.1 (rest_sorts v t vs ts k) (local_set proc locals r v h fits)
 
@@ -89,10 +93,6 @@ outs_have proc locals h =
     first_values (λ (p : Param). p.sort) proc.outs others (drop (length proc.params) locals) (rest_values (λ (p : Param). p.sort) proc.params (param_sorts proc.outs ++ others) locals h)
 
 -- ---- arguments
-
-some_of : {A : Type 0} (o : Option A) → is_none o ≡ false → (x : A) × (o ≡ Some x)
-some_of None e = absurd (false≢true (sym e))
-some_of (Some x) e = (x, refl)
 
 args_fit : (scope : Scope) (sorts : Sorts) → IsSorted scope sorts → (args : List Expr) (params : List Param) →
     any_missorted (argument_uses sorts args (param_sorts params)) ≡ false → any_width (argument_uses sorts args (param_sorts params)) ≡ false → any_index (argument_uses sorts args (param_sorts params)) ≡ false →
@@ -127,19 +127,6 @@ pub record Keeps (program : Program) (proc : Proc) (d : Stmt-F Stmt) : Type 0 wh
   low : any_index (form_uses program proc d) ≡ false
   arity : form_arity program d ≡ false
 
-any_at : {A : Type 0} (p : A → Bool) (xs : List A) (i : ℕ) (x : A) → slice_get xs i ≡ Some x → p x ≡ true → list_any p xs ≡ true
-any_at p [] i x e h = absurd (cc)
-any_at p (y ∷ ys) zero x e h = let r : y ≡ x = cc in let k : p y ≡ true = ap p r ∙ h in rw k refl
-any_at p (y ∷ ys) (suc i) x e h = later (p y) (any_at p ys i x e h)
-  where
-    later : (b : Bool) → list_any p ys ≡ true → (b || list_any p ys) ≡ true
-    later true k = refl
-    later false k = k
-
-or_second : (a b : Bool) → b ≡ true → (a || b) ≡ true
-or_second true b h = refl
-or_second false b h = h
-
 module _ (plain : Plain) (ok : IsPlain plain) where
   abbrev program : Program
   program = plain.program
@@ -160,8 +147,8 @@ module _ (plain : Plain) (ok : IsPlain plain) where
   -- a spawn in a body begins threads
   spawn_begins : (i : ℕ) (proc : Proc) → slice_get program.procs i ≡ Some proc → (s : Stmt) → Among (statements_of proc.body) s → (number : ℕ) → IsTrue (layer_spawns program number (out-Stmt s)) → IsTrue (begins_threads program number)
   spawn_begins i proc at s a number h =
-      let inside = any_at (spawns program number) (statements_of proc.body) a.0 s a.1 h in
-      or_second (list_any (λ (t : Thread). nat_eq (proc_number program t.callee) number) program.threads) _ (any_at (λ (p : Proc). list_any (spawns program number) (statements_of p.body)) program.procs i proc at inside)
+      let inside = any_passes_from_place (spawns program number) (statements_of proc.body) a.0 s a.1 h in
+      or_right (list_any (λ (t : Thread). nat_eq (proc_number program t.callee) number) program.threads) _ (any_passes_from_place (λ (p : Proc). list_any (spawns program number) (statements_of p.body)) program.procs i proc at inside)
 
   -- ---- calls
 
@@ -273,18 +260,11 @@ module _ (plain : Plain) (ok : IsPlain plain) where
           let keeps = statement_keeps frame.procedure h.proc h.there s.stmt (spot_is_among h.proc.body frame.place s e) in
           record { proc = h.proc; there = h.there; locals = layer_returned n proc at outs ho h.proc frame.locals h.locals (out-Stmt s.stmt) keeps c.1 }
 
-  last_waits : (below : List Activation) (top frame : Activation) → caller_of below ≡ Some frame → AreWaiting plain below top → Waits plain top.procedure frame
-  last_waits [] top frame e w = absurd (cc)
-  last_waits (g ∷ []) top frame e w = let q : g ≡ frame = cc in subst (Waits plain top.procedure) q w.0
-  last_waits (g ∷ (f ∷ fs)) top frame e w =
-      let n : length (g ∷ (f ∷ fs)) - 1 ≡ suc (length (f ∷ fs) - 1) = omega arith in
-      last_waits (f ∷ fs) top frame (ap (slice_get (g ∷ (f ∷ fs))) (sym n) ∙ e) w.1
-
   leaves_fit : (below : List Activation) (top : Activation) (proc : Proc) → slice_get program.procs top.procedure ≡ Some proc → HaveSorts top.locals (frame_sorts proc) → All (HasLocals plain) below → AreWaiting plain below top → (o : Option Activation) → caller_of below ≡ o →
       Fits plain (Inside below top) (leaves plain (outs_in proc top.locals) o)
   leaves_fit below top proc at h all w None e = tt
   leaves_fit below top proc at h all w (Some frame) e =
-      returned_has top.procedure proc at (outs_in proc top.locals) (outs_have proc top.locals h) frame (all_at (HasLocals plain) below (length below - 1) frame e all) (last_waits below top frame e w)
+      returned_has top.procedure proc at (outs_in proc top.locals) (outs_have proc top.locals h) frame (all_at (HasLocals plain) below (length below - 1) frame e all) (last_waits plain below top frame e w)
 
   -- ---- a thread
 

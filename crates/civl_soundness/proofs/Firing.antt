@@ -2,7 +2,7 @@
 use Rattle.std.proofs.Common.{◌≡◌, refl, ℕ, Bool, true, false, not, List, [], ◌∷◌, ◌++◌, map, sym, ap, ◌∙◌, subst, Option, Some, None, slice_get, slice_set}
 use Rattle.std.specs.Prelude.{if◌then◌else◌}
 use Rattle.std.specs.List.{list_any}
-use Rattle.std.proofs.lemmas.Bool.{false≢true, not-false, or_parts}
+use Rattle.std.proofs.lemmas.Bool.{not-false, or_parts}
 use Rattle.std.proofs.lemmas.List.Folds.{list_any-append}
 use Rattle.civl_bits.specs.declared.value.Value.{Value}
 use Rattle.civl_tree.specs.declared.name.Name.{Name}
@@ -35,25 +35,21 @@ use Rattle.civl_firing.specs.Stores.{IsStore}
 use Rattle.civl_firing.specs.Sorts.{IsSorted}
 use Rattle.civl_firing.specs.Scope.{zeros_of_params, gate_values, guard_values}
 use Rattle.civl_firing.specs.Fired.{gate_holds, guard_holds, offers, updated, store_after, outs_after, fires, fired_by, fired}
-use Rattle.civl_firing.proofs.values.Sorting.{same_sort-true}
 use Rattle.civl_firing.proofs.Having.{no_sorts, more_sorts}
 use Rattle.civl_firing.proofs.Soundness.{values_have_their_sorts}
+use Rattle.civl_firing.proofs.Serving.{served_only}
 use Rattle.civl_soundness.specs.Scope.{GateIsSorted, GuardIsSorted, BodyIsSorted, OffersAreSorted, GateIsBool, GuardIsBool}
 use Rattle.civl_meaning.specs.Config.{choice_sorts}
+use Rattle.civl_meaning.proofs.Bindings.{names_of, sorts_of, in_front, in_back, not_in_first, no_global, names_bound, sorts_bound}
 use Rattle.civl_soundness.specs.Fired.{UpdatesKeepSorts, FiredIsSorted}
-use Rattle.civl_soundness.proofs.Bindings.{names_of, sorts_of, in_front, in_back, not_in_first, no_global, names_bound, sorts_bound}
 use Rattle.civl_soundness.proofs.Sorted.{set_fits}
 use Rattle.civl_soundness.proofs.Scopes.{action_declares, results_zero, frame_sorted, gate_sorted, guard_sorted}
-
-pub served : (o : Option Sort) (s : Sort) → serves o (Only s) ≡ true → o ≡ Some s
-served None s e = absurd (false≢true e)
-served (Some t) s e = ap (λ (r : Sort). Some r) (same_sort-true t s e)
 
 -- an expression at a place that needs this sort, if any
 use_fits : (scope : Scope) (sorts : Sorts) → IsSorted scope sorts → (e : Expr) (wanted : Option Sort) → not (serves (sort_of sorts e) (need_of wanted)) ≡ false → not (widths_fit sorts e) ≡ false → not (indices_fit e) ≡ false → (s : Sort) → wanted ≡ Some s → HasSort (value_of scope e) s
 use_fits scope sorts fit e wanted m w i s q =
     let serve : serves (sort_of sorts e) (Only s) ≡ true = ap (λ (o : Option Sort). serves (sort_of sorts e) (need_of o)) (sym q) ∙ not-false (serves (sort_of sorts e) (need_of wanted)) m in
-    values_have_their_sorts scope sorts fit e s (served (sort_of sorts e) s serve, not-false (widths_fit sorts e) w, not-false (indices_fit e) i)
+    values_have_their_sorts scope sorts fit e s (served_only (sort_of sorts e) s serve, not-false (widths_fit sorts e) w, not-false (indices_fit e) i)
 
 -- the first of several
 pub first_fits : (scope : Scope) (sorts : Sorts) → IsSorted scope sorts → (e : Expr) (wanted : Option Sort) (others : List Use) → any_missorted (target_use sorts e wanted ∷ others) ≡ false → any_width (target_use sorts e wanted ∷ others) ≡ false → any_index (target_use sorts e wanted ∷ others) ≡ false →

@@ -1,4 +1,3 @@
-pub mod Bindings
 pub mod Sorted
 pub mod Kept
 pub mod Scopes

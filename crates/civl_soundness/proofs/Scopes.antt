@@ -28,9 +28,10 @@ use Rattle.civl_firing.specs.Stores.{IsStore}
 use Rattle.civl_firing.specs.Sorts.{IsSorted}
 use Rattle.civl_firing.specs.Scope.{zeros_of_globals, zeros_of_params, zeros_of_locals, frame_values, gate_values, guard_values}
 use Rattle.civl_meaning.specs.Config.{frame_sorts}
-use Rattle.civl_firing.proofs.Having.{Found}
-use Rattle.civl_soundness.proofs.Bindings.{names_of, sorts_of, in_front, in_back, in_either, once_behind, not_in_first, not_in_second, Declared, not_declared, names_bound, sorts_bound, joined, proc_names, proc_sorts}
-use Rattle.civl_soundness.proofs.Sorted.{more_values, sort_fits, zeros_fit, none_at, found_in}
+use Rattle.civl_meaning.proofs.Bindings.{names_of, sorts_of, in_front, in_back, in_either, once_behind, not_in_first, not_in_second, Declared, not_declared, names_bound, sorts_bound, joined, proc_names, proc_sorts, global_names_are, global_sorts_are}
+use Rattle.civl_firing.proofs.Having.{Found, have_more}
+use Rattle.civl_firing.proofs.SortLimits.{limits}
+use Rattle.civl_soundness.proofs.Sorted.{zeros_fit, none_at, found_in}
 
 any_behind : {A : Type 0} (p : A → Bool) (xs ys : List A) → list_any p (xs ++ ys) ≡ false → list_any p ys ≡ false
 any_behind p xs ys h = (or_parts (list_any p xs) (list_any p ys) (sym (list_any-append p xs ys) ∙ h)).1
@@ -44,7 +45,7 @@ outs_zero : (program : Program) (params outs : List Param) → list_any (param_w
 outs_zero program params outs w i =
     let narrow = any_behind (param_width program) params outs w in
     let low = any_behind (λ (p : Param). sort_index p.sort) params outs i in
-    zeros_fit (λ (p : Param). p.sort) outs (λ k p e. sort_fits p.sort (width_fits program _ p.sort (none_at (param_width program) outs narrow k p e)) (none_at (λ (q : Param). sort_index q.sort) outs low k p e))
+    zeros_fit (λ (p : Param). p.sort) outs (λ k p e. limits p.sort (width_fits program _ p.sort (none_at (param_width program) outs narrow k p e)) (none_at (λ (q : Param). sort_index q.sort) outs low k p e))
 
 module _ (program : Program) (none : Keeps typing_rules program) where
   abbrev globals : List Binding
@@ -54,20 +55,14 @@ module _ (program : Program) (none : Keeps typing_rules program) where
   globals_zero =
       zeros_fit (λ (g : Global). g.sort) program.globals (λ k g e.
       let w : global_width program g ≡ false = global_kept typing_rules program none width_rule width_among k g e in
-      sort_fits g.sort (not-false (sort_width_fits g.sort) (or_parts _ _ w).0) (global_kept typing_rules program none index_rule index_among k g e))
-
-  global_names_are : names_of globals ≡ global_names program.globals
-  global_names_are = names_bound (λ (g : Global). g.name) (λ (g : Global). g.sort) program.globals
-
-  global_sorts_are : sorts_of globals ≡ map (λ g. g.sort) program.globals
-  global_sorts_are = sorts_bound (λ (g : Global). g.name) (λ (g : Global). g.sort) program.globals
+      limits g.sort (not-false (sort_width_fits g.sort) (or_parts _ _ w).0) (global_kept typing_rules program none index_rule index_among k g e))
 
   declared : (bs : List Binding) (names : List Name) → names_of bs ≡ names → declared_twice program names ≡ false → Declared globals bs
   declared bs names e t =
       let p = or_parts (any_twice names) (list_any (has_name (global_names program.globals)) names) t in
       record {
         own = ap any_twice e ∙ p.0;
-        new = ap (λ (ns : List Name). list_any (has_name ns) (names_of bs)) global_names_are ∙ ap (list_any (has_name (global_names program.globals))) e ∙ p.1;
+        new = ap (λ (ns : List Name). list_any (has_name ns) (names_of bs)) (global_names_are program) ∙ ap (list_any (has_name (global_names program.globals))) e ∙ p.1;
       }
 
   -- ---- procedures
@@ -90,8 +85,8 @@ module _ (program : Program) (none : Keeps typing_rules program) where
     pub new_locals : (args : List Value) → HaveSorts args (param_sorts proc.params) → HaveSorts (args ++ (zeros_of_params proc.outs ++ zeros_of_locals proc.locals)) (frame_sorts proc)
     new_locals args h =
         let outs = outs_zero program proc.params proc.outs widths.0 indices.0 in
-        let locals = zeros_fit (λ (l : Local). l.sort) proc.locals (λ k l e. sort_fits l.sort (width_fits program l.linear l.sort (none_at (local_width program) proc.locals widths.1 k l e)) (none_at (λ (l : Local). sort_index l.sort) proc.locals indices.1 k l e)) in
-        more_values args _ (param_sorts proc.params) _ h (more_values (zeros_of_params proc.outs) (zeros_of_locals proc.locals) (param_sorts proc.outs) _ outs locals)
+        let locals = zeros_fit (λ (l : Local). l.sort) proc.locals (λ k l e. limits l.sort (width_fits program l.linear l.sort (none_at (local_width program) proc.locals widths.1 k l e)) (none_at (λ (l : Local). sort_index l.sort) proc.locals indices.1 k l e)) in
+        have_more args _ (param_sorts proc.params) _ h (have_more (zeros_of_params proc.outs) (zeros_of_locals proc.locals) (param_sorts proc.outs) _ outs locals)
 
     abbrev outs : List Binding
     outs = bind_params proc.outs
@@ -108,9 +103,9 @@ module _ (program : Program) (none : Keeps typing_rules program) where
     frame_found : (locals : List Value) → HaveSorts locals (frame_sorts proc) → Found (names_in_proc proc ++ global_names program.globals) (locals ++ zeros_of_globals program.globals) (bind_proc proc ++ globals)
     frame_found locals h =
         let values = locals ++ zeros_of_globals program.globals in
-        let sorts = joined (λ b. b.sort) (bind_proc proc) globals _ _ (proc_sorts proc) global_sorts_are in
-        let names = joined (λ b. b.name) (bind_proc proc) globals _ _ (proc_names proc) global_names_are in
-        let have = more_values locals (zeros_of_globals program.globals) (frame_sorts proc) _ h globals_zero in
+        let sorts = joined (λ b. b.sort) (bind_proc proc) globals _ _ (proc_sorts proc) (global_sorts_are program) in
+        let names = joined (λ b. b.name) (bind_proc proc) globals _ _ (proc_names proc) (global_names_are program) in
+        let have = have_more locals (zeros_of_globals program.globals) (frame_sorts proc) _ h globals_zero in
         subst (λ (ns : List Name). Found ns values (bind_proc proc ++ globals)) names (found_in (bind_proc proc ++ globals) values (subst (HaveSorts values) (sym sorts) have))
 
     pub frame_sorted : (locals : List Value) → HaveSorts locals (frame_sorts proc) → IsSorted (frame_values program.globals proc locals) (body_scope program proc)
@@ -185,9 +180,9 @@ module _ (program : Program) (none : Keeps typing_rules program) where
     gate_found store inputs hs hi =
         let values = store.values ++ (inputs ++ zeros_of_params action.outs) in
         let bs = globals ++ (params ++ results) in
-        let names = joined (λ b. b.name) globals (params ++ results) _ _ global_names_are (joined (λ b. b.name) params results _ _ (param_names_are action.params) (param_names_are action.outs)) in
-        let sorts = joined (λ b. b.sort) globals (params ++ results) _ _ global_sorts_are (joined (λ b. b.sort) params results _ _ (param_sorts_are action.params) (param_sorts_are action.outs)) in
-        let have = more_values store.values _ _ _ hs (more_values inputs _ _ _ hi results_zero) in
+        let names = joined (λ b. b.name) globals (params ++ results) _ _ (global_names_are program) (joined (λ b. b.name) params results _ _ (param_names_are action.params) (param_names_are action.outs)) in
+        let sorts = joined (λ b. b.sort) globals (params ++ results) _ _ (global_sorts_are program) (joined (λ b. b.sort) params results _ _ (param_sorts_are action.params) (param_sorts_are action.outs)) in
+        let have = have_more store.values _ _ _ hs (have_more inputs _ _ _ hi results_zero) in
         subst (λ (ns : List Name). Found ns values bs) names (found_in bs values (subst (HaveSorts values) (sym sorts) have))
 
     pub gate_sorted : (store : Store) (inputs : List Value) → IsStore program.globals store → HaveSorts inputs (param_sorts action.params) → IsSorted (gate_values program.globals store action inputs) (gate_scope program action)
@@ -202,9 +197,9 @@ module _ (program : Program) (none : Keeps typing_rules program) where
         let bs = globals ++ (params ++ (choices ++ results)) in
         let of_choices = names_bound (λ (c : Choice). c.name) (λ (c : Choice). c.sort) action.choices in
         let sorts_chosen = sorts_bound (λ (c : Choice). c.name) (λ (c : Choice). c.sort) action.choices in
-        let names = joined (λ b. b.name) globals (params ++ (choices ++ results)) _ _ global_names_are (joined (λ b. b.name) params (choices ++ results) _ _ (param_names_are action.params) (joined (λ b. b.name) choices results _ _ of_choices (param_names_are action.outs))) in
-        let sorts = joined (λ b. b.sort) globals (params ++ (choices ++ results)) _ _ global_sorts_are (joined (λ b. b.sort) params (choices ++ results) _ _ (param_sorts_are action.params) (joined (λ b. b.sort) choices results _ _ sorts_chosen (param_sorts_are action.outs))) in
-        let have = more_values store.values _ _ _ hs (more_values inputs _ _ _ hi (more_values chosen _ _ _ hc results_zero)) in
+        let names = joined (λ b. b.name) globals (params ++ (choices ++ results)) _ _ (global_names_are program) (joined (λ b. b.name) params (choices ++ results) _ _ (param_names_are action.params) (joined (λ b. b.name) choices results _ _ of_choices (param_names_are action.outs))) in
+        let sorts = joined (λ b. b.sort) globals (params ++ (choices ++ results)) _ _ (global_sorts_are program) (joined (λ b. b.sort) params (choices ++ results) _ _ (param_sorts_are action.params) (joined (λ b. b.sort) choices results _ _ sorts_chosen (param_sorts_are action.outs))) in
+        let have = have_more store.values _ _ _ hs (have_more inputs _ _ _ hi (have_more chosen _ _ _ hc results_zero)) in
         subst (λ (ns : List Name). Found ns values bs) names (found_in bs values (subst (HaveSorts values) (sym sorts) have))
 
     pub guard_sorted : (store : Store) (inputs chosen : List Value) → IsStore program.globals store → HaveSorts inputs (param_sorts action.params) → HaveSorts chosen (map (λ c. c.sort) action.choices) →

@@ -1,30 +1,20 @@
 -- Values that have their sorts: several lists of them, zeros, and one value set.
-use Rattle.std.proofs.Common.{◌≡◌, ℕ, zero, suc, ◌+◌, Bool, true, false, ◌&&◌, List, [], ◌∷◌, ◌++◌, map, length, take, drop, refl, sym, ap, ◌∙◌, Some, slice_get, slice_set, add-one}
+use Rattle.std.proofs.Common.{◌≡◌, ℕ, zero, suc, ◌+◌, Bool, true, false, List, [], ◌∷◌, ◌++◌, map, length, take, drop, refl, sym, ap, ◌∙◌, Some, slice_get, slice_set, add-one}
 use Rattle.std.specs.Prelude.{if◌then◌else◌}
 use Rattle.std.specs.List.{list_any}
 use Rattle.std.specs.Str.{bytes_eq}
-use Rattle.std.proofs.lemmas.Bool.{false≢true, not-false, or_parts}
+use Rattle.std.proofs.lemmas.Bool.{false≢true, or_parts}
 use Rattle.civl_bits.specs.declared.value.Value.{Value}
 use Rattle.civl_tree.specs.declared.name.Name.{Name}
 use Rattle.civl_tree.specs.declared.expr.Sort.{Sort}
-use Rattle.civl_tree.specs.declared.expr.Sort.TheVariants.{Bool as Truth, Word, Row}
 use Rattle.civl_tree.specs.rules.Scopes.{Binding, sort_in}
-use Rattle.civl_tree.specs.rules.Width.{sort_width_fits}
-use Rattle.civl_tree.specs.rules.Index.{sort_index}
-use Rattle.civl_tree.specs.rules.Exprs.{is_width, is_index}
 use Rattle.civl_firing.specs.values.Values.{HasSort, HaveSorts, zero_of, is_sort}
 use Rattle.civl_firing.proofs.values.Zeros.{zeros_have_their_sorts}
 use Rattle.civl_firing.specs.Truth.{place_of}
 use Rattle.civl_firing.proofs.Having.{no_sorts, more_sorts, first_sort, rest_sorts, Found, nothing_found, found_more}
-use Rattle.civl_soundness.proofs.Bindings.{names_of, sorts_of}
+use Rattle.civl_meaning.proofs.Bindings.{names_of, sorts_of}
 
 -- ---- several lists
-
-pub more_values : (xs ys : List Value) (ss ts : List Sort) → HaveSorts xs ss → HaveSorts ys ts → HaveSorts (xs ++ ys) (ss ++ ts)
-more_values [] ys [] ts h k = k
-more_values [] ys (s ∷ ss) ts h k = absurd (false≢true h.are)
-more_values (x ∷ xs) ys [] ts h k = absurd (false≢true h.are)
-more_values (x ∷ xs) ys (s ∷ ss) ts h k = more_sorts x s (xs ++ ys) (ss ++ ts) (first_sort x s xs ss h) (more_values xs ys ss ts (rest_sorts x s xs ss h) k)
 
 -- those of the first declarations
 pub first_values : {A : Type 0} (sort_at : A → Sort) (xs : List A) (others : List Sort) (values : List Value) → HaveSorts values (map sort_at xs ++ others) → HaveSorts (take (length xs) values) (map sort_at xs)
@@ -40,15 +30,6 @@ rest_values sort_at (x ∷ xs) others [] h = absurd (false≢true h.are)
 rest_values sort_at (x ∷ xs) others (v ∷ values) h = rest_values sort_at xs others values (rest_sorts v (sort_at x) values (map sort_at xs ++ others) h)
 
 -- ---- zeros
-
-both_true : (a b : Bool) → a ≡ true → b ≡ true → (a && b) ≡ true
-both_true true b e h = h
-both_true false b e h = absurd (false≢true e)
-
-pub sort_fits : (s : Sort) → sort_width_fits s ≡ true → sort_index s ≡ false → is_sort s ≡ true
-sort_fits Truth w i = refl
-sort_fits (Word n) w i = w
-sort_fits (Row k n) w i = both_true (is_index k) (is_width n) (not-false (is_index k) i) w
 
 pub zeros_fit : {A : Type 0} (sort_at : A → Sort) (xs : List A) → ((i : ℕ) (x : A) → slice_get xs i ≡ Some x → is_sort (sort_at x) ≡ true) → HaveSorts (map (λ x. zero_of (sort_at x)) xs) (map sort_at xs)
 zeros_fit sort_at [] h = no_sorts

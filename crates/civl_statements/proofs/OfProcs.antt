@@ -2,6 +2,7 @@
 use Rattle.std.proofs.Common.{◌≡◌, ℕ, suc, ◌-◌, Bool, true, false, List, [], ◌∷◌, ◌++◌, map, Option, None, Some, refl, sym, ap, subst, append_assoc, arith, inl, inr, ◌⊎◌}
 use Rattle.std.specs.Prelude.{codes, IsTrue}
 use Rattle.std.specs.List.{AllByRecursion, list_all}
+use Rattle.std.proofs.lemmas.Bool.{and_from}
 use Rattle.civl_tree.specs.Token.{Token, Reserved, Number}
 use Rattle.civl_tree.specs.Spelling.{open_brace, close_brace, semicolon, colon, arrow, name_token, joined, enclosed, spell_expr}
 use Rattle.civl_tree.specs.SpellingStmt.{spell_stmt}
@@ -19,7 +20,7 @@ use Rattle.civl_phrases.proofs.Joins.{both_is, mapped_is, image_is, refit_is, ch
 use Rattle.civl_phrases.proofs.Tokens.{leaf_is, after_is, opened_is, then_is, done_is}
 use Rattle.civl_phrases.proofs.Lists.{repeated_is, repeated_then_is}
 use Rattle.civl_phrases.proofs.Heads.{heads_after, heads_image, heads_mapped, heads_repeated}
-use Rattle.civl_phrases.proofs.Tables.{table_leaf, and_parts, and_join}
+use Rattle.civl_phrases.proofs.Tables.{table_leaf, and_parts}
 use Rattle.civl_phrases.proofs.Leaves.{number_is}
 use Rattle.civl_expressions.specs.declared.params.Heading.{Heading}
 use Rattle.civl_statements.specs.declared.procedures.Body.{Body}
@@ -55,7 +56,7 @@ rank_of_back new None h = inl (tt, refl, tt)
 rank_of_back new (Some r) h = let k = and_parts (allows_name r.action) (list_all (allows_expr new) r.with) h in inr (r, refl, (k.0, all_to (allows_expr new) r.with k.1))
 
 rank_of_to : (new : Bool) (r : Refines) → FitsRefines new r → FitsRankOf new (Some r)
-rank_of_to new r h = and_join (allows_name r.action) (list_all (allows_expr new) r.with) h.0 (all_from (allows_expr new) r.with h.1)
+rank_of_to new r h = and_from (allows_name r.action) (list_all (allows_expr new) r.with) h.0 (all_from (allows_expr new) r.with h.1)
 
 rank_of_is : (new : Bool) (d : ℕ) → IsReader d d Any spell_rank_of (FitsRankOf new) (rank_of_at new d)
 unfolding rank_of_at
@@ -139,11 +140,11 @@ proc_spells p = ap (λ w. proc_word ∷ name_token p.0.name ∷ w) (sym (append_
 
 proc_to : (new : Bool) (h : Heading) (o : Option Refines) (b : Body) → FitsHeading h → FitsRankOf new o → FitsBody new b → FitsProc new (make_proc (h, (o, b)))
 proc_to new h o b f g k =
-    and_join (allows_name h.name) _ f.0
-    (and_join (list_all allows_param h.params) _ (all_from allows_param h.params f.1.0)
-    (and_join (list_all allows_out h.outs) _ (all_from allows_out h.outs f.1.1)
-    (and_join (allows_rank_of new o) _ g
-    (and_join (list_all allows_local b.locals) _ (all_from allows_local b.locals k.0) (all_from (allows_stmt new) b.stmts k.1)))))
+    and_from (allows_name h.name) _ f.0
+    (and_from (list_all allows_param h.params) _ (all_from allows_param h.params f.1.0)
+    (and_from (list_all allows_out h.outs) _ (all_from allows_out h.outs f.1.1)
+    (and_from (allows_rank_of new o) _ g
+    (and_from (list_all allows_local b.locals) _ (all_from allows_local b.locals k.0) (all_from (allows_stmt new) b.stmts k.1)))))
 
 abbrev proc_parts : Proc → Heading × (Option Refines × Body)
 proc_parts p = (record { name = p.name; params = p.params; outs = p.outs }, (p.refines, record { locals = p.locals; stmts = p.body }))

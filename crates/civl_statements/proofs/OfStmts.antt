@@ -2,6 +2,7 @@
 use Rattle.std.proofs.Common.{◌≡◌, ℕ, zero, suc, ◌-◌, ◌<◌, Bool, true, false, List, [], ◌∷◌, ◌++◌, map, Option, None, Some, refl, sym, ap, subst, ◌∙◌, arith, inl, inr, ◌⊎◌}
 use Rattle.std.specs.Prelude.{codes, IsTrue, ◌&&◌}
 use Rattle.std.specs.List.{AllByRecursion, list_all}
+use Rattle.std.proofs.lemmas.Bool.{and_from}
 use Rattle.civl_tree.specs.Token.{Token, Named, Reserved, Sign, Number}
 use Rattle.civl_tree.specs.Spelling.{open_paren, close_paren, open_brace, close_brace, semicolon, becomes, arrow, name_token, enclosed, block, spell_expr}
 use Rattle.civl_tree.specs.SpellingStmt.{spell_name, stmt_step, spell_stmt}
@@ -20,7 +21,7 @@ use Rattle.civl_phrases.proofs.Joins.{both_is, image_is, refit_is, chosen_is, by
 use Rattle.civl_phrases.proofs.Tokens.{after_is, then_is, done_is}
 use Rattle.civl_phrases.proofs.Lists.{bracketed_is, braced_is}
 use Rattle.civl_phrases.proofs.Heads.{heads_after, heads_leaf, heads_both, heads_image, heads_either, excludes}
-use Rattle.civl_phrases.proofs.Tables.{and_parts, and_join, form_has}
+use Rattle.civl_phrases.proofs.Tables.{and_parts, form_has}
 use Rattle.civl_statements.specs.declared.forms.StmtForm.{StmtForm}
 use Rattle.civl_statements.specs.declared.forms.StmtForm.TheVariants as forms
 use Rattle.civl_expressions.specs.readers.Names.{FitsName}
@@ -128,10 +129,10 @@ spell_loop (Yields e i a) = spell_yieldloop e i a
 spell_loop (Ranked e r i a) = spell_rankloop e r i a
 
 loop_to : (new : Bool) (l : Loop) → LoopFits new l → FitsStmt new (of_loop l)
-loop_to new (Plain e a) h = allows_while new e a ∙ and_join (allows_expr new e) _ h.0 (held_from (allows_stmt new) a h.1)
-loop_to new (Yields e i a) h = allows_yieldloop new e i a ∙ and_join (allows_expr new e) _ h.0 (and_join (allows_expr new i) _ h.1.0 (held_from (allows_stmt new) a h.1.1))
+loop_to new (Plain e a) h = allows_while new e a ∙ and_from (allows_expr new e) _ h.0 (held_from (allows_stmt new) a h.1)
+loop_to new (Yields e i a) h = allows_yieldloop new e i a ∙ and_from (allows_expr new e) _ h.0 (and_from (allows_expr new i) _ h.1.0 (held_from (allows_stmt new) a h.1.1))
 loop_to new (Ranked e r i a) h =
-    allows_rankloop new e r i a ∙ and_join (allows_expr new e) _ h.0 (and_join (allows_expr new r) _ h.1.0 (and_join (allows_expr new i) _ h.1.1.0 (held_from (allows_stmt new) a h.1.1.1)))
+    allows_rankloop new e r i a ∙ and_from (allows_expr new e) _ h.0 (and_from (allows_expr new r) _ h.1.0 (and_from (allows_expr new i) _ h.1.1.0 (held_from (allows_stmt new) a h.1.1.1)))
 
 abbrev StmtFits : Bool → StmtForm → Stmt → Type 0
 StmtFits new forms.Assign = Image (λ (p : Name × Expr). stmt.Assign p.0 p.1) (λ p. FitsName p.0 × FitsExpr new p.1)
@@ -145,15 +146,15 @@ StmtFits new forms.Intro = Image (λ (p : Name × Expr). stmt.Intro p.0 p.1) (λ
 StmtFits new forms.Spawn = Image (λ (p : Name × List Expr). stmt.Spawn p.0 p.1) (λ p. IsTrue new × (FitsName p.0 × AllByRecursion (FitsExpr new) p.1))
 
 stmt_to : (new : Bool) (s : Stmt) → (k : StmtForm) × StmtFits new k s → FitsStmt new s
-stmt_to new s (forms.Assign, h) = subst (FitsStmt new) h.1 (allows_assign new h.0.0 h.0.1 ∙ and_join (allows_name h.0.0) (allows_expr new h.0.1) h.2.0 h.2.1)
+stmt_to new s (forms.Assign, h) = subst (FitsStmt new) h.1 (allows_assign new h.0.0 h.0.1 ∙ and_from (allows_name h.0.0) (allows_expr new h.0.1) h.2.0 h.2.1)
 stmt_to new s (forms.Assert, h) = subst (FitsStmt new) h.1 (allows_assert new h.0 ∙ h.2)
-stmt_to new s (forms.If, h) = subst (FitsStmt new) h.1 (allows_if new h.0.0 h.0.1.0 h.0.1.1 ∙ and_join (allows_expr new h.0.0) _ h.2.0 (and_join (all_hold (map (allows_stmt new) h.0.1.0)) _ (held_from (allows_stmt new) h.0.1.0 h.2.1.0) (held_from (allows_stmt new) h.0.1.1 h.2.1.1)))
+stmt_to new s (forms.If, h) = subst (FitsStmt new) h.1 (allows_if new h.0.0 h.0.1.0 h.0.1.1 ∙ and_from (allows_expr new h.0.0) _ h.2.0 (and_from (all_hold (map (allows_stmt new) h.0.1.0)) _ (held_from (allows_stmt new) h.0.1.0 h.2.1.0) (held_from (allows_stmt new) h.0.1.1 h.2.1.1)))
 stmt_to new s (forms.While, h) = subst (FitsStmt new) h.1 (loop_to new h.0 h.2)
-stmt_to new s (forms.Call, h) = subst (FitsStmt new) h.1 (allows_call new h.0.0 h.0.1.0 h.0.1.1 ∙ and_join (allows_name h.0.0) _ h.2.0 (and_join (list_all (allows_expr new) h.0.1.0) _ (all_from (allows_expr new) h.0.1.0 h.2.1.0) (all_from allows_name h.0.1.1 h.2.1.1)))
+stmt_to new s (forms.Call, h) = subst (FitsStmt new) h.1 (allows_call new h.0.0 h.0.1.0 h.0.1.1 ∙ and_from (allows_name h.0.0) _ h.2.0 (and_from (list_all (allows_expr new) h.0.1.0) _ (all_from (allows_expr new) h.0.1.0 h.2.1.0) (all_from allows_name h.0.1.1 h.2.1.1)))
 stmt_to new s (forms.Yield, h) = subst (FitsStmt new) h.1 (allows_yield new h.0 ∙ h.2)
 stmt_to new s (forms.Commit, h) = subst (FitsStmt new) h.1 (allows_commit new)
-stmt_to new s (forms.Intro, h) = subst (FitsStmt new) h.1 (allows_intro new h.0.0 h.0.1 ∙ and_join (allows_name h.0.0) (allows_expr new h.0.1) h.2.0 h.2.1)
-stmt_to new s (forms.Spawn, h) = subst (FitsStmt new) h.1 (allows_spawn new h.0.0 h.0.1 ∙ and_join new _ h.2.0 (and_join (allows_name h.0.0) _ h.2.1.0 (all_from (allows_expr new) h.0.1 h.2.1.1)))
+stmt_to new s (forms.Intro, h) = subst (FitsStmt new) h.1 (allows_intro new h.0.0 h.0.1 ∙ and_from (allows_name h.0.0) (allows_expr new h.0.1) h.2.0 h.2.1)
+stmt_to new s (forms.Spawn, h) = subst (FitsStmt new) h.1 (allows_spawn new h.0.0 h.0.1 ∙ and_from new _ h.2.0 (and_from (allows_name h.0.0) _ h.2.1.0 (all_from (allows_expr new) h.0.1 h.2.1.1)))
 
 -- what the whole says of its layer
 abbrev Layered : Bool → layer.Stmt-F Stmt → Type 0

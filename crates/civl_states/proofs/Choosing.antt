@@ -1,12 +1,13 @@
 -- Whether stores agree on the globals of a layer, by the terms of those globals alone.
 use Rattle.std.specs.Prelude.{map, filter, if◌then◌else◌}
-use Rattle.std.proofs.Common.{◌≡◌, ◌∙◌, ℕ, ◌+◌, Bool, true, false, not, ◌&&◌, ◌||◌, List, [], ◌∷◌, ◌++◌, length, refl, sym, ap, ap₂, arith, Some, Option}
+use Rattle.std.proofs.Common.{◌≡◌, ◌∙◌, ℕ, ◌+◌, Bool, true, false, not, ◌&&◌, ◌||◌, List, [], ◌∷◌, ◌++◌, length, refl, sym, ap, ap₂, arith, Some}
 use Rattle.std.proofs.lemmas.List.{length-map}
 use Rattle.civl_bits.specs.declared.value.Value.{Value}
 use Rattle.civl_bits.specs.Value.{same_value}
 use Rattle.civl_tree.specs.declared.expr.Sort.{Sort}
 use Rattle.civl_tree.specs.declared.program.Global.{Global}
 use Rattle.civl_tree.specs.declared.program.Program.{Program}
+use Rattle.civl_tree.proofs.Lists.{heads}
 use Rattle.civl_firing.specs.values.Weights.{bits_in}
 use Rattle.civl_firing.specs.declared.store.Store.{Store}
 use Rattle.civl_conditions.specs.footprints.Agreement.{exists_at}
@@ -15,6 +16,7 @@ use Rattle.civl_terms.specs.Graphs.{sort_at, value_at, Fits}
 use Rattle.civl_terms.specs.Building.{Grows}
 use Rattle.civl_actions.specs.Scopes.{AreOf}
 use Rattle.civl_actions.specs.Actions.{values_at}
+use Rattle.civl_actions.proofs.Nodes.{are_long}
 use Rattle.civl_conditions.specs.Values.{same_values, same_in, same_stores}
 use Rattle.civl_states.specs.formula_parts.Said.{Env, IsTest}
 use Rattle.civl_states.specs.formula_parts.Given.{bits_of_sorts}
@@ -81,9 +83,6 @@ picked_filtered f test (g ∷ gs) = by (test g) (picked_filtered f test gs)
     by true e = ap (λ (xs : List _). f g ∷ xs) e
     by false e = e
 
-heads : (a b : Option Sort) (os ps : List (Option Sort)) → a ∷ os ≡ b ∷ ps → (a ≡ b) × (os ≡ ps)
-heads a b os ps e = (cc, cc)
-
 bits_sorted : (ns : List Node) (ids : List ℕ) (ss : List Sort) → AreOf ns ids ss → bits_at ns ids ≡ bits_of_sorts ss
 bits_sorted ns [] [] e = refl
 bits_sorted ns [] (s ∷ ss) e = absurd (cc)
@@ -92,12 +91,9 @@ bits_sorted ns (i ∷ ids) (s ∷ ss) e =
     let h = heads (sort_at ns i) (Some s) (map (sort_at ns) ids) (map (λ (t : Sort). Some t) ss) e in
     ap₂ (λ (a b : ℕ). a + b) (ap bits_in h.0) (bits_sorted ns ids ss h.1)
 
-long_sorted : (ns : List Node) (ids : List ℕ) (ss : List Sort) → AreOf ns ids ss → length ids ≡ length ss
-long_sorted ns ids ss e = sym (length-map ids (sort_at ns)) ∙ ap length e ∙ length-map ss (λ (s : Sort). Some s)
-
 -- what comparing terms of these sorts weighs
 pub same_weighs : (ns : List Node) (ids : List ℕ) (ss : List Sort) → AreOf ns ids ss → bits_at ns ids + length ids ≡ same_weight ss
-same_weighs ns ids ss e = ap₂ (λ (a b : ℕ). a + b) (bits_sorted ns ids ss e) (long_sorted ns ids ss e)
+same_weighs ns ids ss e = ap₂ (λ (a b : ℕ). a + b) (bits_sorted ns ids ss e) (are_long ns ids ss e)
 
 pub layer_weighs : (ns : List Node) (program : Program) (layer : ℕ) (ids : List ℕ) → AreGlobals ns program ids
     → bits_at ns (picked (exists_at layer) program.globals ids) + length (picked (exists_at layer) program.globals ids) ≡ same_weight (layer_sorts program layer)

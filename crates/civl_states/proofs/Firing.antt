@@ -8,7 +8,7 @@ use Rattle.civl_firing.specs.declared.store.Store.{Store}
 use Rattle.civl_firing.specs.Fired.{guard_holds, store_after, outs_after, fires}
 use Rattle.civl_conditions.specs.Movers.{on_some}
 
-fires_where : (guard : Bool) (s : Store × List Value) (test : Store × List Value → Bool) → on_some (if guard then Some s else None) test ≡ (guard && test s)
+pub fires_where : (guard : Bool) (s : Store × List Value) (test : Store × List Value → Bool) → on_some (if guard then Some s else None) test ≡ (guard && test s)
 fires_where true s test = refl
 fires_where false s test = refl
 

@@ -2,8 +2,7 @@
 use Rattle.std.specs.Prelude.{◌≡◌, take, drop, filter, if◌then◌else◌}
 use Rattle.civl_firing.specs.values.Values.{zero_of}
 use Rattle.std.proofs.Common.{◌∙◌, ℕ, zero, suc, ◌+◌, ◌-◌, ◌≤◌, ◌<◌, Bool, true, false, List, [], ◌∷◌, ◌++◌, length, get_or, append_assoc, refl, sym, ap, ap₂, subst, arith}
-use Rattle.std.proofs.lemmas.List.{append-nil, take_more, take_all, get_or-drop, length-append}
-use Rattle.std.proofs.Math.Seq.{drop-append_seam, take-append_seam}
+use Rattle.std.proofs.lemmas.List.{append-nil, take_more, take_all, get_or-drop, length-append, take_at, drop_at, drop-drop}
 use Rattle.civl_bits.specs.declared.value.Value.{Value}
 use Rattle.civl_firing.specs.values.Operators.{nothing}
 use Rattle.civl_tree.specs.declared.expr.Sort.{Sort}
@@ -34,14 +33,8 @@ given_more env first m (suc n) =
     ∙ ap₂ (λ (vs : List Value) (k : ℕ). vs ++ env k ∷ []) (given_more env first m n) f
     ∙ append_assoc (given env first m) (given env (first + m) n) (env (first + m + n) ∷ [])
 
-drop_past : {A : Type 0} (n : ℕ) (xs ys : List A) → length xs ≡ n → drop n (xs ++ ys) ≡ ys
-drop_past n xs ys e = ap (λ (k : ℕ). drop k (xs ++ ys)) (sym e) ∙ drop-append_seam xs ys
-
-take_front : {A : Type 0} (n : ℕ) (xs ys : List A) → length xs ≡ n → take n (xs ++ ys) ≡ xs
-take_front n xs ys e = ap (λ (k : ℕ). take k (xs ++ ys)) (sym e) ∙ take-append_seam xs ys
-
 pub drop_given : (env : Env) (first at n : ℕ) → drop at (given env first (at + n)) ≡ given env (first + at) n
-drop_given env first at n = ap (drop at) (given_more env first at n) ∙ drop_past at (given env first at) (given env (first + at) n) (given_long env first at)
+drop_given env first at n = ap (drop at) (given_more env first at n) ∙ drop_at (given env first at) (given env (first + at) n) at (given_long env first at)
 
 -- a part of all values is those from there on
 pub part_given : (env : Env) (n at count : ℕ) → at + count ≤ n → part (given env 0 n) at count ≡ given env at count
@@ -51,7 +44,7 @@ part_given env n at count l =
     let z : 0 + at ≡ at = omega arith in
     ap (λ (k : ℕ). take count (drop at (given env 0 k))) e
     ∙ ap (take count) (drop_given env 0 at (count + rest) ∙ ap (λ (k : ℕ). given env k (count + rest)) z ∙ given_more env at count rest)
-    ∙ take_front count (given env at count) (given env (at + count) rest) (given_long env at count)
+    ∙ take_at (given env at count) (given env (at + count) rest) count (given_long env at count)
 
 get_last : {A : Type 0} (n : ℕ) (xs ys : List A) (x d : A) → length xs ≡ n → get_or (xs ++ x ∷ ys) n d ≡ x
 get_last n [] ys x d e = ap (λ (k : ℕ). get_or (x ∷ ys) k d) (sym e)
@@ -111,19 +104,10 @@ module _ (sorts : List Sort) (first : ℕ) (group : List Sort) (s : StandFrom so
 
   -- they are the sorts of so many variables from there on
   pub stand_sorts : sorts_from sorts first (length group) ≡ group
-  stand_sorts = sorts_taken sorts first (length group) stand_within ∙ ap (take (length group)) s.is ∙ take_front (length group) group s.rest refl
+  stand_sorts = sorts_taken sorts first (length group) stand_within ∙ ap (take (length group)) s.is ∙ take_at group s.rest (length group) refl
 
 pub stand_counted : (sorts : List Sort) (first : ℕ) (group : List Sort) (count : ℕ) → length group ≡ count → StandFrom sorts first group → sorts_from sorts first count ≡ group
 stand_counted sorts first group count e s = ap (sorts_from sorts first) (sym e) ∙ stand_sorts sorts first group s
-
-drop_twice : {A : Type 0} (m n : ℕ) (xs : List A) → drop (m + n) xs ≡ drop n (drop m xs)
-drop_twice zero n xs = let e : 0 + n ≡ n = omega arith in ap (λ (k : ℕ). drop k xs) e
-drop_twice (suc m) n [] = let e : suc m + n ≡ suc (m + n) = omega arith in ap (λ (k : ℕ). drop k []) e ∙ sym (drop_nothing n)
-  where
-    drop_nothing : {A : Type 0} (k : ℕ) → ◌≡◌ {A = List A} (drop k []) []
-    drop_nothing zero = refl
-    drop_nothing (suc k) = refl
-drop_twice (suc m) n (x ∷ xs) = let e : suc m + n ≡ suc (m + n) = omega arith in ap (λ (k : ℕ). drop k (x ∷ xs)) e ∙ drop_twice m n xs
 
 -- the first of them, and those behind
 pub stand_front : (sorts : List Sort) (first : ℕ) (group more : List Sort) → StandFrom sorts first (group ++ more) → StandFrom sorts first group
@@ -133,7 +117,7 @@ pub stand_past : (sorts : List Sort) (first : ℕ) (group more : List Sort) (cou
 stand_past sorts first group more count e s = record {
   rest = s.rest;
   within = omega (arith, stand_within sorts first group (stand_front sorts first group more s), e);
-  is = drop_twice first count sorts ∙ ap (drop count) (s.is ∙ append_assoc group more s.rest) ∙ drop_past count group (more ++ s.rest) e;
+  is = sym (drop-drop count first sorts) ∙ ap (drop count) (s.is ∙ append_assoc group more s.rest) ∙ drop_at group (more ++ s.rest) count e;
 }
 
 -- a list that begins with these

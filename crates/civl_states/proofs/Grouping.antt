@@ -45,7 +45,7 @@ eight_behind list a b c d e f g h = simp append_assoc
 
 -- ---- the groups
 
-of_option : {A : Type 0} (f : A → List Variable) (g : A → List Sort) (same : (x : A) → map (λ v. v.sort) (f x) ≡ g x) (o : Option A) → map (λ v. v.sort) (option_map_or f o []) ≡ option_map_or g o []
+pub of_option : {A : Type 0} (f : A → List Variable) (g : A → List Sort) (same : (x : A) → map (λ v. v.sort) (f x) ≡ g x) (o : Option A) → map (λ v. v.sort) (option_map_or f o []) ≡ option_map_or g o []
 of_option f g same None = refl
 of_option f g same (Some x) = same x
 

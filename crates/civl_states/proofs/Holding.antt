@@ -1,12 +1,13 @@
 -- What is held at a cut are words of the permission width: the parameters that are lent or taken, and the names to which calls gave.
-use Rattle.std.specs.Prelude.{map, slice_get, get_or, All, not, ◌&&◌, ◌||◌, is_some, if◌then◌else◌}
+use Rattle.std.specs.Prelude.{map, slice_get, get_or, All, not, ◌||◌, is_some, if◌then◌else◌}
 use Rattle.std.specs.Str.{bytes_eq}
 use Rattle.std.specs.List.{list_any}
 use Rattle.std.proofs.Common.{◌≡◌, ◌∙◌, ℕ, zero, suc, ◌+◌, Bool, true, false, List, [], ◌∷◌, ◌++◌, refl, sym, ap, ap₂, subst, arith, Option, Some, None, ◌⊎◌, inl, inr}
-use Rattle.std.proofs.lemmas.Bool.{false≢true, not-false, or_parts, or_from, and_parts}
+use Rattle.std.proofs.lemmas.Bool.{false≢true, not-false, or_parts, and_parts}
 use Rattle.std.proofs.lemmas.List.Folds.{find_at}
 use Rattle.std.proofs.lemmas.List.Elements.{All-nil, All-cons}
 use Rattle.std.proofs.lemmas.Slice.Eq.{bytes_eq-Decides}
+use Rattle.std.proofs.lemmas.Option.{same_Some}
 use Rattle.civl_tree.specs.declared.name.Name.{Name}
 use Rattle.civl_tree.specs.declared.expr.Expr.{Expr}
 use Rattle.civl_tree.specs.declared.expr.Sort.{Sort}
@@ -24,7 +25,6 @@ use Rattle.civl_tree.specs.declared.program.Program.{Program}
 use Rattle.civl_tree.specs.Numbering.{inner_of, statements_of}
 use Rattle.civl_tree.specs.rules.Names.{Signature, same_name, has_name, any_twice, names_in_proc, action_named, proc_named, proc_signature_of, first_signature, callee_signature}
 use Rattle.civl_tree.specs.rules.Scopes.{Binding, sort_in, bind_proc}
-use Rattle.civl_tree.specs.rules.Sorts.{same_sort}
 use Rattle.civl_tree.specs.rules.Uses.{Only, serves, place_sort, param_sorts, given_sorts}
 use Rattle.civl_tree.specs.rules.Sorted.{results_missorted, form_missorted, stmt_missorted}
 use Rattle.civl_tree.specs.rules.Width.{is_linear, param_width}
@@ -32,7 +32,10 @@ use Rattle.civl_tree.specs.rules.Rules.{Keeps}
 use Rattle.civl_tree.specs.rules.Typing.{typing_rules, sort_rule, width_rule}
 use Rattle.civl_tree.proofs.Kept.{proc_kept, statement_kept, sort_among, width_among}
 use Rattle.civl_tree.proofs.Preorder.{inner_layer, inner_is}
-use Rattle.civl_firing.proofs.values.Sorting.{same_sort-true}
+use Rattle.civl_tree.proofs.Parts.{any_split}
+use Rattle.civl_tree.proofs.Naming.{same_bytes}
+use Rattle.civl_firing.proofs.SortLimits.{linear_sort}
+use Rattle.civl_firing.proofs.Serving.{served_only}
 use Rattle.civl_meaning.specs.Config.{frame_sorts}
 use Rattle.civl_layers.specs.Cuts.{cut_kind}
 use Rattle.civl_linear.specs.Modes.{is_passed, is_taken, is_given, passed_names, given_names}
@@ -69,19 +72,16 @@ each_from P (x ∷ xs) f = (f zero x refl, each_from P xs (λ n y e. f (suc n) y
 abbrev AreThis : Sort → List Sort → List Bool → Type 0
 AreThis sort sorts flags = (n : ℕ) → slice_get flags n ≡ Some true → slice_get sorts n ≡ Some sort
 
-same_true : (a b : Bool) → Some a ≡ Some b → a ≡ b
-same_true a b e = cc
-
 without_flag : (gone names : List Name) (flags : List Bool) (n : ℕ) → slice_get (without_names gone names flags) n ≡ Some true → slice_get flags n ≡ Some true
 without_flag gone [] flags n e = absurd (cc)
 without_flag gone (name ∷ names) [] n e = absurd (cc)
-without_flag gone (name ∷ names) (f ∷ flags) zero e = ap (λ (b : Bool). Some b) (and_parts f (not (has_name gone name)) (same_true _ _ e)).0
+without_flag gone (name ∷ names) (f ∷ flags) zero e = ap (λ (b : Bool). Some b) (and_parts f (not (has_name gone name)) (same_Some _ _ e)).0
 without_flag gone (name ∷ names) (f ∷ flags) (suc n) e = without_flag gone names flags n e
 
 both_flag : (a b : List Bool) (n : ℕ) → slice_get (both_held a b) n ≡ Some true → slice_get a n ≡ Some true
 both_flag [] b n e = absurd (cc)
 both_flag (x ∷ a) [] n e = absurd (cc)
-both_flag (x ∷ a) (y ∷ b) zero e = ap (λ (c : Bool). Some c) (and_parts x y (same_true _ _ e)).0
+both_flag (x ∷ a) (y ∷ b) zero e = ap (λ (c : Bool). Some c) (and_parts x y (same_Some _ _ e)).0
 both_flag (x ∷ a) (y ∷ b) (suc n) e = both_flag a b n e
 
 -- a flag that is set with new names was set, or its name is new
@@ -89,7 +89,7 @@ with_flag : (new names : List Name) (flags : List Bool) (n : ℕ) → slice_get 
     → (slice_get flags n ≡ Some true) ⊎ ((name : Name) × (slice_get names n ≡ Some name) × (has_name new name ≡ true))
 with_flag new [] flags n e = absurd (cc)
 with_flag new (name ∷ names) [] n e = absurd (cc)
-with_flag new (name ∷ names) (f ∷ flags) zero e = by f (same_true _ _ e)
+with_flag new (name ∷ names) (f ∷ flags) zero e = by f (same_Some _ _ e)
   where
     by : (b : Bool) → (b || has_name new name) ≡ true → (Some b ≡ Some true) ⊎ ((m : Name) × (Some name ≡ Some m) × (has_name new m ≡ true))
     by true p = inl refl
@@ -97,9 +97,6 @@ with_flag new (name ∷ names) (f ∷ flags) zero e = by f (same_true _ _ e)
 with_flag new (name ∷ names) (f ∷ flags) (suc n) e = with_flag new names flags n e
 
 -- ---- names
-
-same_bytes : (a b : Name) → same_name a b ≡ true → a.bytes ≡ b.bytes
-same_bytes a b e = (bytes_eq-Decides a.bytes b.bytes).0 e
 
 sort_same : (bs : List Binding) (a b : Name) → a.bytes ≡ b.bytes → sort_in bs a ≡ sort_in bs b
 sort_same [] a b e = refl
@@ -133,10 +130,6 @@ sort_there (b ∷ bs) (suc n) name s once e h =
 
 -- ---- a procedure of a checked program
 
-linear_sort : (b : Bool) (t s : Sort) → (b && not (same_sort t s)) ≡ false → b ≡ true → t ≡ s
-linear_sort true t s e p = same_sort-true t s (not-false (same_sort t s) e)
-linear_sort false t s e p = absurd (false≢true p)
-
 passed_linear : (mode : Mode) → is_passed mode ≡ true → is_linear mode ≡ true
 passed_linear Val e = absurd (false≢true e)
 passed_linear Lend e = refl
@@ -149,13 +142,6 @@ given_linear Lend e = absurd (false≢true e)
 given_linear Take e = absurd (false≢true e)
 given_linear Give e = refl
 
-any_split : {A : Type 0} (p : A → Bool) (xs ys : List A) → list_any p (xs ++ ys) ≡ false → (list_any p xs ≡ false) × (list_any p ys ≡ false)
-any_split p [] ys e = (refl, e)
-any_split p (x ∷ xs) ys e =
-    let o = or_parts (p x) (list_any p (xs ++ ys)) e in
-    let r = any_split p xs ys o.1 in
-    (or_from (p x) (list_any p xs) o.0 r.0, r.1)
-
 module _ (program : Program) (keeps : Keeps typing_rules program) (proc : Proc) (there : IsProcIn program proc) where
   abbrev word : Sort
   word = Word program.permissions
@@ -163,7 +149,7 @@ module _ (program : Program) (keeps : Keeps typing_rules program) (proc : Proc) 
   abbrev names : List Name
   names = names_in_proc proc
 
-  abbrev Holds : List Bool → Type 0
+  abbrev pub Holds : List Bool → Type 0
   Holds flags = AreThis word (frame_sorts proc) flags
 
   abbrev IsSound : Stmt → Type 0
@@ -185,7 +171,7 @@ module _ (program : Program) (keeps : Keeps typing_rules program) (proc : Proc) 
   behind_params : (ps : List Param) (flags : List Bool) (rest : List Sort) → HaveWidths program ps → AreThis word rest flags
       → AreThis word (param_sorts ps ++ rest) (map (λ p. is_passed p.mode) ps ++ flags)
   behind_params [] flags rest w h n e = h n e
-  behind_params (p ∷ ps) flags rest w h zero e = ap (λ (s : Sort). Some s) (param_word p (or_parts _ _ w).0 (passed_linear p.mode (same_true _ _ e)))
+  behind_params (p ∷ ps) flags rest w h zero e = ap (λ (s : Sort). Some s) (param_word p (or_parts _ _ w).0 (passed_linear p.mode (same_Some _ _ e)))
   behind_params (p ∷ ps) flags rest w h (suc n) e = behind_params ps flags rest (or_parts _ _ w).1 h n e
 
   behind_none : {A : Type 0} (xs : List A) (sort_of : A → Sort) (flags : List Bool) (rest : List Sort) → AreThis word rest flags → AreThis word (map sort_of xs ++ rest) (map (λ x. false) xs ++ flags)
@@ -193,7 +179,7 @@ module _ (program : Program) (keeps : Keeps typing_rules program) (proc : Proc) 
   behind_none (x ∷ xs) sort_of flags rest h zero e = absurd (cc)
   behind_none (x ∷ xs) sort_of flags rest h (suc n) e = behind_none xs sort_of flags rest h n e
 
-  entry_holds : Holds (entry_held proc)
+  pub entry_holds : Holds (entry_held proc)
   entry_holds =
       behind_params proc.params (map (λ out. false) proc.outs ++ map (λ declared. false) proc.locals) (param_sorts proc.outs ++ map (λ l. l.sort) proc.locals) (proc_wide there.0 proc there.1).0
       (behind_none proc.outs (λ p. p.sort) (map (λ declared. false) proc.locals) (map (λ l. l.sort) proc.locals) (λ n e. absurd (none_set proc.locals n e)))
@@ -208,12 +194,8 @@ module _ (program : Program) (keeps : Keeps typing_rules program) (proc : Proc) 
   given_sorted (p ∷ outs) (x ∷ results) w m name h =
       let o = or_parts (param_width program p) (list_any (param_width program) outs) w in
       let r = or_parts (not (serves (place_sort proc x) (Only p.sort))) (results_missorted proc results (param_sorts outs)) m in
-      by (is_given p.mode) refl (only_sort (place_sort proc x) p.sort (not-false _ r.0)) o.0 (given_sorted outs results o.1 r.1 name) h
+      by (is_given p.mode) refl (served_only (place_sort proc x) p.sort (not-false _ r.0)) o.0 (given_sorted outs results o.1 r.1 name) h
     where
-      only_sort : (o : Option Sort) (s : Sort) → serves o (Only s) ≡ true → o ≡ Some s
-      only_sort None s e = absurd (false≢true e)
-      only_sort (Some t) s e = ap (λ (u : Sort). Some u) (same_sort-true t s e)
-
       this : (t : Bool) → same_name name x ≡ t → place_sort proc x ≡ Some word → (has_name (given_names outs results) name ≡ true → place_sort proc name ≡ Some word)
           → (t || has_name (given_names outs results) name) ≡ true → place_sort proc name ≡ Some word
       this true q e rest k = sort_same (bind_proc proc) name x (same_bytes name x q) ∙ e
@@ -271,7 +253,7 @@ module _ (program : Program) (keeps : Keeps typing_rules program) (proc : Proc) 
 
   -- ---- going over statements
 
-  record Stands (t : Traced) : Type 0 where
+  pub record Stands (t : Traced) : Type 0 where
     pub befores : Each Holds t.befores
     pub after : Holds t.after
 
@@ -314,7 +296,7 @@ module _ (program : Program) (keeps : Keeps typing_rules program) (proc : Proc) 
       let over : traced program names (roll-Stmt x) flags ≡ traced_form program names x flags = traced_is program names (roll-Stmt x) flags ∙ ap (λ (f : Stmt-F Stmt). traced_form program names f flags) (out-roll-Stmt x) in
       subst Stands (sym over) here) stmt
 
-  body_stands : (body : List Stmt) (flags : List Bool) → Holds flags → Each IsSound (statements_of body) → Stands (traced_all program names body flags)
+  pub body_stands : (body : List Stmt) (flags : List Bool) → Holds flags → Each IsSound (statements_of body) → Stands (traced_all program names body flags)
   body_stands [] flags k sound = record { befores = tt; after = k }
   body_stands (s ∷ body) flags k sound =
       let split = each_split IsSound (s ∷ inner_of s) (statements_of body) sound in
@@ -322,7 +304,7 @@ module _ (program : Program) (keeps : Keeps typing_rules program) (proc : Proc) 
       let this = traced program names s flags in
       behind this (traced_all program names body this.after) here (body_stands body this.after here.after split.1)
 
-  sound_body : Each IsSound (statements_of proc.body)
+  pub sound_body : Each IsSound (statements_of proc.body)
   sound_body = each_from IsSound (statements_of proc.body) (λ n s e. (or_parts _ _ (statement_kept typing_rules program keeps sort_rule sort_among (stmt_missorted program proc) there.0 proc there.1 refl n s e)).1)
 
   -- ---- at the cuts
@@ -342,7 +324,7 @@ module _ (program : Program) (keeps : Keeps typing_rules program) (proc : Proc) 
       this true e = let z : from + 0 ≡ from = omega arith in (subst IsHeld z (f zero (ap (λ (d : Bool). Some d) e)), tt)
       this false e = tt
 
-  flags_numbered : (flags : List Bool) → Holds flags → Each IsHeld (held_numbers 0 names flags)
+  pub flags_numbered : (flags : List Bool) → Holds flags → Each IsHeld (held_numbers 0 names flags)
   flags_numbered flags h = numbered names flags 0 (λ i e. let z : i ≡ 0 + i = omega arith in subst IsHeld z (h i e))
 
   cuts_numbered : (stmts : List Stmt) (befores : List (List Bool)) → Each Holds befores → Each (Each IsHeld) (held_at_cuts names stmts befores)
@@ -367,7 +349,7 @@ module _ (program : Program) (keeps : Keeps typing_rules program) (proc : Proc) 
   pub held_sorted : (c : ℕ) → Each IsHeld (get_or (held_of program proc) c [])
   held_sorted c = got (held_of program proc) c (under proc.refines)
 
-  all_each : {A : Type 0} (P : A → Type 0) (xs : List A) → Each P xs → All P xs
+  pub all_each : {A : Type 0} (P : A → Type 0) (xs : List A) → Each P xs → All P xs
   all_each P [] h = All-nil P
   all_each P (x ∷ xs) h = All-cons P x xs h.0 (all_each P xs h.1)
 

@@ -1,7 +1,7 @@
 -- The variables of a path's beginning, group by group.
 use Rattle.std.specs.Prelude.{map, take, drop, filter, slice_get, if◌then◌else◌, IsTrue}
-use Rattle.std.proofs.Common.{◌≡◌, ◌∙◌, ℕ, zero, suc, ◌+◌, ◌-◌, ◌≤◌, Bool, true, false, List, [], ◌∷◌, ◌++◌, length, refl, sym, ap, ap₂, subst, arith, Option, Some}
-use Rattle.std.proofs.lemmas.List.{length-map, length-append, map-append, take_all}
+use Rattle.std.proofs.Common.{◌≡◌, ◌∙◌, ℕ, zero, suc, ◌+◌, ◌≤◌, Bool, true, false, List, [], ◌∷◌, ◌++◌, length, refl, sym, ap, ap₂, subst, arith, Option, Some}
+use Rattle.std.proofs.lemmas.List.{length-map, length-append, map-append, take-map, drop-map, take_at, drop_at}
 use Rattle.civl_bits.specs.declared.value.Value.{Value}
 use Rattle.civl_tree.specs.declared.expr.Sort.{Sort}
 use Rattle.civl_tree.specs.declared.expr.Sort.TheVariants.{Bool as Truth}
@@ -76,28 +76,6 @@ zero_more old now ids more ss s v id said limit g e b m =
 
 -- ---- the outputs among the values of a frame
 
-drop_past : {A : Type 0} (n : ℕ) (xs ys : List A) → length xs ≡ n → drop n (xs ++ ys) ≡ ys
-drop_past zero [] ys e = refl
-drop_past zero (x ∷ xs) ys e = absurd (omega (arith, e))
-drop_past (suc n) [] ys e = absurd (omega (arith, e))
-drop_past (suc n) (x ∷ xs) ys e = drop_past n xs ys (omega (arith, e))
-
-take_front : {A : Type 0} (n : ℕ) (xs ys : List A) → length xs ≡ n → take n (xs ++ ys) ≡ xs
-take_front zero [] ys e = refl
-take_front zero (x ∷ xs) ys e = absurd (omega (arith, e))
-take_front (suc n) [] ys e = absurd (omega (arith, e))
-take_front (suc n) (x ∷ xs) ys e = ap (λ zs. x ∷ zs) (take_front n xs ys (omega (arith, e)))
-
-map_take : {A B : Type 0} (f : A → B) (n : ℕ) (xs : List A) → map f (take n xs) ≡ take n (map f xs)
-map_take f zero xs = refl
-map_take f (suc n) [] = refl
-map_take f (suc n) (x ∷ xs) = ap (λ ys. f x ∷ ys) (map_take f n xs)
-
-map_drop : {A B : Type 0} (f : A → B) (n : ℕ) (xs : List A) → map f (drop n xs) ≡ drop n (map f xs)
-map_drop f zero xs = refl
-map_drop f (suc n) [] = refl
-map_drop f (suc n) (x ∷ xs) = map_drop f n xs
-
 module _ (ns : List Node) (proc : Proc) (ids : List ℕ) (f : Env → List Value) (s : AreSaid ns ids (frame_sorts proc) f) where
   pub frame_terms_long : length ids ≡ length proc.params + (length proc.outs + length proc.locals)
   frame_terms_long =
@@ -111,12 +89,12 @@ module _ (ns : List Node) (proc : Proc) (ids : List ℕ) (f : Env → List Value
       let p = length proc.params in
       let o = length proc.outs in
       let here : take o (drop p (frame_sorts proc)) ≡ param_sorts proc.outs =
-      ap (take o) (drop_past p (param_sorts proc.params) (param_sorts proc.outs ++ map (λ l. l.sort) proc.locals) (length-map proc.params (λ q. q.sort)))
-      ∙ take_front o (param_sorts proc.outs) (map (λ l. l.sort) proc.locals) (length-map proc.outs (λ q. q.sort)) in
+      ap (take o) (drop_at (param_sorts proc.params) (param_sorts proc.outs ++ map (λ l. l.sort) proc.locals) p (length-map proc.params (λ q. q.sort)))
+      ∙ take_at (param_sorts proc.outs) (map (λ l. l.sort) proc.locals) o (length-map proc.outs (λ q. q.sort)) in
       record {
-        sorted = map_take (sort_at ns) o (drop p ids) ∙ ap (take o) (map_drop (sort_at ns) p ids ∙ ap (drop p) s.sorted ∙ sym (map_drop (λ (t : Sort). Some t) p (frame_sorts proc)))
-            ∙ sym (map_take (λ (t : Sort). Some t) o (drop p (frame_sorts proc))) ∙ ap (map (λ (t : Sort). Some t)) here;
-        are = λ env fits. map_take (value_at env ns) o (drop p ids) ∙ ap (take o) (map_drop (value_at env ns) p ids ∙ ap (drop p) (s.are env fits));
+        sorted = sym (take-map (sort_at ns) o (drop p ids)) ∙ ap (take o) (sym (drop-map (sort_at ns) p ids) ∙ ap (drop p) s.sorted ∙ drop-map (λ (t : Sort). Some t) p (frame_sorts proc))
+            ∙ take-map (λ (t : Sort). Some t) o (drop p (frame_sorts proc)) ∙ ap (map (λ (t : Sort). Some t)) here;
+        are = λ env fits. sym (take-map (value_at env ns) o (drop p ids)) ∙ ap (take o) (sym (drop-map (value_at env ns) p ids) ∙ ap (drop p) (s.are env fits));
       }
 
 pub inner_long : (proc : Proc) → length (inner_sorts proc) ≡ length proc.outs + length proc.locals
@@ -130,12 +108,3 @@ few_pass test (g ∷ gs) = by (test g) (few_pass test gs)
     by : (b : Bool) → length (filter test gs) ≤ length gs → length (if b then g ∷ filter test gs else filter test gs) ≤ length (g ∷ gs)
     by true l = omega (arith, l)
     by false l = omega (arith, l)
-
--- a part of a list, from a place to its end and then so many
-long_past : (p : ℕ) (xs : List ℕ) → length (drop p xs) ≤ length xs - p
-long_past zero xs = omega arith
-long_past (suc p) [] = omega arith
-long_past (suc p) (x ∷ xs) = omega (arith, long_past p xs)
-
-pub part_to : (o p : ℕ) (xs : List ℕ) → take o (take (length xs - p) (drop p xs)) ≡ take o (drop p xs)
-part_to o p xs = ap (take o) (take_all (length xs - p) (drop p xs) (long_past p xs))

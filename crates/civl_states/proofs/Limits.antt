@@ -2,10 +2,9 @@
 use Rattle.std.specs.Prelude.{map, slice_get, nat_lt, IsTrue, All}
 use Rattle.std.specs.List.{list_any}
 use Rattle.std.proofs.Common.{◌≡◌, ◌∙◌, ℕ, zero, suc, ◌+◌, ◌≤◌, Bool, true, false, List, [], ◌∷◌, ◌++◌, length, refl, sym, arith, Some, inl, inr}
-use Rattle.std.proofs.lemmas.Bool.{false≢true, not-false, or_parts, or_from, lt-ltb, cases_lt}
+use Rattle.std.proofs.lemmas.Bool.{false≢true, not-false, or_parts, lt-ltb, cases_lt}
 use Rattle.std.proofs.lemmas.List.Elements.{All-nil, All-cons, All-append}
 use Rattle.civl_tree.specs.declared.expr.Sort.{Sort}
-use Rattle.civl_tree.specs.declared.expr.Sort.TheVariants.{Bool as Truth, Word, Row}
 use Rattle.civl_tree.specs.declared.action.Action.{Action}
 use Rattle.civl_tree.specs.declared.action.Choice.{Choice}
 use Rattle.civl_tree.specs.declared.action.Param.{Param}
@@ -13,22 +12,16 @@ use Rattle.civl_tree.specs.declared.program.Global.{Global}
 use Rattle.civl_tree.specs.declared.program.Local.{Local}
 use Rattle.civl_tree.specs.declared.program.Proc.{Proc}
 use Rattle.civl_tree.specs.declared.program.Program.{Program}
-use Rattle.civl_tree.specs.rules.Exprs.{is_index}
 use Rattle.civl_tree.specs.rules.Width.{sort_width_fits, param_width, choice_width, local_width, action_width, proc_width}
 use Rattle.civl_tree.specs.rules.Index.{sort_index, action_index, proc_index}
 use Rattle.civl_tree.specs.rules.Rules.{Keeps}
 use Rattle.civl_tree.specs.rules.Typing.{typing_rules, count_rule, width_rule, index_rule}
 use Rattle.civl_tree.proofs.Kept.{global_kept, action_kept, proc_kept, count_among, width_among, index_among}
+use Rattle.civl_tree.proofs.Parts.{any_split}
 use Rattle.civl_firing.specs.values.Values.{is_sort}
+use Rattle.civl_firing.proofs.SortLimits.{limits}
 
 -- ---- lists
-
-any_append : {A : Type 0} (p : A → Bool) (xs ys : List A) → list_any p (xs ++ ys) ≡ false → (list_any p xs ≡ false) × (list_any p ys ≡ false)
-any_append p [] ys e = (refl, e)
-any_append p (x ∷ xs) ys e =
-    let o = or_parts (p x) (list_any p (xs ++ ys)) e in
-    let r = any_append p xs ys o.1 in
-    (or_from (p x) (list_any p xs) o.0 r.0, r.1)
 
 -- sorts within the language's limits
 abbrev pub AreSorts : List Sort → Type 0
@@ -36,11 +29,6 @@ AreSorts sorts = All (λ s. IsTrue (is_sort s)) sorts
 
 pub sorts_append : (ss ts : List Sort) → AreSorts ss → AreSorts ts → AreSorts (ss ++ ts)
 sorts_append ss ts p q = All-append (λ s. IsTrue (is_sort s)) ss ts p q
-
-limits : (s : Sort) → sort_width_fits s ≡ true → sort_index s ≡ false → is_sort s ≡ true
-limits Truth e f = refl
-limits (Word w) e f = e
-limits (Row i w) e f = rw (not-false (is_index i) f, e) refl
 
 -- each of them is within the limits, where none has a width or an index that isn't
 each_sort : {A : Type 0} (sort_of : A → Sort) (wide : A → Bool) → ((a : A) → wide a ≡ false → sort_width_fits (sort_of a) ≡ true)
@@ -97,12 +85,12 @@ module _ (program : Program) (keeps : Keeps typing_rules program) where
     pub param_sorts_are : AreSorts (map (λ p. p.sort) a.params)
     param_sorts_are =
         each_sort (λ (p : Param). p.sort) (param_width program) wide_param a.params
-        (any_append (param_width program) a.params a.outs (or_parts _ _ wide).0).0 (any_append (λ (p : Param). sort_index p.sort) a.params a.outs (or_parts _ _ indexed).0).0
+        (any_split (param_width program) a.params a.outs (or_parts _ _ wide).0).0 (any_split (λ (p : Param). sort_index p.sort) a.params a.outs (or_parts _ _ indexed).0).0
 
     pub out_sorts_are : AreSorts (map (λ p. p.sort) a.outs)
     out_sorts_are =
         each_sort (λ (p : Param). p.sort) (param_width program) wide_param a.outs
-        (any_append (param_width program) a.params a.outs (or_parts _ _ wide).0).1 (any_append (λ (p : Param). sort_index p.sort) a.params a.outs (or_parts _ _ indexed).0).1
+        (any_split (param_width program) a.params a.outs (or_parts _ _ wide).0).1 (any_split (λ (p : Param). sort_index p.sort) a.params a.outs (or_parts _ _ indexed).0).1
 
     pub choice_sorts_are : AreSorts (map (λ c. c.sort) a.choices)
     choice_sorts_are =
@@ -124,12 +112,12 @@ module _ (program : Program) (keeps : Keeps typing_rules program) where
     pub proc_param_sorts_are : AreSorts (map (λ p. p.sort) q.params)
     proc_param_sorts_are =
         each_sort (λ (p : Param). p.sort) (param_width program) wide_param q.params
-        (any_append (param_width program) q.params q.outs (or_parts _ _ wide_proc).0).0 (any_append (λ (p : Param). sort_index p.sort) q.params q.outs (or_parts _ _ indexed_proc).0).0
+        (any_split (param_width program) q.params q.outs (or_parts _ _ wide_proc).0).0 (any_split (λ (p : Param). sort_index p.sort) q.params q.outs (or_parts _ _ indexed_proc).0).0
 
     pub proc_out_sorts_are : AreSorts (map (λ p. p.sort) q.outs)
     proc_out_sorts_are =
         each_sort (λ (p : Param). p.sort) (param_width program) wide_param q.outs
-        (any_append (param_width program) q.params q.outs (or_parts _ _ wide_proc).0).1 (any_append (λ (p : Param). sort_index p.sort) q.params q.outs (or_parts _ _ indexed_proc).0).1
+        (any_split (param_width program) q.params q.outs (or_parts _ _ wide_proc).0).1 (any_split (λ (p : Param). sort_index p.sort) q.params q.outs (or_parts _ _ indexed_proc).0).1
 
     pub local_sorts_are : AreSorts (map (λ l. l.sort) q.locals)
     local_sorts_are =

@@ -1,7 +1,7 @@
 -- The scopes of notes, and what their terms say.
 use Rattle.std.specs.Prelude.{map, slice_get, take, drop}
-use Rattle.std.proofs.Common.{◌≡◌, ◌∙◌, ℕ, zero, suc, ◌+◌, ◌<◌, Bool, true, false, List, [], ◌∷◌, ◌++◌, length, refl, sym, ap, ap₂, subst, arith, Option, Some}
-use Rattle.std.proofs.lemmas.List.{append-nil, length-map, length-append, map-append, length-take-le}
+use Rattle.std.proofs.Common.{◌≡◌, ◌∙◌, ℕ, ◌+◌, ◌<◌, Bool, true, false, List, [], ◌++◌, length, sym, ap, ap₂, subst, arith, Some}
+use Rattle.std.proofs.lemmas.List.{append-nil, length-map, length-append, map-append, length-take-le, take-map, drop-map}
 use Rattle.civl_bits.specs.declared.value.Value.{Value}
 use Rattle.civl_bits.specs.declared.value.Value.TheVariants as value
 use Rattle.civl_tree.specs.declared.name.Name.{Name}
@@ -30,45 +30,16 @@ use Rattle.civl_terms.proofs.Soundness.{nodes_have_their_sorts}
 use Rattle.civl_actions.specs.declared.scope.Scope.{Scope}
 use Rattle.civl_actions.specs.Scopes.{names_in, meant, StandsAt, ScopeFits, AreOf, IsTyped, Means}
 use Rattle.civl_actions.proofs.Building.{truth_value}
-use Rattle.civl_actions.proofs.Scoping.{Found}
+use Rattle.civl_actions.proofs.Scoping.{Found, nothing_found, found_past}
 use Rattle.civl_actions.proofs.Staying.{are_within, are_stay, values_stay}
+use Rattle.civl_actions.proofs.Nodes.{are_long, are_joined}
 use Rattle.civl_conditions.specs.paths.NoteValues.{note_names, with_outs}
 use Rattle.civl_conditions.specs.Invariants.{holds_in}
 use Rattle.civl_states.specs.formula_parts.Said.{Env, IsTest, IsSaid}
 use Rattle.civl_states.specs.declared.notes.View.{View}
 use Rattle.civl_states.specs.Stores.{AreStore, AreGlobals, global_sorts}
 use Rattle.civl_states.specs.Notes.{Seen, seen_values, CanSee, AreSeen, IsProcIn}
-use Rattle.civl_states.proofs.Scoping.{binding_names, binding_sorts, found_all, found_whole, found_past, nothing_found, bound, proc_bound_names, proc_bound_sorts, global_bound_names, global_bound_sorts, param_bound_names, param_bound_sorts, names_once, out_past_params}
-
--- ---- lists of terms
-
-are_joined : (ns : List Node) (xs ys : List ℕ) (ss ts : List Sort) → AreOf ns xs ss → AreOf ns ys ts → AreOf ns (xs ++ ys) (ss ++ ts)
-are_joined ns xs ys ss ts p q = map-append (sort_at ns) xs ys ∙ ap₂ (λ (os ps : List (Option Sort)). os ++ ps) p q ∙ sym (map-append (λ (s : Sort). Some s) ss ts)
-
-are_long : (ns : List Node) (ids : List ℕ) (ss : List Sort) → AreOf ns ids ss → length ids ≡ length ss
-are_long ns ids ss h = sym (length-map ids (sort_at ns)) ∙ ap length h ∙ length-map ss (λ (s : Sort). Some s)
-
-map_take : {A B : Type 0} (f : A → B) (n : ℕ) (xs : List A) → map f (take n xs) ≡ take n (map f xs)
-map_take f zero xs = refl
-map_take f (suc n) [] = refl
-map_take f (suc n) (x ∷ xs) = ap (λ ys. f x ∷ ys) (map_take f n xs)
-
-map_drop : {A B : Type 0} (f : A → B) (n : ℕ) (xs : List A) → map f (drop n xs) ≡ drop n (map f xs)
-map_drop f zero xs = refl
-map_drop f (suc n) [] = refl
-map_drop f (suc n) (x ∷ xs) = map_drop f n xs
-
-take_long : {A : Type 0} (n : ℕ) (xs ys : List A) → length xs ≡ n → take n (xs ++ ys) ≡ xs
-take_long zero [] ys e = refl
-take_long zero (x ∷ xs) ys e = absurd (omega (arith, e))
-take_long (suc n) [] ys e = absurd (omega (arith, e))
-take_long (suc n) (x ∷ xs) ys e = ap (λ zs. x ∷ zs) (take_long n xs ys (omega (arith, e)))
-
-drop_long : {A : Type 0} (n : ℕ) (xs ys : List A) → length xs ≡ n → drop n (xs ++ ys) ≡ ys
-drop_long zero [] ys e = refl
-drop_long zero (x ∷ xs) ys e = absurd (omega (arith, e))
-drop_long (suc n) [] ys e = absurd (omega (arith, e))
-drop_long (suc n) (x ∷ xs) ys e = drop_long n xs ys (omega (arith, e))
+use Rattle.civl_states.proofs.Scoping.{binding_names, binding_sorts, found_all, found_whole, bound, proc_bound_names, proc_bound_sorts, global_bound_names, global_bound_sorts, param_bound_names, param_bound_sorts, names_once, out_past_params}
 
 -- ---- the names of a scope and the terms that they stand for
 
@@ -129,10 +100,10 @@ module _ (ns : List Node) (program : Program) (proc : Proc) (view : View) (can :
     some_of ids ss h id place e = are_within ns ids ss h place id e
 
     parts_of : (n : ℕ) (ids : List ℕ) (ss : List Sort) → AreOf ns ids ss → AreOf ns (take n ids) (take n ss)
-    parts_of n ids ss h = map_take (sort_at ns) n ids ∙ ap (take n) h ∙ sym (map_take (λ (s : Sort). Some s) n ss)
+    parts_of n ids ss h = sym (take-map (sort_at ns) n ids) ∙ ap (take n) h ∙ take-map (λ (s : Sort). Some s) n ss
 
     rest_of : (n : ℕ) (ids : List ℕ) (ss : List Sort) → AreOf ns ids ss → AreOf ns (drop n ids) (drop n ss)
-    rest_of n ids ss h = map_drop (sort_at ns) n ids ∙ ap (drop n) h ∙ sym (map_drop (λ (s : Sort). Some s) n ss)
+    rest_of n ids ss h = sym (drop-map (sort_at ns) n ids) ∙ ap (drop n) h ∙ drop-map (λ (s : Sort). Some s) n ss
 
     abbrev old_sorts : List Sort
     old_sorts = global_sorts program ++ (take (length proc.params) (frame_sorts proc) ++ (param_sorts proc.outs ++ drop (length proc.params + length proc.outs) (frame_sorts proc)))
@@ -172,9 +143,9 @@ module _ (ns : List Node) (program : Program) (proc : Proc) (view : View) (can :
             map-append (value_at env ns) view.old_globals.now _
             ∙ ap₂ (λ (us vs : List Value). us ++ vs) (seen.old_globals.are env fits)
             (map-append (value_at env ns) (take (length proc.params) view.locals.now) _
-            ∙ ap₂ (λ (us vs : List Value). us ++ vs) (map_take (value_at env ns) (length proc.params) view.locals.now ∙ ap (take (length proc.params)) (seen.locals.are env fits))
+            ∙ ap₂ (λ (us vs : List Value). us ++ vs) (sym (take-map (value_at env ns) (length proc.params) view.locals.now) ∙ ap (take (length proc.params)) (seen.locals.are env fits))
             (map-append (value_at env ns) view.old_outs.now _
-            ∙ ap₂ (λ (us vs : List Value). us ++ vs) (seen.old_outs.are env fits) (map_drop (value_at env ns) (length proc.params + length proc.outs) view.locals.now ∙ ap (drop (length proc.params + length proc.outs)) (seen.locals.are env fits))))
+            ∙ ap₂ (λ (us vs : List Value). us ++ vs) (seen.old_outs.are env fits) (sym (drop-map (value_at env ns) (length proc.params + length proc.outs) view.locals.now) ∙ ap (drop (length proc.params + length proc.outs)) (seen.locals.are env fits))))
 
         pub note_meant : meant env ns sc ≡ seen_values program proc (s env)
         note_meant =

@@ -1,9 +1,8 @@
 -- Linear items: which of a list they are, what they carry, and what they weigh.
-use Rattle.std.specs.Prelude.{map, filter, drop, get_or, slice_get, All, IsSome, not, cond, if◌then◌else◌}
-use Rattle.std.specs.List.{list_any}
-use Rattle.std.proofs.Common.{◌≡◌, ◌∙◌, ℕ, zero, suc, ◌+◌, ◌*◌, ◌^◌, ◌<◌, ◌≤◌, Bool, true, false, ◌&&◌, List, [], ◌∷◌, ◌++◌, length, append_assoc, refl, sym, ap, ap₂, subst, arith, Option, Some, None}
-use Rattle.std.proofs.lemmas.Bool.{false≢true, not-false, and_parts, or_parts, or_from, leb-true}
-use Rattle.std.proofs.lemmas.List.{map-append, length-map, drop_more, drop_all}
+use Rattle.std.specs.Prelude.{map, filter, drop, get_or, slice_get, All, IsSome, cond, if◌then◌else◌}
+use Rattle.std.proofs.Common.{◌≡◌, ◌∙◌, ℕ, zero, suc, ◌+◌, ◌*◌, ◌^◌, ◌<◌, ◌≤◌, Bool, true, false, List, [], ◌∷◌, ◌++◌, length, append_assoc, refl, sym, ap, ap₂, subst, arith, Option, Some, None}
+use Rattle.std.proofs.lemmas.Bool.{false≢true, not-false, and_parts, or_parts, leb-true}
+use Rattle.std.proofs.lemmas.List.{map-append, length-map, drop_more, drop_all, append-nil}
 use Rattle.std.proofs.lemmas.List.Elements.{All-nil, All-cons}
 use Rattle.civl_bits.specs.declared.value.Value.{Value}
 use Rattle.civl_tree.specs.declared.expr.Sort.{Sort}
@@ -14,13 +13,14 @@ use Rattle.civl_tree.specs.declared.action.Mode.TheVariants.{Val, Lend, Take, Gi
 use Rattle.civl_tree.specs.declared.action.Param.{Param}
 use Rattle.civl_tree.specs.declared.program.Global.{Global}
 use Rattle.civl_tree.specs.declared.program.Program.{Program}
-use Rattle.civl_tree.specs.rules.Sorts.{same_sort}
 use Rattle.civl_tree.specs.rules.Count.{is_within}
 use Rattle.civl_tree.specs.rules.Width.{is_linear, param_width}
 use Rattle.civl_tree.specs.rules.Rules.{Keeps}
 use Rattle.civl_tree.specs.rules.Typing.{typing_rules, count_rule, width_rule}
 use Rattle.civl_tree.proofs.Kept.{header_kept, global_kept, action_kept, count_among, width_among}
-use Rattle.civl_firing.proofs.values.Sorting.{same_sort-true}
+use Rattle.civl_tree.proofs.Lists.{heads}
+use Rattle.civl_tree.proofs.Parts.{any_split}
+use Rattle.civl_firing.proofs.SortLimits.{linear_sort}
 use Rattle.civl_terms.specs.declared.node.Node.{Node}
 use Rattle.civl_terms.specs.Graphs.{value_at, sort_at}
 use Rattle.civl_terms.specs.Building.{Grows}
@@ -66,9 +66,6 @@ all_if : {X : Type 0} (P : X → Type 0) (b : Bool) (x : X) (xs : List X) → (b
 all_if P true x xs p h = All-cons P x xs (p refl) h
 all_if P false x xs p h = h
 
-heads : (a b : Option Sort) (os ps : List (Option Sort)) → a ∷ os ≡ b ∷ ps → (a ≡ b) × (os ≡ ps)
-heads a b os ps e = (cc, cc)
-
 -- those of the things that pass have one sort, where that is so of each thing
 pub picked_sorted : {A : Type 0} (ns : List Node) (s : Sort) (test : A → Bool) (sort_of : A → Sort) (ts : List A) (ids : List ℕ)
     → AreOf ns ids (map sort_of ts) → ((place : ℕ) (a : A) → slice_get ts place ≡ Some a → test a ≡ true → sort_of a ≡ s) → All (λ i. sort_at ns i ≡ Some s) (picked test ts ids)
@@ -85,10 +82,6 @@ sorted_long ns ids sort_of ts e = sym (length-map ids (sort_at ns)) ∙ ap lengt
 picked_none : {A B : Type 0} (test : A → Bool) (ts : List A) → picked {A = A} {B = B} test ts [] ≡ []
 picked_none test [] = refl
 picked_none test (t ∷ ts) = refl
-
-append_end : {B : Type 0} (xs : List B) → xs ++ [] ≡ xs
-append_end [] = refl
-append_end (x ∷ xs) = ap (λ t. x ∷ t) (append_end xs)
 
 -- a loop that goes over a list of terms and keeps some: one more was kept, or wasn't, or the list is at its end
 module _ {A : Type 0} (test : A → Bool) (ts : List A) (ids : List ℕ) (i : ℕ) where
@@ -110,7 +103,7 @@ module _ {A : Type 0} (test : A → Bool) (ts : List A) (ids : List ℕ) (i : �
         ap (λ l. l ++ rest) e ∙ ap (λ l. kept ++ l) (sym (picked_here ∙ ap (λ b. (if b then get_or ids i 0 ∷ [] else []) ++ rest) p)) ∙ h
 
   pub picked_end : (kept whole : List ℕ) → length ids ≤ i → kept ++ picked test (drop i ts) (drop i ids) ≡ whole → kept ≡ whole
-  picked_end kept whole l h = sym (append_end kept) ∙ ap (λ r. kept ++ r) (sym (ap (picked test (drop i ts)) (drop_all i ids l) ∙ picked_none test (drop i ts))) ∙ h
+  picked_end kept whole l h = sym (append-nil kept) ∙ ap (λ r. kept ++ r) (sym (ap (picked test (drop i ts)) (drop_all i ids l) ∙ picked_none test (drop i ts))) ∙ h
 
 -- ---- what they carry
 
@@ -171,7 +164,7 @@ items_step per s {old = old} ids i grows so_far adds sorted f h =
     (adds (λ env. f env ++ map per (values_at env old ids)) (λ env. value_at env old i) (so_far f h) (said_here grows (itself sorted)))
 
 pub items_begin : (per : Value → List ℕ) {ns : List Node} {bits : ℕ} {c : Carried} (f : Env → List (List ℕ)) → AreCarried ns bits c f → AreCarried ns bits c (λ env. f env ++ map per (values_at env ns []))
-items_begin per {ns = ns} f h = carried_as f (λ env. f env ++ map per (values_at env ns [])) (λ env fits. sym (append_end (f env))) h
+items_begin per {ns = ns} f h = carried_as f (λ env. f env ++ map per (values_at env ns [])) (λ env fits. sym (append-nil (f env))) h
 
 -- ---- what they weigh
 
@@ -222,13 +215,6 @@ first_weighs bits n = let same : 0 + n ≡ n = omega arith in ap (items_weight b
 
 -- ---- what a checked program keeps
 
-any_append : {A : Type 0} (p : A → Bool) (xs ys : List A) → list_any p (xs ++ ys) ≡ false → (list_any p xs ≡ false) × (list_any p ys ≡ false)
-any_append p [] ys e = (refl, e)
-any_append p (x ∷ xs) ys e =
-    let o = or_parts (p x) (list_any p (xs ++ ys)) e in
-    let r = any_append p xs ys o.1 in
-    (or_from (p x) (list_any p xs) o.0 r.0, r.1)
-
 pub same_some : {A : Type 0} (o : Option A) (a b : A) → o ≡ Some a → o ≡ Some b → a ≡ b
 same_some o a b p q = cc
 
@@ -244,17 +230,13 @@ module _ (program : Program) (keeps : Keeps typing_rules program) where
   pub permissions_few : program.permissions ≤ 5
   permissions_few = leb-true program.permissions 5 (and_parts _ _ permissions_within).1
 
-  linear_sort : (b : Bool) (t s : Sort) → (b && not (same_sort t s)) ≡ false → b ≡ true → t ≡ s
-  linear_sort true t s e p = same_sort-true t s (not-false (same_sort t s) e)
-  linear_sort false t s e p = absurd (false≢true p)
-
   pub global_sorted : (place : ℕ) (g : Global) → slice_get program.globals place ≡ Some g → g.linear ≡ true → g.sort ≡ Word (2 ^ program.permissions)
   global_sorted place g at p =
       linear_sort g.linear g.sort (Word (2 ^ program.permissions)) (or_parts _ _ (global_kept typing_rules program keeps width_rule width_among place g at)).1 p
 
   -- the parameters and the outputs of an action
   pub action_wide : (place : ℕ) (a : Action) → slice_get program.actions place ≡ Some a → HaveWidths program a.params × HaveWidths program a.outs
-  action_wide place a at = any_append (param_width program) a.params a.outs (or_parts _ _ (action_kept typing_rules program keeps width_rule width_among place a at)).0
+  action_wide place a at = any_split (param_width program) a.params a.outs (or_parts _ _ (action_kept typing_rules program keeps width_rule width_among place a at)).0
 
   which_linear : (which : Which) (mode : Mode) → is_which which mode ≡ true → is_linear mode ≡ true
   which_linear Linear mode e = e

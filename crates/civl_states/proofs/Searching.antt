@@ -3,10 +3,11 @@ use Rattle.std.specs.Prelude.{map, slice_index, get_or, nat_eq, if◌then◌else
 use Rattle.std.proofs.lemmas.Bool.{cases_lt}
 use Rattle.std.specs.List.Sorted.{IsStrictlyIncreasing, IsSearchInRange, IsBinarySearchResult}
 use Rattle.std.specs.Ordering.{nat_cmp, ordering_index}
-use Rattle.std.proofs.Common.{◌≡◌, ◌∙◌, ℕ, zero, suc, ◌+◌, ◌≤◌, ◌<◌, Bool, true, false, List, [], ◌∷◌, length, refl, sym, subst, arith, add-one, Result, Ok, Err, inl, inr}
+use Rattle.std.proofs.Common.{◌≡◌, ◌∙◌, ℕ, zero, suc, ◌+◌, ◌≤◌, ◌<◌, Bool, true, false, List, [], ◌∷◌, length, refl, sym, arith, Result, Ok, Err, inl, inr}
 use Rattle.std.proofs.lemmas.Bool.{false≢true, eq-eqb, eqb-true}
 use Rattle.std.proofs.lemmas.Bool.Decides.{nat_tests}
 use Rattle.std.proofs.lemmas.Cmp.{ranked}
+use Rattle.civl_tree.proofs.Lists.{rises_tail}
 use Rattle.civl_states.specs.declared.choices.Chosen.{Chosen}
 use Rattle.civl_states.specs.Beginnings.{chosen_at}
 
@@ -18,15 +19,10 @@ Rising low (c ∷ cs) = (low ≤ c.statement) × Rising (c.statement + 1) cs
 abbrev numbers : List Chosen → List ℕ
 numbers cs = map (λ c. c.statement) cs
 
-tail_rises : (x : ℕ) (xs : List ℕ) → IsStrictlyIncreasing (x ∷ xs) → IsStrictlyIncreasing xs
-tail_rises x xs h k l =
-    let more = h (suc k) (omega (arith, l)) in
-    subst (λ n. slice_index xs k < slice_index xs n) (sym (add-one k)) (subst (λ n. slice_index xs k < slice_index (x ∷ xs) n) (add-one (suc k)) more)
-
 rises : (low : ℕ) (cs : List Chosen) → IsStrictlyIncreasing (numbers cs) → (0 < length cs → low ≤ slice_index (numbers cs) 0) → Rising low cs
 rises low [] h first = tt
 rises low (c ∷ []) h first = (first (omega arith), tt)
-rises low (c ∷ (d ∷ ds)) h first = (first (omega arith), rises (c.statement + 1) (d ∷ ds) (tail_rises c.statement (numbers (d ∷ ds)) h) (λ l. let x = h 0 (omega arith) in omega (arith, x)))
+rises low (c ∷ (d ∷ ds)) h first = (first (omega arith), rises (c.statement + 1) (d ∷ ds) (rises_tail c.statement (numbers (d ∷ ds)) h) (λ l. let x = h 0 (omega arith) in omega (arith, x)))
 
 at_least : (low : ℕ) (cs : List Chosen) (i : ℕ) (d : Chosen) → Rising low cs → i < length cs → low ≤ (get_or cs i d).statement
 at_least low [] i d r l = absurd (omega arith)

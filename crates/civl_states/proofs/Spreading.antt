@@ -6,6 +6,7 @@ use Rattle.std.proofs.lemmas.List.Elements.{All-nil, All-cons, All-get_or}
 use Rattle.civl_bits.specs.declared.value.Value.{Value}
 use Rattle.civl_tree.specs.declared.expr.Sort.{Sort}
 use Rattle.civl_tree.specs.declared.program.Global.{Global}
+use Rattle.civl_tree.proofs.Lists.{heads}
 use Rattle.civl_firing.specs.values.Values.{zero_of, is_sort, sort_of_value}
 use Rattle.civl_firing.proofs.values.Zeros.{zeros_have_their_sorts}
 use Rattle.civl_terms.specs.declared.node.Node.{Node}
@@ -18,9 +19,6 @@ use Rattle.civl_actions.proofs.Staying.{sorted_within, are_stay, values_stay}
 use Rattle.civl_conditions.specs.Values.{spread}
 use Rattle.civl_states.specs.formula_parts.Said.{Env}
 use Rattle.civl_states.specs.formula_parts.Lists.{AreSaid}
-
-heads : (a b : Option Sort) (os ps : List (Option Sort)) → a ∷ os ≡ b ∷ ps → (a ≡ b) × (os ≡ ps)
-heads a b os ps e = (cc, cc)
 
 -- ---- one global
 

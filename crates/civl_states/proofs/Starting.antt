@@ -64,10 +64,6 @@ use Rattle.civl_states.proofs.Laying.{inner_long}
 abbrev pub sorts_of : List Variable → List Sort
 sorts_of vs = map (λ v. v.sort) vs
 
-map_twice : {A B C : Type 0} (f : B → C) (g : A → B) (xs : List A) → map f (map g xs) ≡ map (λ x. f (g x)) xs
-map_twice f g [] = refl
-map_twice f g (x ∷ xs) = ap (λ ys. f (g x) ∷ ys) (map_twice f g xs)
-
 sorts_has : (b : Bool) (vs : List Variable) → sorts_of (where_has b vs) ≡ sorts_where b (sorts_of vs)
 sorts_has true vs = refl
 sorts_has false vs = refl
@@ -145,7 +141,7 @@ path_bits program step proc cut =
 
 -- ---- where they stand
 
-where_long : (b : Bool) (ss : List Sort) (n : ℕ) → length ss ≡ n → length (sorts_where b ss) ≡ where_so b n
+pub where_long : (b : Bool) (ss : List Sort) (n : ℕ) → length ss ≡ n → length (sorts_where b ss) ≡ where_so b n
 where_long true ss n e = e
 where_long false ss n e = refl
 

@@ -1,9 +1,10 @@
 -- The invariants of a step, one after another.
 use Rattle.std.specs.Prelude.{map, filter, take, nat_eq, if◌then◌else◌}
 use Rattle.std.specs.List.{list_all}
-use Rattle.std.proofs.Common.{◌≡◌, ◌∙◌, ℕ, ◌+◌, ◌*◌, ◌≤◌, ◌<◌, Bool, true, false, ◌&&◌, List, [], ◌∷◌, ◌++◌, length, get_or, Some, refl, sym, ap, arith}
-use Rattle.std.proofs.lemmas.List.{take_more, map-append}
+use Rattle.std.proofs.Common.{◌≡◌, ◌∙◌, ℕ, ◌+◌, ◌*◌, ◌≤◌, ◌<◌, Bool, true, false, ◌&&◌, List, [], ◌∷◌, ◌++◌, length, get_or, Some, sym, ap, arith}
+use Rattle.std.proofs.lemmas.List.{take_more, map-append, append-nil}
 use Rattle.std.proofs.lemmas.List.Elements.{filter-append}
+use Rattle.std.proofs.Math.Bool.{and-true, and_assoc}
 use Rattle.civl_tree.specs.declared.expr.Expr.{Expr}
 use Rattle.civl_tree.specs.declared.program.Invariant.{Invariant}
 use Rattle.civl_tree.specs.declared.program.Program.{Program}
@@ -32,10 +33,6 @@ kept_one : (step : ℕ) (i : Invariant) (b : Bool) → nat_eq i.step step ≡ b 
 kept_one step i true e = ap (λ b. map (λ (j : Invariant). j.expr) (if b then i ∷ [] else [])) e
 kept_one step i false e = ap (λ b. map (λ (j : Invariant). j.expr) (if b then i ∷ [] else [])) e
 
-append_end : {A : Type 0} (xs : List A) → xs ++ [] ≡ xs
-append_end [] = refl
-append_end (x ∷ xs) = ap (λ ys. x ∷ ys) (append_end xs)
-
 module _ (step : ℕ) (is : List Invariant) (k : ℕ) (i : Invariant) (below : k < length is) (here : i ≡ get_or is k i) where
   pub step_more : nat_eq i.step step ≡ true → of_step step (take (k + 1) is) ≡ of_step step (take k is) ++ i.expr ∷ []
   step_more e =
@@ -45,18 +42,10 @@ module _ (step : ℕ) (is : List Invariant) (k : ℕ) (i : Invariant) (below : k
   pub step_same : nat_eq i.step step ≡ false → of_step step (take (k + 1) is) ≡ of_step step (take k is)
   step_same e =
       ap (of_step step) (take_more is k i below ∙ ap (λ (j : Invariant). take k is ++ j ∷ []) (sym here))
-      ∙ one_more step (take k is) i ∙ ap (λ es. of_step step (take k is) ++ es) (kept_one step i false e) ∙ append_end (of_step step (take k is))
-
-and_true : (a : Bool) → (a && true) ≡ a
-and_true true = refl
-and_true false = refl
-
-and_assoc : (a b c : Bool) → ((a && b) && c) ≡ (a && (b && c))
-and_assoc true b c = refl
-and_assoc false b c = refl
+      ∙ one_more step (take k is) i ∙ ap (λ es. of_step step (take k is) ++ es) (kept_one step i false e) ∙ append-nil (of_step step (take k is))
 
 pub all_last : {A : Type 0} (p : A → Bool) (xs : List A) (x : A) → (list_all p xs && p x) ≡ list_all p (xs ++ x ∷ [])
-all_last p [] x = sym (and_true (p x))
+all_last p [] x = sym (and-true (p x))
 all_last p (y ∷ ys) x = and_assoc (p y) (list_all p ys) (p x) ∙ ap (λ b. p y && b) (all_last p ys x)
 
 pub weights_last : (f : Expr → ℕ) (es : List Expr) (e : Expr) → weights_of f (es ++ e ∷ []) ≡ weights_of f es + f e

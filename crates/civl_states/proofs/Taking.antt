@@ -1,6 +1,6 @@
 -- Stores and actions of the first so many variables.
-use Rattle.std.specs.Prelude.{filter, slice_get}
-use Rattle.std.proofs.Common.{◌≡◌, ◌∙◌, ℕ, zero, suc, ◌+◌, ◌≤◌, ◌<◌, ◌++◌, Bool, List, [], ◌∷◌, length, refl, sym, ap, ap₂, subst, arith, Some}
+use Rattle.std.specs.Prelude.{filter}
+use Rattle.std.proofs.Common.{◌≡◌, ◌∙◌, ℕ, ◌+◌, ◌≤◌, ◌++◌, Bool, List, [], length, sym, ap, ap₂, subst, arith}
 use Rattle.civl_bits.specs.declared.value.Value.{Value}
 use Rattle.civl_tree.specs.declared.expr.Sort.{Sort}
 use Rattle.civl_tree.specs.declared.action.Action.{Action}
@@ -14,16 +14,10 @@ use Rattle.civl_states.specs.formula_parts.Given.{given}
 use Rattle.civl_states.specs.Existing.{passes, existing_sorts}
 use Rattle.civl_states.specs.declared.stores.Existing.{Existing}
 use Rattle.civl_states.specs.Groups.{StandFrom}
-use Rattle.std.proofs.lemmas.List.{length-map, length-append}
+use Rattle.std.proofs.lemmas.List.{length-map, length-append, append-nil}
 use Rattle.civl_states.proofs.Given.{part_given, spread_taken, stand_first, stand_past}
 use Rattle.civl_states.proofs.Limits.{AreSorts, sorts_append}
 use Rattle.civl_states.proofs.Variables.{existing_few, existing_are}
-
--- what stands at a place of a list
-pub there : {A : Type 0} (xs : List A) (n : ℕ) → n < length xs → (a : A) × (slice_get xs n ≡ Some a)
-there [] n l = absurd (omega (arith, l))
-there (x ∷ xs) zero l = (x, refl)
-there (x ∷ xs) (suc n) l = let r = there xs n (omega (arith, l)) in (r.0, r.1)
 
 -- ---- values
 
@@ -50,14 +44,10 @@ module _ (program : Program) (keeps : Keeps typing_rules program) (which : Exist
 
   pub tail_stand : (n : ℕ) → n ≡ count_of (passes which) program → StandFrom sorts n tail
   tail_stand n same =
-      let whole : StandFrom sorts 0 (existing_sorts which program ++ tail) = record { rest = []; within = omega arith; is = e ∙ sym (append_end (existing_sorts which program ++ tail)) } in
+      let whole : StandFrom sorts 0 (existing_sorts which program ++ tail) = record { rest = []; within = omega arith; is = e ∙ sym (append-nil (existing_sorts which program ++ tail)) } in
       let here : 0 + n ≡ n = omega arith in
       subst (λ k. StandFrom sorts k tail) here
       (stand_past sorts 0 (existing_sorts which program) tail n (length-map (filter (passes which) program.globals) (λ g. g.sort) ∙ sym same) whole)
-    where
-      append_end : {A : Type 0} (xs : List A) → xs ++ [] ≡ xs
-      append_end [] = refl
-      append_end (x ∷ xs) = ap (λ ys. x ∷ ys) (append_end xs)
 
   pub whole_long : length sorts ≡ count_of (passes which) program + length tail
   whole_long = ap length e ∙ length-append (existing_sorts which program) tail ∙ ap (λ k. k + length tail) (length-map (filter (passes which) program.globals) (λ g. g.sort))

@@ -1,7 +1,7 @@
 -- What the rules say of expressions: that they are typed, and which sorts they have.
 use Rattle.std.specs.Prelude.{slice_get, IsSome}
-use Rattle.std.proofs.Common.{◌≡◌, ℕ, zero, suc, true, false, List, [], ◌∷◌, refl, sym, ap, subst, Option, Some, None}
-use Rattle.std.proofs.lemmas.Bool.{false≢true, not-false, or_parts}
+use Rattle.std.proofs.Common.{◌≡◌, ℕ, zero, suc, true, false, List, [], ◌∷◌, refl, sym, subst, Option, Some}
+use Rattle.std.proofs.lemmas.Bool.{not-false, or_parts}
 use Rattle.civl_tree.specs.declared.expr.Expr.{Expr}
 use Rattle.civl_tree.specs.declared.expr.Sort.{Sort}
 use Rattle.civl_tree.specs.declared.expr.Sort.TheVariants.{Bool as Truth}
@@ -17,12 +17,8 @@ use Rattle.civl_tree.specs.rules.Index.{any_index}
 use Rattle.civl_tree.specs.rules.Rules.{Keeps}
 use Rattle.civl_tree.specs.rules.Typing.{typing_rules, sort_rule, width_rule, index_rule}
 use Rattle.civl_tree.proofs.Kept.{init_kept, invariant_kept, sort_among, width_among, index_among}
-use Rattle.civl_firing.proofs.values.Sorting.{same_sort-true}
+use Rattle.civl_firing.proofs.Serving.{served_only}
 use Rattle.civl_states.specs.Notes.{HasType}
-
-only_sort : (o : Option Sort) (s : Sort) → serves o (Only s) ≡ true → o ≡ Some s
-only_sort None s e = absurd (false≢true e)
-only_sort (Some t) s e = ap (λ (r : Sort). Some r) (same_sort-true t s e)
 
 some_sort : (o : Option Sort) (s : Sort) → o ≡ Some s → IsSome o
 some_sort o s e = subst (λ (p : Option Sort). IsSome p) (sym e) refl
@@ -30,7 +26,7 @@ some_sort o s e = subst (λ (p : Option Sort). IsSome p) (sym e) refl
 -- an expression that serves where this sort is needed
 pub type_from : (scope : Scope) (e : Expr) (s : Sort) → serves (sort_of scope e) (Only s) ≡ true → widths_fit scope e ≡ true → indices_fit e ≡ true → HasType scope e s
 type_from scope e s p q r =
-    let sorted = only_sort (sort_of scope e) s p in
+    let sorted = served_only (sort_of scope e) s p in
     record { typed = record { sorted = some_sort (sort_of scope e) s sorted; widths = q; indices = r }; sorted = sorted }
 
 -- a bool, the first of the expressions that are used

@@ -4,6 +4,7 @@ use Rattle.std.specs.Option.{option_map_or}
 use Rattle.std.proofs.Common.{◌≡◌, ◌∙◌, ℕ, suc, ◌+◌, ◌-◌, ◌≤◌, Bool, true, false, List, [], ◌∷◌, ◌++◌, length, refl, ap, ap₂, arith, Option, Some}
 use Rattle.std.proofs.lemmas.List.{length-map, length-append, map-append}
 use Rattle.std.proofs.lemmas.List.Elements.{All-filter, All-map}
+use mathlib.Core.List.{map-map}
 use Rattle.civl_tree.specs.declared.expr.Sort.{Sort}
 use Rattle.civl_tree.specs.declared.action.Action.{Action}
 use Rattle.civl_tree.specs.declared.program.Global.{Global}
@@ -32,21 +33,17 @@ use Rattle.civl_states.proofs.Weighing.{bits_some}
 
 -- ---- variables of one kind
 
-map_twice : {A B C : Type 0} (f : B → C) (g : A → B) (xs : List A) → map f (map g xs) ≡ map (λ x. f (g x)) xs
-map_twice f g [] = refl
-map_twice f g (x ∷ xs) = ap (λ ys. f (g x) ∷ ys) (map_twice f g xs)
-
 abbrev sort_of_variable : Variable → Sort
 sort_of_variable v = v.sort
 
 pub globals_named : (front : List ℕ) (gs : List Global) → map (λ v. v.sort) (of_globals front gs) ≡ map (λ g. g.sort) gs
-globals_named front gs = map_twice sort_of_variable _ gs
+globals_named front gs = map-map sort_of_variable _ gs
 
 pub instance_named : (front : List ℕ) (a : Action) → map (λ v. v.sort) (of_instance front a) ≡ instance_sorts a
-instance_named front a = map-append sort_of_variable (of_params front a.params) (of_choices front a.choices) ∙ ap₂ (λ (s t : List Sort). s ++ t) (map_twice sort_of_variable _ a.params) (map_twice sort_of_variable _ a.choices)
+instance_named front a = map-append sort_of_variable (of_params front a.params) (of_choices front a.choices) ∙ ap₂ (λ (s t : List Sort). s ++ t) (map-map sort_of_variable _ a.params) (map-map sort_of_variable _ a.choices)
 
 pub params_named : (front : List ℕ) (a : Action) → map (λ v. v.sort) (of_params front a.params) ≡ param_sorts a
-params_named front a = map_twice sort_of_variable _ a.params
+params_named front a = map-map sort_of_variable _ a.params
 
 -- what is said of the action that is there
 pub there_is : {A B : Type 0} (o : Option A) (a : A) (none : B) (f : A → B) → o ≡ Some a → option_map_or f o none ≡ f a

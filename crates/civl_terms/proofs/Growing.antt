@@ -7,6 +7,7 @@ use Rattle.std.proofs.lemmas.List.{take_all, map-append, length-map, get_or-map}
 use Rattle.std.proofs.lemmas.Option.{slice_get_within}
 use Rattle.civl_bits.specs.declared.value.Value.{Value}
 use Rattle.civl_tree.specs.declared.expr.Sort.{Sort}
+use Rattle.civl_tree.proofs.Lists.{get_front}
 use Rattle.civl_terms.specs.declared.node.Node.{Node}
 use Rattle.civl_terms.specs.declared.node.Node.TheVariants.{Constant, Variable, One as Once, Two as Twice, Pick, Get, Set, Fill, Slice, Widen, Join}
 use Rattle.civl_terms.specs.Graphs.{PartsBelow, node_value, values, value_at, node_sort, sorts, sort_at, InLimits, IsFree, VariablesFit, IsGraph, HoldsGraph, Fits}
@@ -14,7 +15,7 @@ use Rattle.civl_terms.specs.Weights.{node_weight, graph_weight}
 use Rattle.civl_terms.specs.Building.{Lengthens, Grows, Numbers, Built}
 use Rattle.civl_terms.proofs.Along.{along-push}
 use Rattle.civl_terms.proofs.Nodes.{get_slice, values_begin, sorts_begin, value_last, sort_last, value_of_node, sort_of_node, length-sorts}
-use Rattle.civl_terms.proofs.Places.{slice_front, slice_either}
+use Rattle.civl_terms.proofs.Places.{slice_either}
 use Rattle.civl_terms.proofs.Soundness.{number_same}
 use Rattle.civl_terms.proofs.Weighing.{weight_push}
 
@@ -53,7 +54,7 @@ lengthens_push ns n = record {
   stay = take-append_seam ns (n ∷ []);
   values = λ env i l. values_begin env ns (n ∷ []) i l;
   sorts = λ i l. sorts_begin ns (n ∷ []) i l;
-  fits = λ env f i k s e. f i k s (slice_front ns (n ∷ []) i (Variable k s) e);
+  fits = λ env f i k s e. f i k s (get_front ns (n ∷ []) i (Variable k s) e);
 }
 
 pub lengthens_kept : (old new : List Node) → new ≡ old → Lengthens old new

@@ -22,7 +22,7 @@ use Rattle.civl_terms.proofs.Soundness.{VariableFits, node_fits, given_below}
 use Rattle.civl_terms.proofs.Answering.{Operation, known_at, same_at, value_fits, sort_there}
 
 -- the sort of an operation that has one
-the_sort : (o : Option Sort) → IsSome o → (s : Sort) × (o ≡ Some s)
+pub the_sort : (o : Option Sort) → IsSome o → (s : Sort) × (o ≡ Some s)
 the_sort None e = absurd (false≢true e)
 the_sort (Some s) e = (s, refl)
 

@@ -4,22 +4,13 @@ use Rattle.std.proofs.Common.{◌≡◌, ◌∙◌, ◌⊎◌, ℕ, List, [], �
 use Rattle.std.proofs.Math.ListN.{get_or-append}
 use Rattle.std.proofs.Math.Seq.{get_or-append_seam}
 use Rattle.std.proofs.lemmas.Bool.{cases_lt}
-use Rattle.std.proofs.lemmas.Option.{get_or_from_slice_get, slice_get_within, slice_get-get_or}
+use Rattle.std.proofs.lemmas.Option.{get_or_from_slice_get, slice_get_within, slice_get-get_or, same_Some}
 
 module _ {X : Type 0} where
-  pub slice_front : (xs ys : List X) (i : ℕ) (x : X) → slice_get xs i ≡ Some x → slice_get (xs ++ ys) i ≡ Some x
-  slice_front xs ys i x e =
-      let l = slice_get_within xs i x e in
-      slice_get-get_or (xs ++ ys) i x (omega (arith, l, length-append xs ys))
-      ∙ ap (λ (y : X). Some y) (get_or-append xs ys x i l ∙ get_or_from_slice_get xs i x x e)
-
   pub slice_last : (xs : List X) (x : X) → slice_get (xs ++ x ∷ []) (length xs) ≡ Some x
   slice_last xs x =
       slice_get-get_or (xs ++ x ∷ []) (length xs) x (omega (arith, length-append xs (x ∷ [])))
       ∙ ap (λ (y : X). Some y) (get_or-append_seam xs x [] x)
-
-  same : (x y : X) → Some x ≡ Some y → x ≡ y
-  same x y e = cc
 
   -- it is one of the first, or the last
   pub slice_either : (xs : List X) (x y : X) (i : ℕ) → slice_get (xs ++ x ∷ []) i ≡ Some y → (slice_get xs i ≡ Some y) ⊎ ((i ≡ length xs) × (x ≡ y))
@@ -27,5 +18,5 @@ module _ {X : Type 0} where
     | inl l ↦ inl (slice_get-get_or xs i y l ∙ ap (λ (z : X). Some z) (sym (get_or-append xs (x ∷ []) y i l) ∙ get_or_from_slice_get (xs ++ x ∷ []) i y y e))
     | inr g ↦
         let k : i ≡ length xs = omega (arith, slice_get_within (xs ++ x ∷ []) i y e, length-append xs (x ∷ [])) in
-        inr (k, same x y (sym (slice_last xs x) ∙ sym (ap (slice_get (xs ++ x ∷ [])) k) ∙ e))
+        inr (k, same_Some x y (sym (slice_last xs x) ∙ sym (ap (slice_get (xs ++ x ∷ [])) k) ∙ e))
   ]

@@ -1,8 +1,8 @@
 -- Each node of a graph has a value of its sort, where the variables have.
 use Rattle.std.specs.Prelude.{slice_get, nat_eq, if◌then◌else◌}
 use Rattle.std.proofs.Common.{◌≡◌, ◌∙◌, ◌⊎◌, ℕ, zero, suc, ◌<◌, ◌≤◌, Bool, true, false, List, [], ◌∷◌, length, get_or, refl, sym, ap, ap₂, subst, arith, Option, Some, None, inl, inr}
-use Rattle.std.proofs.lemmas.Option.{slice_get-get_or}
-use Rattle.std.proofs.lemmas.Bool.{cases_lt, eqb-true, eq-eqb, le-leb, false≢true}
+use Rattle.std.proofs.lemmas.Option.{slice_get-get_or, none-some, same_Some}
+use Rattle.std.proofs.lemmas.Bool.{cases_lt, eqb-true, eq-eqb, le-leb, false≢true, and_parts}
 use Rattle.std.proofs.Math.ListN.{get_or-eq_default}
 use Rattle.civl_bits.specs.Word.{IsWord}
 use Rattle.civl_bits.specs.Row.{Cells, IsRow}
@@ -15,7 +15,7 @@ use Rattle.civl_firing.specs.values.Operators.{nothing}
 use Rattle.civl_tree.specs.rules.Exprs.{is_width}
 use Rattle.civl_firing.specs.values.Values.{HasSort, is_sort, zero_of, sort_of_value}
 use Rattle.civl_firing.proofs.values.Zeros.{zeros_have_their_sorts}
-use Rattle.civl_firing.proofs.values.Sorting.{both, Given, word_of, row_of, one_fits, two_fits, pick_fits, get_fits, set_fits, fill_fits, slice_has_sort, widen_has_sort, join_has_sort}
+use Rattle.civl_firing.proofs.values.Sorting.{Given, word_of, row_of, one_fits, two_fits, pick_fits, get_fits, set_fits, fill_fits, slice_has_sort, widen_has_sort, join_has_sort}
 use Rattle.civl_terms.specs.declared.node.Node.{Node}
 use Rattle.civl_terms.specs.declared.node.Node.TheVariants.{Constant, Variable, One as Once, Two as Twice, Pick, Get, Set, Fill, Slice, Widen, Join}
 use Rattle.civl_terms.specs.Graphs.{PartsBelow, node_value, values, value_in, value_at, node_sort, sorts, sort_in, sort_at, InLimits, IsFree, IsGraph, Fits, NodesHaveTheirSorts}
@@ -38,7 +38,7 @@ sort_is (value.Word a) (sort.Row i w) h = absurd (false≢true h.1)
 sort_is (value.Row r) sort.Bool h = absurd (false≢true h.1)
 sort_is (value.Row r) (sort.Word w) h = absurd (false≢true h.1)
 sort_is (value.Row r) (sort.Row i w) h =
-    let b = both (nat_eq r.index i) (nat_eq r.width w) h.1 in
+    let b = and_parts (nat_eq r.index i) (nat_eq r.width w) h.1 in
     ap₂ (λ (m n : ℕ). sort.Row m n) (eqb-true r.index i b.0) (eqb-true r.width w b.1)
 
 pub one_sort_each : (v : Value) (s t : Sort) → HasSort v s → HasSort v t → s ≡ t
@@ -87,12 +87,9 @@ pub given_below : (ns : List Node) → IsGraph ns → (env : ℕ → Value) → 
 given_below ns graph env fits zero i l = absurd (omega arith)
 given_below ns graph env fits (suc k) i l = elim (cases_lt i (length ns)) [
   | inl h ↦ at (get_or ns i (Constant nothing)) (slice_get-get_or ns i (Constant nothing) h) (λ j m. given_below ns graph env fits k j (omega arith))
-  | inr h ↦ λ t e. absurd (none t (sym (get_or-eq_default (sorts ns) None (past h)) ∙ e))
+  | inr h ↦ λ t e. absurd (none-some t (sym (get_or-eq_default (sorts ns) None (past h)) ∙ e))
 ]
   where
-    none : (t : Sort) → None ≡ Some t → ⊥
-    none t e = absurd (cc)
-
     past : length ns ≤ i → length (sorts ns) ≤ i
     past h = omega (arith, length-sorts ns)
 
@@ -143,10 +140,7 @@ here (Join a b) k s rest u e = elim e [ inl r ↦ r | inr r ↦ absurd (cc) ]
 
 zeros_are : (ns : List Node) (k : ℕ) (s : Sort) (i : ℕ) → slice_get ns i ≡ Some (Variable k s) → IsFree ns k s → zeros ns k ≡ zero_of s
 zeros_are [] k s i e u = absurd (cc)
-zeros_are (n ∷ ns) k s zero e u = here n k s (zeros ns k) (λ t q. u 0 t (ap (λ (x : Node). Some x) q)) (inr (same n (Variable k s) e))
-  where
-    same : (x y : Node) → Some x ≡ Some y → x ≡ y
-    same x y q = cc
+zeros_are (n ∷ ns) k s zero e u = here n k s (zeros ns k) (λ t q. u 0 t (ap (λ (x : Node). Some x) q)) (inr (same_Some n (Variable k s) e))
 zeros_are (n ∷ ns) k s (suc i) e u = here n k s (zeros ns k) (λ t q. u 0 t (ap (λ (x : Node). Some x) q)) (inl (zeros_are ns k s i e (λ j t q. u (suc j) t q)))
 
 pub zeros_fit : (ns : List Node) → IsGraph ns → Fits (zeros ns) ns

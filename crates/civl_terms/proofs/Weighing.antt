@@ -2,13 +2,14 @@
 use Rattle.std.specs.Prelude.{slice_get, nat_eq, if◌then◌else◌}
 use Rattle.std.proofs.Common.{◌≡◌, ◌∙◌, ℕ, zero, suc, ◌+◌, ◌-◌, ◌<◌, ◌≤◌, Bool, true, false, List, [], ◌∷◌, ◌++◌, length, get_or, refl, sym, ap, ap₂, subst, arith, Some, length-append}
 use Rattle.std.proofs.lemmas.Option.{slice_get-get_or}
+use Rattle.civl_tree.proofs.Lists.{get_front}
 use Rattle.civl_firing.specs.values.Operators.{nothing}
 use Rattle.civl_terms.specs.declared.node.Node.{Node}
 use Rattle.civl_terms.specs.declared.node.Node.TheVariants.{Constant}
 use Rattle.civl_terms.specs.Graphs.{PartsBelow, sorts, IsGraph}
 use Rattle.civl_terms.specs.Weights.{node_weight, weight_in, own_weight, first_weight, graph_weight, with_parts, reached_weight, term_weight, TermsWeighLess}
 use Rattle.civl_terms.proofs.Nodes.{node_weight-same, sorts_begin}
-use Rattle.civl_terms.proofs.Places.{slice_front, slice_last}
+use Rattle.civl_terms.proofs.Places.{slice_last}
 
 -- ---- the graph
 
@@ -16,7 +17,7 @@ own_begins : (ns : List Node) → IsGraph ns → (n : Node) (i : ℕ) → i < le
 own_begins ns graph n i h =
     let m = get_or ns i (Constant nothing) in
     let e : slice_get ns i ≡ Some m = slice_get-get_or ns i (Constant nothing) h in
-    ap (weight_in (ns ++ n ∷ [])) (slice_front ns (n ∷ []) i m e)
+    ap (weight_in (ns ++ n ∷ [])) (get_front ns (n ∷ []) i m e)
     ∙ node_weight-same (sorts (ns ++ n ∷ [])) (sorts ns) i m (graph.parts i m e) (λ j l. sorts_begin ns (n ∷ []) j (omega arith))
     ∙ sym (ap (weight_in ns) e)
 

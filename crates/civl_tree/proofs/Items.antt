@@ -1,7 +1,7 @@
 -- The number of an item is its place in text order.
 use Rattle.std.proofs.Common.{◌≡◌, ℕ, zero, suc, ◌+◌, List, [], ◌∷◌, ◌++◌, map, length, Some, refl, sym, ap, ◌∙◌, subst, arith}
 use Rattle.std.proofs.lemmas.List.{append_assoc, length-append, length-map}
-use Rattle.std.proofs.lemmas.Option.{slice_get-map, none-some}
+use Rattle.std.proofs.lemmas.Option.{slice_get-map}
 use Rattle.std.specs.Prelude.{slice_get}
 use Rattle.std.specs.Option.{option_map}
 use Rattle.civl_tree.specs.Token.{Token}
@@ -9,6 +9,7 @@ use Rattle.civl_tree.specs.Spelling.{joined}
 use Rattle.civl_tree.specs.SpellingProgram.{spell_global, spell_init, spell_invariant, spell_action, spell_proc}
 use Rattle.civl_tree.specs.Numbering.{Item, OfGlobal, OfInit, OfInvariant, OfAction, OfProc, OfThread}
 use Rattle.civl_tree.specs.SpellingLaws.{spell_item, spell_header, ItemsAreInTextOrder, ItemsAreNumbered}
+use Rattle.civl_tree.proofs.Lists.{get_front}
 
 -- ---- the text
 
@@ -43,11 +44,6 @@ behind [] ys place n y h e = let same : place ≡ n = omega (arith, e) in subst 
 behind (x ∷ xs) ys place zero y h e = absurd (omega (arith, e))
 behind (x ∷ xs) ys place (suc n) y h e = behind xs ys place n y h (omega (arith, e))
 
-within : {X : Type 0} (xs ys : List X) (n : ℕ) (x : X) → slice_get xs n ≡ Some x → slice_get (xs ++ ys) n ≡ Some x
-within [] ys n x h = absurd (none-some x h)
-within (z ∷ xs) ys zero x h = h
-within (z ∷ xs) ys (suc n) x h = within xs ys n x h
-
 of_kind : {X : Type 0} (kind : X → Item) (xs : List X) (n : ℕ) (x : X) → slice_get xs n ≡ Some x → slice_get (map kind xs) n ≡ Some (kind x)
 of_kind kind xs n x h = slice_get-map kind xs n ∙ ap (option_map kind) h
 
@@ -69,14 +65,14 @@ items_are_numbered p place =
     let i = length p.invariants in
     let a = length p.actions in
     let r = length p.procs in (
-      λ x h. within (map OfGlobal p.globals) init place (OfGlobal x) (of_kind OfGlobal p.globals place x h),
+      λ x h. get_front (map OfGlobal p.globals) init place (OfGlobal x) (of_kind OfGlobal p.globals place x h),
       past OfGlobal p.globals init 0 g (OfInit p.init) refl (omega arith),
-      λ x h. past OfGlobal p.globals init (suc place) (g + 1 + place) (OfInvariant x) (within (map OfInvariant p.invariants) actions place (OfInvariant x) (of_kind OfInvariant p.invariants place x h)) (omega arith),
+      λ x h. past OfGlobal p.globals init (suc place) (g + 1 + place) (OfInvariant x) (get_front (map OfInvariant p.invariants) actions place (OfInvariant x) (of_kind OfInvariant p.invariants place x h)) (omega arith),
       λ x h. past OfGlobal p.globals init (suc (i + place)) (g + 1 + i + place) (OfAction x)
-          (past OfInvariant p.invariants actions place (i + place) (OfAction x) (within (map OfAction p.actions) procs place (OfAction x) (of_kind OfAction p.actions place x h)) refl) (omega arith),
+          (past OfInvariant p.invariants actions place (i + place) (OfAction x) (get_front (map OfAction p.actions) procs place (OfAction x) (of_kind OfAction p.actions place x h)) refl) (omega arith),
       λ x h. past OfGlobal p.globals init (suc (i + (a + place))) (g + 1 + i + a + place) (OfProc x)
           (past OfInvariant p.invariants actions (a + place) (i + (a + place)) (OfProc x)
-          (past OfAction p.actions procs place (a + place) (OfProc x) (within (map OfProc p.procs) threads place (OfProc x) (of_kind OfProc p.procs place x h)) refl) refl) (omega arith),
+          (past OfAction p.actions procs place (a + place) (OfProc x) (get_front (map OfProc p.procs) threads place (OfProc x) (of_kind OfProc p.procs place x h)) refl) refl) (omega arith),
       λ x h. past OfGlobal p.globals init (suc (i + (a + (r + place)))) (g + 1 + i + a + r + place) (OfThread x)
           (past OfInvariant p.invariants actions (a + (r + place)) (i + (a + (r + place))) (OfThread x)
           (past OfAction p.actions procs (r + place) (a + (r + place)) (OfThread x)

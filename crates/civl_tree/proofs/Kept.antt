@@ -1,7 +1,8 @@
 -- A program that keeps rules keeps each of them at each of its parts.
-use Rattle.std.proofs.Common.{◌≡◌, ℕ, Bool, true, false, List, [], ◌∷◌, Some, refl, sym, subst, arith}
+use Rattle.std.proofs.Common.{◌≡◌, ℕ, Bool, false, List, [], ◌∷◌, Some, refl, sym, subst, arith}
 use Rattle.std.specs.Prelude.{slice_get}
 use Rattle.std.specs.List.{Contains}
+use Rattle.std.proofs.lemmas.Bool.{false_from_ne_true}
 use Rattle.civl_tree.specs.declared.action.Action.{Action}
 use Rattle.civl_tree.specs.declared.program.Global.{Global}
 use Rattle.civl_tree.specs.declared.program.Invariant.{Invariant}
@@ -18,40 +19,36 @@ use Rattle.civl_tree.proofs.Pairs.{contains_here, contains_one}
 use Rattle.civl_tree.proofs.Placed.{broken_of, statement_told}
 use Rattle.civl_tree.proofs.First.{no_rule_broken}
 
-not_broken : (b : Bool) → (b ≡ true → ⊥) → b ≡ false
-not_broken true n = absurd (n refl)
-not_broken false n = refl
-
 module _ (rules : List Rule) (program : Program) (keeps : Keeps rules program) (rule : Rule) (among : Contains rules rule) where
   pub unbroken : (item statement : ℕ) → Broken rule program item statement → ⊥
   unbroken item statement broken = no_rule_broken rules program keeps (broken_at rule item statement) (record { rule = rule; among = among; number = refl; broken = broken })
 
   pub header_kept : rule.header program ≡ false
-  header_kept = not_broken (rule.header program) (λ b. unbroken header_item no_statement (InHeader refl refl b))
+  header_kept = false_from_ne_true (rule.header program) (λ b. unbroken header_item no_statement (InHeader refl refl b))
 
   pub global_kept : (place : ℕ) (global : Global) → slice_get program.globals place ≡ Some global → rule.global program place global ≡ false
-  global_kept place global at = not_broken (rule.global program place global) (λ b. unbroken (global_item program place) no_statement (InGlobal place global at refl refl b))
+  global_kept place global at = false_from_ne_true (rule.global program place global) (λ b. unbroken (global_item program place) no_statement (InGlobal place global at refl refl b))
 
   pub init_kept : rule.init program ≡ false
-  init_kept = not_broken (rule.init program) (λ b. unbroken (init_item program) no_statement (InInit refl refl b))
+  init_kept = false_from_ne_true (rule.init program) (λ b. unbroken (init_item program) no_statement (InInit refl refl b))
 
   pub invariant_kept : (place : ℕ) (invariant : Invariant) → slice_get program.invariants place ≡ Some invariant → rule.invariant program place invariant ≡ false
-  invariant_kept place invariant at = not_broken (rule.invariant program place invariant) (λ b. unbroken (invariant_item program place) no_statement (InInvariant place invariant at refl refl b))
+  invariant_kept place invariant at = false_from_ne_true (rule.invariant program place invariant) (λ b. unbroken (invariant_item program place) no_statement (InInvariant place invariant at refl refl b))
 
   pub action_kept : (place : ℕ) (action : Action) → slice_get program.actions place ≡ Some action → rule.action program place action ≡ false
-  action_kept place action at = not_broken (rule.action program place action) (λ b. unbroken (action_item program place) no_statement (InAction place action at refl refl b))
+  action_kept place action at = false_from_ne_true (rule.action program place action) (λ b. unbroken (action_item program place) no_statement (InAction place action at refl refl b))
 
   pub proc_kept : (place : ℕ) (proc : Proc) → slice_get program.procs place ≡ Some proc → rule.proc program place proc ≡ false
-  proc_kept place proc at = not_broken (rule.proc program place proc) (λ b. unbroken (proc_item program place) no_statement (InProc place proc at refl refl b))
+  proc_kept place proc at = false_from_ne_true (rule.proc program place proc) (λ b. unbroken (proc_item program place) no_statement (InProc place proc at refl refl b))
 
   pub thread_kept : (place : ℕ) (thread : Thread) → slice_get program.threads place ≡ Some thread → rule.thread program place thread ≡ false
-  thread_kept place thread at = not_broken (rule.thread program place thread) (λ b. unbroken (thread_item program place) no_statement (InThread place thread at refl refl b))
+  thread_kept place thread at = false_from_ne_true (rule.thread program place thread) (λ b. unbroken (thread_item program place) no_statement (InThread place thread at refl refl b))
 
   -- of a rule that asks each statement by itself
   pub statement_kept : (breaks : Stmt → Bool) (place : ℕ) (proc : Proc) → slice_get program.procs place ≡ Some proc → rule.statements program place proc ≡ statements_where breaks proc
       → (number : ℕ) (stmt : Stmt) → statement_at proc.body number ≡ Some stmt → breaks stmt ≡ false
   statement_kept breaks place proc at asks number stmt here =
-      not_broken (breaks stmt) (λ b. unbroken (proc_item program place) number
+      false_from_ne_true (breaks stmt) (λ b. unbroken (proc_item program place) number
       (InStatement place proc at refl (subst (λ numbers. Contains numbers number) (sym asks) (statement_told breaks proc number stmt here b))))
 
 -- a program that keeps rules keeps each of them alone

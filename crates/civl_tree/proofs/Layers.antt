@@ -14,7 +14,7 @@ use Rattle.civl_tree.specs.rules.Exprs.{literal_fits, slice_in_range, widen_in_r
 
 -- ---- the statements in a statement
 
-inner_all : (stmts : List Stmt) → flat_map with_inner (map (λ s. (s, inner_of s)) stmts) ≡ statements_of stmts
+pub inner_all : (stmts : List Stmt) → flat_map with_inner (map (λ s. (s, inner_of s)) stmts) ≡ statements_of stmts
 inner_all [] = refl
 inner_all (stmt ∷ stmts) = ap (λ (rest : List Stmt). (stmt ∷ inner_of stmt) ++ rest) (inner_all stmts)
 

@@ -10,3 +10,10 @@ pub mod Placed
 pub mod Ordered
 pub mod First
 pub mod Kept
+pub mod Lists
+pub mod Parts
+pub mod Naming
+pub mod Sizes
+pub mod Bools
+pub mod Options
+pub mod Distinct

@@ -1,6 +1,7 @@
 -- Elements of lists, and pairs of them.
-use Rattle.std.proofs.Common.{◌≡◌, zero, suc, ◌⊎◌, inl, inr, List, [], ◌∷◌, ◌++◌, map, refl, ap, arith}
+use Rattle.std.proofs.Common.{◌≡◌, ℕ, zero, suc, ◌⊎◌, inl, inr, List, [], ◌∷◌, ◌++◌, map, Some, slice_get, refl, ap, arith}
 use Rattle.std.specs.List.{All, AllPairs, Contains}
+use Rattle.std.proofs.lemmas.Option.{slice_get_within, get_or_from_slice_get}
 use Rattle.std.proofs.lemmas.List.Elements.{All-nil, All-head, All-tail, All-append, All-map}
 use Rattle.std.proofs.lemmas.List.Kept.{AllPairs-cons}
 
@@ -22,6 +23,9 @@ module _ {A : Type 0} where
 
   pub contains_one : (x y : A) → Contains (x ∷ []) y → x ≡ y
   contains_one x y h = elim (contains_cons x [] y h) [ inl e ↦ e | inr none ↦ absurd (contains_nil y none) ]
+
+  pub contains_at : (xs : List A) (i : ℕ) (x : A) → slice_get xs i ≡ Some x → Contains xs x
+  contains_at xs i x e = (i, slice_get_within xs i x e, get_or_from_slice_get xs i x x e)
 
 module _ {A B : Type 0} (f : A → B) where
   pub contains_map : (xs : List A) (x : A) → Contains xs x → Contains (map f xs) (f x)

@@ -1,6 +1,6 @@
 -- What the grammar can write in some version it can write in version 2.
 use Rattle.std.proofs.Common.{Bool, true, false, ◌&&◌, List, [], ◌∷◌, map, refl, sym, ◌∙◌, subst, Option, None, Some}
-use Rattle.std.proofs.lemmas.Bool.{and_parts}
+use Rattle.std.proofs.lemmas.Bool.{and_parts, and_from}
 use Rattle.std.specs.Prelude.{IsTrue, if◌then◌else◌, ◌==◌}
 use Rattle.std.specs.List.{list_all}
 use Rattle.civl_tree.specs.declared.expr.Two.{Two}
@@ -29,12 +29,8 @@ Grows a b = IsTrue a → IsTrue b
 same : (a : Bool) → Grows a a
 same a h = h
 
-and_join : (a b : Bool) → IsTrue a → IsTrue b → IsTrue (a && b)
-and_join true b h k = k
-and_join false b h k = h
-
 both : (a b c d : Bool) → Grows a c → Grows b d → Grows (a && b) (c && d)
-both a b c d first second h = let parts = and_parts a b h in and_join c d (first parts.0) (second parts.1)
+both a b c d first second h = let parts = and_parts a b h in and_from c d (first parts.0) (second parts.1)
 
 behind : (a b d : Bool) → Grows b d → Grows (a && b) (a && d)
 behind a b d second = both a b a d (same a) second

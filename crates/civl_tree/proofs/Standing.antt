@@ -1,6 +1,6 @@
 -- The tokens of what has a spelling may stand in a text.
 use Rattle.std.proofs.Common.{Bool, true, false, ◌&&◌, List, [], ◌∷◌, ◌++◌, map, refl, sym, ◌∙◌, subst, Option, None, Some}
-use Rattle.std.proofs.lemmas.Bool.{and_parts}
+use Rattle.std.proofs.lemmas.Bool.{and_parts, and_from}
 use Rattle.std.proofs.lemmas.List.Folds.{list_all-append}
 use Rattle.std.specs.Prelude.{IsTrue, codes, ◌==◌, if◌then◌else◌}
 use Rattle.std.specs.List.{list_all}
@@ -49,16 +49,12 @@ use Rattle.civl_tree.specs.SpellingLaws.{may_stand, TokensMayStand}
 abbrev Good : List Token → Type 0
 Good ts = IsTrue (list_all may_stand ts)
 
-and_join : (a b : Bool) → IsTrue a → IsTrue b → IsTrue (a && b)
-and_join true b h k = k
-and_join false b h k = h
-
 -- one token before others, and tokens before others
 first : (t : Token) (rest : Bool) → IsTrue (may_stand t) → IsTrue rest → IsTrue (may_stand t && rest)
-first t rest h k = and_join (may_stand t) rest h k
+first t rest h k = and_from (may_stand t) rest h k
 
 chain : (xs ys : List Token) → Good xs → Good ys → Good (xs ++ ys)
-chain xs ys h k = list_all-append may_stand xs ys ∙ and_join (list_all may_stand xs) (list_all may_stand ys) h k
+chain xs ys h k = list_all-append may_stand xs ys ∙ and_from (list_all may_stand xs) (list_all may_stand ys) h k
 
 -- phrases each of which is good where a test passes
 phrases : {X : Type 0} (p : X → Bool) (s : X → List Token) → ((x : X) → IsTrue (p x) → Good (s x)) → (xs : List X) → IsTrue (list_all p xs) → Good (joined (map s xs))

@@ -1,8 +1,9 @@
 -- What each copy has, all copies have.
-use Rattle.std.proofs.Common.{◌≡◌, ℕ, zero, suc, ◌+◌, ◌-◌, ◌<◌, ◌≤◌, Bool, true, false, ◌&&◌, List, [], ◌++◌, length, refl, sym, ap, ◌∙◌, arith}
+use Rattle.std.proofs.Common.{◌≡◌, ℕ, zero, suc, ◌+◌, ◌-◌, ◌<◌, ◌≤◌, Bool, List, [], ◌++◌, length, refl, sym, ap, ◌∙◌, arith}
 use Rattle.std.proofs.lemmas.List.{length-append}
 use Rattle.std.proofs.lemmas.List.Folds.{list_all-append}
 use Rattle.std.proofs.lemmas.List.Elements.{All-append}
+use Rattle.std.proofs.lemmas.Bool.{and_from}
 use Rattle.std.specs.Prelude.{IsTrue}
 use Rattle.std.specs.List.{All, list_all}
 use Rattle.civl_trial.specs.Phrases.{both}
@@ -17,16 +18,12 @@ pub starts_more : (last : ℕ) → 1 ≤ last → starts_to (last + 1 - 1) ≡ b
 starts_more zero l = absurd (omega (arith, l))
 starts_more (suc last) l = let next : suc last + 1 - 1 ≡ suc last = omega arith in let here : suc last - 1 ≡ last = omega arith in ap starts_to next ∙ ap (λ (m : ℕ). both (starts_to m) (starts (suc last))) (sym here)
 
-pub and_join : (a b : Bool) → IsTrue a → IsTrue b → IsTrue (a && b)
-and_join true b h k = k
-and_join false b h k = h
-
 -- a test that each part of each copy passes
 pub all_pass : {X : Type 0} (p : X → Bool) (parts : ℕ → List X) (n : ℕ) → ((copy : ℕ) → copy < n → IsTrue (list_all p (parts copy))) → IsTrue (list_all p (copies parts n))
 all_pass p parts zero h = refl
 all_pass p parts (suc n) h =
     list_all-append p (copies parts n) (parts n)
-    ∙ and_join (list_all p (copies parts n)) (list_all p (parts n)) (all_pass p parts n (λ copy l. h copy (omega (arith, l)))) (h n (omega arith))
+    ∙ and_from (list_all p (copies parts n)) (list_all p (parts n)) (all_pass p parts n (λ copy l. h copy (omega (arith, l)))) (h n (omega arith))
 
 -- a property that each part of each copy has
 pub all_have : {X : Type 0} (P : X → Type 0) (parts : ℕ → List X) (n : ℕ) → All P [] → ((copy : ℕ) → All P (parts copy)) → All P (copies parts n)

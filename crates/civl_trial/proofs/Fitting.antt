@@ -2,7 +2,7 @@
 use Rattle.std.proofs.Common.{◌≡◌, ℕ, zero, suc, ◌-◌, Bool, true, List, [], ◌∷◌, ◌++◌, map, refl, sym, ◌∙◌, ap, subst, append_assoc, codes}
 use Rattle.std.proofs.lemmas.List.{map-append}
 use Rattle.std.proofs.lemmas.List.Folds.{list_all-append}
-use Rattle.std.proofs.lemmas.Bool.{and_parts, ltb-true}
+use Rattle.std.proofs.lemmas.Bool.{and_parts, ltb-true, and_from}
 use Rattle.std.specs.Prelude.{IsTrue, ◌^◌, nat_lt}
 use Rattle.std.specs.List.{AllByRecursion, list_all}
 use Rattle.civl_tree.proofs.Trees.{of_trees}
@@ -19,7 +19,6 @@ use Rattle.civl_trial.specs.Phrases.{both}
 use Rattle.civl_trial.specs.Copies.{starts, globals_of, invariants_of, actions_of, procs_of}
 use Rattle.civl_trial.specs.Trial.{copies, starts_to, increment, main, main_thread, trial}
 use Rattle.civl_trial.specs.Laws.{TrialTokensMayStand}
-use Rattle.civl_trial.proofs.Copying.{and_join}
 use Rattle.civl_trial.proofs.Naming.{trials_have_spelling}
 
 -- ---- numbers of 32 bits
@@ -34,7 +33,7 @@ abbrev AreSmall : List Token → Type 0
 AreSmall tokens = IsTrue (list_all is_small tokens)
 
 chain : (xs ys : List Token) → AreSmall xs → AreSmall ys → AreSmall (xs ++ ys)
-chain xs ys h k = list_all-append is_small xs ys ∙ and_join (list_all is_small xs) (list_all is_small ys) h k
+chain xs ys h k = list_all-append is_small xs ys ∙ and_from (list_all is_small xs) (list_all is_small ys) h k
 
 joined_both : (xs ys : List (List Token)) → joined (xs ++ ys) ≡ joined xs ++ joined ys
 joined_both [] ys = refl

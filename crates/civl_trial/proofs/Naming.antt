@@ -1,6 +1,7 @@
 -- The names of a trial program are names, so it has a spelling.
 use Rattle.std.proofs.Common.{◌≡◌, ℕ, zero, suc, ◌-◌, ◌<◌, ◌≤◌, true, false, ◌&&◌, [], ◌∷◌, refl, ◌∙◌, arith}
 use Rattle.std.proofs.lemmas.List.Folds.{list_all-append}
+use Rattle.std.proofs.lemmas.Bool.{and_from}
 use Rattle.std.specs.Prelude.{IsTrue, decimal}
 use Rattle.std.specs.Fmt.{digits}
 use Rattle.std.specs.List.{list_all}
@@ -12,7 +13,7 @@ use Rattle.civl_trial.specs.Phrases.{both}
 use Rattle.civl_trial.specs.Copies.{starts, globals_of, invariants_of, actions_of, procs_of}
 use Rattle.civl_trial.specs.Trial.{copies, starts_to, increment, main, main_thread, trial}
 use Rattle.civl_trial.specs.Laws.{TrialsHaveSpelling}
-use Rattle.civl_trial.proofs.Copying.{and_join, all_pass}
+use Rattle.civl_trial.proofs.Copying.{all_pass}
 
 -- the digits of a copy's number may stand in a name
 abbrev HasNameBytes : ℕ → Type 0
@@ -51,7 +52,7 @@ increment_fits copy h = simp (of_trees, h)
 -- ---- of all copies
 
 both_fit : (a b : Expr) → IsTrue (allows_expr false a) → IsTrue (allows_expr false b) → IsTrue (allows_expr false (both a b))
-both_fit a b h k = both_is a b ∙ and_join (allows_expr false a) (allows_expr false b) h k
+both_fit a b h k = both_is a b ∙ and_from (allows_expr false a) (allows_expr false b) h k
   where
     both_is : (a b : Expr) → allows_expr false (both a b) ≡ (allows_expr false a && allows_expr false b)
     both_is a b = simp (of_trees)
@@ -66,9 +67,9 @@ main_fits n l = all_pass (allows_stmt false) increment n (λ copy inside. increm
 procs_of_all_fit : (n : ℕ) → n ≤ 8 → IsTrue (list_all (allows_proc false) (trial n).procs)
 procs_of_all_fit n l =
     list_all-append (allows_proc false) (copies procs_of n) (main n ∷ [])
-    ∙ and_join _ _
+    ∙ and_from _ _
     (all_pass (allows_proc false) procs_of n (λ copy inside. procs_fit copy (digits_fit copy (omega (arith, inside, l)))))
-    (and_join (allows_proc false (main n)) true (main_fits n l) refl)
+    (and_from (allows_proc false (main n)) true (main_fits n l) refl)
 
 threads_fit : IsTrue (list_all (allows_thread false) (main_thread 1 ∷ main_thread 2 ∷ []))
 threads_fit = simp (of_trees)
@@ -76,8 +77,8 @@ threads_fit = simp (of_trees)
 pub trials_have_spelling : TrialsHaveSpelling
 trials_have_spelling n h =
     let fit : (copy : ℕ) → copy < n → HasNameBytes copy = λ copy inside. digits_fit copy (omega (arith, inside, h.1)) in
-    and_join _ _ (all_pass allows_global globals_of n (λ copy inside. globals_fit copy (fit copy inside)))
-    (and_join _ _ (starts_to_fit (n - 1) (omega (arith, h.0, h.1)))
-    (and_join _ _ (all_pass (allows_invariant false) invariants_of n (λ copy inside. invariants_fit copy (fit copy inside)))
-    (and_join _ _ (all_pass (allows_action false) actions_of n (λ copy inside. actions_fit copy (fit copy inside)))
-    (and_join _ _ (procs_of_all_fit n h.1) threads_fit))))
+    and_from _ _ (all_pass allows_global globals_of n (λ copy inside. globals_fit copy (fit copy inside)))
+    (and_from _ _ (starts_to_fit (n - 1) (omega (arith, h.0, h.1)))
+    (and_from _ _ (all_pass (allows_invariant false) invariants_of n (λ copy inside. invariants_fit copy (fit copy inside)))
+    (and_from _ _ (all_pass (allows_action false) actions_of n (λ copy inside. actions_fit copy (fit copy inside)))
+    (and_from _ _ (procs_of_all_fit n h.1) threads_fit))))

@@ -1,7 +1,7 @@
 -- Occurrence lists that grow by a clause.
 use Rattle.std.proofs.Common.{◌≡◌, ◌⊎◌, ℕ, zero, suc, ◌+◌, ◌<◌, ◌≤◌, List, [], ◌∷◌, ◌++◌, length, get_or, replicate, take, append_assoc, refl, sym, ◌∙◌, ap, ap₂, subst, inl, inr, arith, Bool, true, false, not, ◌&&◌, cond}
 use Rattle.std.specs.Prelude.{All, Contains, ◌↔◌, ◌≢◌, nat_eq}
-use Rattle.std.proofs.lemmas.Bool.{eqb-true}
+use Rattle.std.proofs.lemmas.Bool.{eqb-true, and_parts}
 use Rattle.std.proofs.lemmas.Bool.Decides.{eqb_tells}
 use Rattle.std.proofs.lemmas.List.{take_more, take_all, length-take-le, length-append, get_or_append_left, get_or_push, length_push, length-replicate, get_or-replicate}
 use Rattle.std.proofs.lemmas.List.Elements.{All-cons, All-head, All-tail, All-contains, All-replicate, Contains-get_or, Contains-append_left, Contains-append_right, Contains-append_cases, Contains-push, Contains-push_cases}
@@ -9,16 +9,16 @@ use Rattle.std.proofs.lemmas.List.Sums.{sum_by-cons}
 use Rattle.civl_cnf.specs.Literal.{Literal}
 use Rattle.civl_units.specs.Occurrences.{OccurrenceLists, numbers_of, is_literal, times, AreListed, IsSingle, IsUnitListed, AreOccurrences}
 use Rattle.civl_units.proofs.MarkLemmas.{lt_or_eq}
-use Rattle.civl_units.proofs.LawLemmas.{and_both, same_sign}
+use Rattle.civl_units.proofs.LawLemmas.{same_sign}
 
 literal_is : (l m : Literal) → is_literal l m ≡ true → m ≡ l
 literal_is l m e =
-    let both = and_both (nat_eq m.variable l.variable) (cond l.positive m.positive (not m.positive)) e in
+    let both = and_parts (nat_eq m.variable l.variable) (cond l.positive m.positive (not m.positive)) e in
     let variable : m.variable ≡ l.variable = eqb-true m.variable l.variable both.0 in
     let sign : l.positive ≡ m.positive = same_sign l.positive m.positive both.1 in
     ap₂ (λ (v : ℕ) (b : Bool). record { variable = v; positive = b }) variable (sym sign)
 
-own_sign : (b : Bool) → cond b b (not b) ≡ true
+pub own_sign : (b : Bool) → cond b b (not b) ≡ true
 own_sign true = refl
 own_sign false = refl
 

@@ -5,8 +5,8 @@ use Rattle.std.proofs.Math.ListN.{set, length-set}
 use Rattle.std.proofs.lemmas.Bool.Decides.{eqb_tells}
 use Rattle.std.proofs.lemmas.List.{get_or-set_same, get_or-set_other, get_or-replicate, get_or_past, length-replicate, length_push}
 use Rattle.std.proofs.lemmas.List.Elements.{All-nil, All-push, Contains-push, Contains-append_left, Contains-push_cases}
+use Rattle.std.proofs.lemmas.Bool.{cases_lt}
 use Rattle.civl_units.specs.Trail.{open_count, IsTrail}
-use Rattle.civl_units.proofs.MarkLemmas.{below_or_not}
 use Rattle.civl_units.proofs.Propagating.{all_left}
 
 -- a value for a variable without one
@@ -33,7 +33,7 @@ pub trail_new : (n : ℕ) → IsTrail (replicate n None) []
 trail_new n =
     let free : List (Option Bool) = replicate n None in
     let size : length free ≡ n = length-replicate n None in
-    trail_none free (λ v. elim (below_or_not v n) [
+    trail_none free (λ v. elim (cases_lt v n) [
       | inl low ↦ get_or-replicate n v None None low
       | inr above ↦ get_or_past free v None (omega arith)
     ])

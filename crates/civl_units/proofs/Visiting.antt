@@ -6,15 +6,16 @@ use Rattle.std.proofs.lemmas.Bool.Decides.{eqb_tells}
 use Rattle.std.proofs.lemmas.Option.{slice_get_within, slice_get-get_or, get_or_from_slice_get}
 use Rattle.std.proofs.lemmas.List.{get_or-set_same, get_or-set_other, get_or_append_left, get_or_push, get_or_default, length_push}
 use Rattle.std.proofs.lemmas.List.Elements.{All-nil, All-cons, All-more, All-contains, All-from_get_or, Contains-get_or, Contains-append_right, Contains-append_cases}
+use Rattle.std.proofs.lemmas.Bool.{cases_lt}
+use Rattle.std.proofs.Math.Bool.{not-not}
 use Rattle.civl_cnf.specs.Literal.{Literal, opposite}
 use Rattle.civl_cnf.specs.ClauseSet.{IsBelow}
 use Rattle.civl_units.specs.Propagation.{Holds, Fails, IsFalsified, IsUnit}
 use Rattle.civl_units.specs.Trail.{Marking, IsOpen, with_mark, open_count, IsTrail}
 use Rattle.civl_units.specs.Occurrences.{OccurrenceLists, numbers_of, IsSingle, AreOccurrences}
 use Rattle.civl_units.specs.Marks.{is_marked, marked, IsQuiet, Propagates, IsVisited, VisitSays, IsPending, IsSettled, Advances, MeetsConflict, NumbersSay, VariableSays, EndsBy}
-use Rattle.civl_units.proofs.MarkLemmas.{same_self, below_or_not}
+use Rattle.civl_units.proofs.MarkLemmas.{same_self, not_both}
 use Rattle.civl_units.proofs.Trails.{open_set}
-use Rattle.civl_units.proofs.LawLemmas.{not_not}
 use Rattle.civl_units.proofs.Listing.{contains_or_not, single_or_not}
 use Rattle.civl_units.proofs.Propagating.{any_by, same_is, marks_stay, propagates_none, propagates_then, forced_propagates}
 
@@ -31,15 +32,8 @@ new_mark values l v b low held = elim (eqb_tells v l.variable) [
 mark_here : (values : List (Option Bool)) (l : Literal) → l.variable < length values → Holds (marked (set values l.variable (Some l.positive))) l
 mark_here values l low = ap (λ m. is_marked m l.positive) (get_or-set_same values l.variable (Some l.positive) None low) ∙ same_self l.positive
 
-not_both : (m : Option Bool) (b : Bool) → is_marked m b ≡ true → is_marked m (not b) ≡ true → ⊥
-not_both None b e f = cc
-not_both (Some true) true e f = cc
-not_both (Some true) false e f = cc
-not_both (Some false) true e f = cc
-not_both (Some false) false e f = cc
-
 opposite_is : (l m : Literal) → m.variable ≡ l.variable → l.positive ≡ not m.positive → m ≡ opposite l
-opposite_is l m e f = ap₂ (λ (v : ℕ) (b : Bool). record { variable = v; positive = b }) e (sym (not_not m.positive) ∙ ap not (sym f))
+opposite_is l m e f = ap₂ (λ (v : ℕ) (b : Bool). record { variable = v; positive = b }) e (sym (not-not m.positive) ∙ ap not (sym f))
 
 fails_before : (values : List (Option Bool)) (l m : Literal) → l.variable < length values → m ≢ opposite l → Fails (marked (set values l.variable (Some l.positive))) m → Fails (marked values) m
 fails_before values l m low differ f = elim (new_mark values l m.variable (not m.positive) low f) [
@@ -136,7 +130,7 @@ forced_advances m clauses clause l there low unit free =
           literal = opposite l;
           there = stands;
           variable = sym (get_or_push m.trail l.variable 0 (length m.trail) refl);
-          fails = ap (λ (b : Bool). marked (set m.values l.variable (Some l.positive)) l.variable b) (not_not l.positive) ∙ mark_here m.values l low;
+          fails = ap (λ (b : Bool). marked (set m.values l.variable (Some l.positive)) l.variable b) (not-not l.positive) ∙ mark_here m.values l low;
         })
         | inr none ↦ inl (quiet_stays m.values l other low free none quiet)
       ];
@@ -180,7 +174,7 @@ conflict_then a b c clauses p q = record { reached = propagates_then a.values b.
 
 -- a literal of a variable with a value is false where the value is its opposite
 fails_value : (m : Option Bool) (value b : Bool) → m ≡ Some value → is_marked m (not b) ≡ true → b ≡ not value
-fails_value m value b e f = sym (not_not b) ∙ ap not (sym (same_is value (not b) (ap (λ o. is_marked o (not b)) (sym e) ∙ f)))
+fails_value m value b e f = sym (not-not b) ∙ ap not (sym (same_is value (not b) (ap (λ o. is_marked o (not b)) (sym e) ∙ f)))
 
 pub variable_says : (old new : Marking) (clauses : List (List Literal)) (lists : OccurrenceLists) (variable : ℕ) (value : Bool) (r : Bool) → AreOccurrences clauses lists → get_or old.values variable None ≡ Some value → NumbersSay old new clauses (numbers_of lists (record { variable = variable; positive = not value })) r → VariableSays old new clauses variable r
 variable_says old new clauses lists variable value true are is says = says
@@ -291,7 +285,7 @@ next_settled a b clauses at variable e settled says n low =
 
 -- the end of the trail
 pub past_end : (trail : List ℕ) (at : ℕ) → slice_get trail at ≡ None → length trail ≤ at
-past_end trail at e = elim (below_or_not at (length trail)) [
+past_end trail at e = elim (cases_lt at (length trail)) [
   | inl low ↦ let some : slice_get trail at ≡ Some (get_or trail at 0) = slice_get-get_or trail at 0 low in absurd cc
   | inr above ↦ above
 ]

@@ -24,7 +24,7 @@ maybe_bits f n h None = refl
 maybe_bits f n h (Some a) = h a
 
 module _ (program : Program) where
-  instances : (front : List ℕ) (x : ℕ) → bits_of_variables (of_action program x [] (of_instance front)) ≡ of_action program x 0 instance_bits
+  pub instances : (front : List ℕ) (x : ℕ) → bits_of_variables (of_action program x [] (of_instance front)) ≡ of_action program x 0 instance_bits
   instances front x = maybe_bits (of_instance front) instance_bits (instance_are front) (slice_get program.actions x)
 
   inputs : (front : List ℕ) (x : ℕ) → bits_of_variables (of_action program x [] (λ a. of_params front a.params)) ≡ of_action program x 0 (λ a. outs_bits a.params)

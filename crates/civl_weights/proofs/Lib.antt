@@ -1,3 +1,3 @@
-mod Groups
-mod Finding
-mod First
+pub mod Groups
+pub mod Finding
+pub mod First

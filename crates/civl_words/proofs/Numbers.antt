@@ -2,7 +2,7 @@
 use Rattle.std.proofs.Common.{◌≡◌, ◌∙◌, ◌&&◌, ℕ, ◌<◌, ◌≤◌, ◌^◌, Bool, true, false, cond, Option, None, Some, Result, Ok, Err, refl, sym, ap, subst, arith}
 use Rattle.std.specs.Prelude.{nat_le, option_and_then}
 use Rattle.std.specs.Str.Parse.{IsNumeral, ParsesUnsigned, digits_value, without_leading_plus}
-use Rattle.std.proofs.lemmas.Bool.{le-leb, leb-true}
+use Rattle.std.proofs.lemmas.Bool.{le-leb, leb-true, false_from_ne_true}
 use Rattle.clap.specs.Walk.{Text}
 use Rattle.clap.specs.Values.{IsUnsignedIn}
 use Rattle.clap.specs.ValueTests.{is_unsigned_in}
@@ -11,16 +11,12 @@ use Rattle.clap.specs.declared.builder.value_parser.ValueParser.TheVariants as v
 use Rattle.clap.proofs.ValueTestLemmas.{accepts-Accepts, Accepts-accepts}
 use Rattle.civl_words.specs.Words.{number_between}
 
-untrue : (b : Bool) → (b ≡ true → ⊥) → b ≡ false
-untrue true h = absurd (h refl)
-untrue false h = refl
-
 -- the number of a text, by a test
 abbrev pub by : Text → Bool → Option ℕ
 by text b = cond b (Some (digits_value 10 (without_leading_plus text))) None
 
 refused : (least most : ℕ) (text : Text) → (IsUnsignedIn least most text → ⊥) → number_between least most text ≡ None
-refused least most text h = ap (by text) (untrue (is_unsigned_in least most text) (λ e. h (accepts-Accepts false (vp.Unsigned least most) text e)))
+refused least most text h = ap (by text) (false_from_ne_true (is_unsigned_in least most text) (λ e. h (accepts-Accepts false (vp.Unsigned least most) text e)))
 
 taken : (least most : ℕ) (text : Text) → IsUnsignedIn least most text → number_between least most text ≡ Some (digits_value 10 (without_leading_plus text))
 taken least most text h = ap (by text) (Accepts-accepts false (vp.Unsigned least most) text h)

@@ -2,7 +2,9 @@
 use Rattle.std.proofs.Common.{◌≡◌, ℕ, zero, suc, ◌+◌, ◌-◌, ◌<◌, ◌≤◌, Bool, true, false, ◌||◌, nat_eq, List, length, get_or, set, replicate, refl, sym, ap, ap₂, ◌∙◌, subst, inl, inr, arith, Some, add-one, IsTrue, Option}
 use Rattle.std.specs.Prelude.{slice_get, if◌then◌else◌}
 use Rattle.std.proofs.lemmas.List.{length-set, length-replicate, get_or-set_same, get_or-set_other, get_or-replicate, get_or_past, get_or_read}
-use Rattle.std.proofs.lemmas.Bool.{false≢true, cases_eq, eq-eqb, ne_eqb, eqb-true, or_cases, or_left, or_right, cases_lt, cases_Bool}
+use Rattle.std.proofs.lemmas.Bool.{false≢true, cases_eq, eq-eqb, ne_eqb, eqb-true, or_cases, or_left, or_right, cases_lt, cases_Bool, cond-true, cond-false}
+use Rattle.std.proofs.lemmas.Option.{same_Some}
+use Rattle.std.proofs.Math.Bool.{or-false}
 use mathlib.Core.Path.{fun_ext}
 use Rattle.civl_terms.specs.declared.node.Node.{Node}
 use Rattle.civl_terms.specs.declared.node.Node.TheVariants.{Constant, Variable, One as Once, Two as Twice, Pick, Get, Set, Fill, Slice, Widen, Join}
@@ -53,14 +55,6 @@ weight-more ns ms at k n e = ap (weight_from ns ms at) (e ∙ add-one k)
 reached-more : (ns : List Node) (i : ℕ) (f : ℕ → Bool) → reached_weight ns (i + 1) f ≡ (if f i then reached_weight ns i (with_parts (slice_get ns i) f) + own_weight ns i else reached_weight ns i f)
 reached-more ns i f = ap (λ (n : ℕ). reached_weight ns n f) (add-one i)
 
-if-true : (b : Bool) (x y : ℕ) → b ≡ true → (if b then x else y) ≡ x
-if-true true x y e = refl
-if-true false x y e = absurd (false≢true e)
-
-if-false : (b : Bool) (x y : ℕ) → b ≡ false → (if b then x else y) ≡ y
-if-false false x y e = refl
-if-false true x y e = absurd (false≢true (sym e))
-
 pub marks_skip : (ns : List Node) (id at : ℕ) (ms : List Bool) → IsMarking ns id (at + 1) ms → at ≤ id → marked ms at ≡ false → IsMarking ns id at ms
 marks_skip ns id at ms m h f = record {
   size = m.size;
@@ -71,8 +65,8 @@ marks_skip ns id at ms m h f = record {
   ];
   only = m.only;
   weighs =
-      let r = reached-more ns at (marked ms) ∙ if-false (marked ms at) _ _ f in
-      let w = weight-more ns ms at (id + 1 - (at + 1)) (id + 1 - at) (omega arith) ∙ ap (λ (x : ℕ). x + weight_from ns ms (at + 1) (id + 1 - (at + 1))) (if-false (marked ms at) (own_weight ns at) 0 f) in
+      let r = reached-more ns at (marked ms) ∙ cond-false (marked ms at) _ _ f in
+      let w = weight-more ns ms at (id + 1 - (at + 1)) (id + 1 - at) (omega arith) ∙ ap (λ (x : ℕ). x + weight_from ns ms (at + 1) (id + 1 - (at + 1))) (cond-false (marked ms at) (own_weight ns at) 0 f) in
       omega (arith, r, w, m.weighs);
 }
 
@@ -101,11 +95,8 @@ part_is_below at k n p e = parts_below at k n p e
 later_stay : (at i : ℕ) (n : Node) (ms ls : List Bool) → PartsBelow at n → ((k : ℕ) → marked ls k ≡ (marked ms k || is_part n k)) → at ≤ i → marked ls i ≡ marked ms i
 later_stay at i n ms ls p h l = elim (cases_Bool (is_part n i)) [
   | inl t ↦ absurd (omega (arith, parts_below at i n p t))
-  | inr f ↦ h i ∙ ap (λ (b : Bool). marked ms i || b) f ∙ or_no (marked ms i)
-] where
-  or_no : (b : Bool) → (b || false) ≡ b
-  or_no true = refl
-  or_no false = refl
+  | inr f ↦ h i ∙ ap (λ (b : Bool). marked ms i || b) f ∙ or-false (marked ms i)
+]
 
 pub marks_more : (ns : List Node) (id at : ℕ) (n : Node) (ms ls : List Bool) → IsMarking ns id (at + 1) ms → at ≤ id → marked ms at ≡ true → slice_get ns at ≡ Some n → PartsBelow at n → length ls ≡ length ms → ((k : ℕ) → marked ls k ≡ (marked ms k || is_part n k)) → IsMarking ns id at ls
 marks_more ns id at n ms ls m h t s p size is =
@@ -117,7 +108,7 @@ marks_more ns id at n ms ls m h t s p size is =
       closed = λ i k o l y f q. elim (cases_eq i at) [
         | inl e ↦
             let same : Some o ≡ Some n = sym f ∙ ap (slice_get ns) e ∙ s in
-            let on : o ≡ n = some_same o n same in
+            let on : o ≡ n = same_Some o n same in
             is k ∙ or_right (marked ms k) (is_part n k) (sym (ap (λ (z : Node). is_part z k) on) ∙ q)
         | inr d ↦ keeps k (m.closed i k o (omega arith) (sym (stay i l) ∙ y) f q)
       ];
@@ -126,14 +117,12 @@ marks_more ns id at n ms ls m h t s p size is =
         | inr q ↦ Reaches.part at i n (m.only at t) s q
       ];
       weighs =
-          let r = reached-more ns at (marked ms) ∙ if-true (marked ms at) _ _ t in
+          let r = reached-more ns at (marked ms) ∙ cond-true (marked ms at) _ _ t in
           let g = reached-same ns at (marked ls) (with_parts (slice_get ns at) (marked ms)) (λ i. is i ∙ sym (ap (λ (o : Option Node). with_parts o (marked ms) i) s)) in
-          let w = weight-more ns ls at (id + 1 - (at + 1)) (id + 1 - at) (omega arith) ∙ ap (λ (x : ℕ). x + weight_from ns ls (at + 1) (id + 1 - (at + 1))) (if-true (marked ls at) (own_weight ns at) 0 (keeps at t)) in
+          let w = weight-more ns ls at (id + 1 - (at + 1)) (id + 1 - at) (omega arith) ∙ ap (λ (x : ℕ). x + weight_from ns ls (at + 1) (id + 1 - (at + 1))) (cond-true (marked ls at) (own_weight ns at) 0 (keeps at t)) in
           let z = weight-same ns ls ms (at + 1) (id + 1 - (at + 1)) (λ i l. stay i (omega arith)) in
           omega (arith, r, g, w, z, m.weighs);
-    } where
-      some_same : (a b : Node) → Some a ≡ Some b → a ≡ b
-      some_same a b e = cc
+    }
 
 -- ---- the steps of the loop
 

@@ -3,7 +3,7 @@ use Rattle.std.proofs.Common.{◌≡◌, ℕ, zero, suc, ◌+◌, ◌<◌, List,
 use Rattle.std.specs.Prelude.{slice_get}
 use Rattle.std.proofs.lemmas.Bool.{cases_eq}
 use Rattle.std.proofs.lemmas.List.{length_push}
-use Rattle.std.proofs.lemmas.Option.{slice_get_within}
+use Rattle.std.proofs.lemmas.Option.{slice_get_within, same_Some}
 use Rattle.civl_blast.specs.rows.Expanding.{row_entries}
 use Rattle.civl_blast.specs.declared.rows.flat.Cell.{Cell}
 
@@ -35,10 +35,7 @@ in_block v f (suc n) c h = elim (cases_eq c n) [
       ∙ in_block v f n c (omega arith)
 ]
 
-same_cell : (d e : Cell) → Some d ≡ Some e → d ≡ e
-same_cell d e h = cc
-
 pub of_block : (v f n c : ℕ) (e : Cell) → slice_get (row_entries v f n) c ≡ Some e → (c < n) × (entry v c (f + c) ≡ e)
 of_block v f n c e h =
     let l : c < n = omega (arith, slice_get_within (row_entries v f n) c e h, length-entries v f n) in
-    (l, same_cell (entry v c (f + c)) e (sym (in_block v f n c l) ∙ h))
+    (l, same_Some (entry v c (f + c)) e (sym (in_block v f n c l) ∙ h))

@@ -22,7 +22,7 @@ pub comparison_sort : (op : Two) (x y s : Option Sort) → IsComparison op → x
 comparison_sort op x y s (inl e) ex ey p = ap (λ (o : Two). two_sort o x y) e ∙ eq_sort_is x y s ex ey p
 comparison_sort op x y s (inr e) ex ey p = ap (λ (o : Two). two_sort o x y) e ∙ eq_sort_is x y s ex ey p
 
-comparison_weight : (op : Two) (n : ℕ) → IsComparison op → two_weight op n ≡ n
+pub comparison_weight : (op : Two) (n : ℕ) → IsComparison op → two_weight op n ≡ n
 comparison_weight op n (inl e) = ap (λ (o : Two). two_weight o n) e
 comparison_weight op n (inr e) = ap (λ (o : Two). two_weight o n) e
 

@@ -2,7 +2,7 @@
 use Rattle.std.proofs.Common.{◌≡◌, ◌⊎◌, ℕ, ◌+◌, ◌-◌, ◌^◌, ◌<◌, ◌≤◌, Bool, true, false, List, [], ◌++◌, length, refl, sym, ap, ◌∙◌, subst, inl, inr, arith, Some, IsTrue, append-nil}
 use Rattle.std.specs.Prelude.{slice_get}
 use Rattle.std.proofs.lemmas.Bool.{false≢true, cases_lt, cases_eq}
-use Rattle.std.proofs.lemmas.Option.{slice_get_within}
+use Rattle.std.proofs.lemmas.Option.{slice_get_within, same_Some}
 use Rattle.civl_tree.specs.declared.expr.Sort.{Sort}
 use Rattle.civl_tree.specs.declared.expr.Sort.TheVariants as sort
 use Rattle.civl_terms.specs.declared.node.Node.{Node}
@@ -12,7 +12,6 @@ use Rattle.civl_blast.specs.rows.Cells.{next_number}
 use Rattle.civl_blast.specs.reach.Marks.{marked}
 use Rattle.civl_blast.specs.rows.Expanding.{row_entries, entries_of}
 use Rattle.civl_blast.specs.declared.rows.flat.Cell.{Cell}
-use Rattle.civl_blast.proofs.rows.Growth.{same_node}
 use Rattle.civl_blast.proofs.rows.Blocks.{entry, get-left, get-right, in_block, of_block}
 
 -- ---- a node is a variable that is a row, or makes no entries
@@ -108,7 +107,7 @@ entries_more {source} {marks} {at} {cells} {after} variable index width graph di
     subst P (sym eq) (record {
       each = λ i k j w c h y e l. elim (cases_eq i at) [
         | inl q ↦
-            let r = row_parts variable index width k j w (same_node (row_variable variable index width) (row_variable k j w) (sym node ∙ ap (slice_get source) (sym q) ∙ e)) in (
+            let r = row_parts variable index width k j w (same_Some (row_variable variable index width) (row_variable k j w) (sym node ∙ ap (slice_get source) (sym q) ∙ e)) in (
               length cells + c,
               get-right cells block (length cells + c) c refl
                   ∙ in_block variable f (2 ^ index) c (omega (arith, ap (λ (x : ℕ). 2 ^ x) r.1))
@@ -156,5 +155,5 @@ entries_step {source} {marks} {at} {cells} {after} n graph distinct m y e eq = e
   | inr r ↦
       let P : List Cell → Type 0 = λ xs. EntriesTo source marks (at + 1) xs in
       let same : after ≡ cells = eq ∙ ap (λ (xs : List Cell). cells ++ xs) (r.none (next_number source + length cells)) ∙ append-nil cells in
-      subst P (sym same) (entries_skip m (λ k index width z f. r.other k index width (same_node n (row_variable k index width) (sym e ∙ f))))
+      subst P (sym same) (entries_skip m (λ k index width z f. r.other k index width (same_Some n (row_variable k index width) (sym e ∙ f))))
 ]

@@ -2,7 +2,7 @@
 use Rattle.std.proofs.Common.{◌≡◌, ℕ, ◌+◌, ◌*◌, ◌^◌, ◌<◌, ◌≤◌, List, [], ◌∷◌, ◌++◌, length, get_or, refl, sym, ap, ap₂, ◌∙◌, subst, inl, inr, arith, Some, Option, add-one, append_assoc, append-nil, length-append}
 use Rattle.std.specs.Prelude.{slice_get}
 use Rattle.std.proofs.lemmas.Bool.{false≢true, cases_lt}
-use Rattle.std.proofs.lemmas.Option.{slice_get_within}
+use Rattle.std.proofs.lemmas.Option.{slice_get_within, same_Some}
 use Rattle.std.proofs.lemmas.List.{get_or_append_left, get_or_push, length_push}
 use Rattle.civl_bits.specs.Row.{cell_at}
 use Rattle.civl_bits.specs.declared.value.Value.{Value}
@@ -23,7 +23,7 @@ use Rattle.civl_blast.specs.rows.Making.{UsesNone, IsNew, Takes}
 use Rattle.civl_blast.specs.rows.Expanding.{row_entries, Expands}
 use Rattle.civl_blast.specs.declared.rows.flat.Cell.{Cell}
 use Rattle.civl_blast.proofs.rows.Numbering.{next-push, next_is_above}
-use Rattle.civl_blast.proofs.rows.Growth.{lengthens_refl, lengthens_trans, node_stays, slice_get-append, slice_get-last, same_node}
+use Rattle.civl_blast.proofs.rows.Growth.{lengthens_refl, lengthens_trans, node_stays, slice_get-append, slice_get-last}
 use Rattle.civl_blast.proofs.rows.Solid.{takes_none, takes_node, takes_then, all-append}
 use Rattle.civl_blast.proofs.rows.Made.{sort_kept, value_kept}
 
@@ -62,7 +62,7 @@ fits_variable env ns k s y f i j t e = elim (cases_lt i (length ns)) [
   | inr h ↦
       let w = slice_get_within (ns ++ Variable k s ∷ []) i (Variable j t) e in
       let q : Some (Variable k s) ≡ Some (Variable j t) = sym (slice_get-last ns (Variable k s) i (omega (arith, length-append ns (Variable k s ∷ [])))) ∙ e in
-      moved env k j s t (same_node (Variable k s) (Variable j t) q) y
+      moved env k j s t (same_Some (Variable k s) (Variable j t) q) y
 ] where
   moved : (env : ℕ → Value) (k j : ℕ) (s t : Sort) → Variable k s ≡ Variable j t → HasSort (env k) s → HasSort (env j) t
   moved env k j s t e y =

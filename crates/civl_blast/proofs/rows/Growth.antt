@@ -65,9 +65,6 @@ slice_get-last (x ∷ xs) y (suc i) e = slice_get-last xs y i (omega arith)
 pub node_stays : (old new : List Node) (i : ℕ) → Lengthens old new → i < length old → slice_get new i ≡ slice_get old i
 node_stays old new i g h = sym (slice_get-take (length old) i new h) ∙ ap (λ (ns : List Node). slice_get ns i) g.stay
 
-pub same_node : (a b : Node) → Some a ≡ Some b → a ≡ b
-same_node a b e = cc
-
 -- ---- own weights stay
 
 weight_stays : (old new : List Node) (n : Node) → Lengthens old new → PartsBelow (length old) n → node_weight (sorts new) n ≡ node_weight (sorts old) n

@@ -1,14 +1,15 @@
 -- Several nodes that are built, one after the other.
-use Rattle.std.proofs.Common.{◌≡◌, ℕ, ◌+◌, ◌<◌, ◌≤◌, List, [], ◌∷◌, ◌++◌, length, get_or, refl, sym, ap, ap₂, ◌∙◌, subst, inl, inr, arith, Some, None, Option, IsTrue, Bool, true}
-use Rattle.std.specs.Prelude.{◌&&◌, if◌then◌else◌}
-use Rattle.std.proofs.lemmas.Bool.{false≢true, cases_lt, eq-eqb}
+use Rattle.std.proofs.Common.{◌≡◌, ℕ, ◌+◌, ◌<◌, ◌≤◌, List, [], ◌∷◌, ◌++◌, length, get_or, refl, sym, ap, ap₂, ◌∙◌, subst, inl, inr, arith, Some, None, Option, IsTrue, Bool}
+use Rattle.std.specs.Prelude.{if◌then◌else◌}
+use Rattle.std.proofs.lemmas.Bool.{false≢true, cases_lt}
 use Rattle.std.proofs.lemmas.List.{get_or_append_left, get_or_push, length_push}
 use Rattle.civl_bits.specs.declared.value.Value.{Value}
 use Rattle.civl_tree.specs.declared.expr.Sort.{Sort}
 use Rattle.civl_tree.specs.declared.expr.Sort.TheVariants as sort
 use Rattle.civl_tree.specs.declared.expr.Two.TheVariants.{Eq}
-use Rattle.civl_tree.specs.rules.Sorts.{two_sort, pick_sort, common_sort, same_sort}
+use Rattle.civl_tree.specs.rules.Sorts.{two_sort, pick_sort, common_sort}
 use Rattle.civl_firing.specs.values.Operators.{pick_value}
+use Rattle.civl_firing.proofs.SortLimits.{same_self}
 use Rattle.civl_terms.specs.declared.node.Node.{Node}
 use Rattle.civl_terms.specs.Graphs.{sort_at, value_at, Fits}
 use Rattle.civl_terms.specs.Building.{Lengthens, Grows}
@@ -92,14 +93,9 @@ makes_push {old} {mid} {new} {Uses} {More} {ids} {n} {p} {q} {s} {value} {one} {
 
 -- ---- sorts that fit
 
-same_sort-refl : (s : Sort) → same_sort s s ≡ true
-same_sort-refl sort.Bool = refl
-same_sort-refl (sort.Word w) = eq-eqb w w refl
-same_sort-refl (sort.Row k w) = ap₂ (λ (a b : Bool). a && b) (eq-eqb k k refl) (eq-eqb w w refl)
-
 common_itself : (s : Option Sort) → common_sort s s ≡ s
 common_itself None = refl
-common_itself (Some s) = ap (λ (b : Bool). if b then Some s else None) (same_sort-refl s)
+common_itself (Some s) = ap (λ (b : Bool). if b then Some s else None) (same_self s)
 
 pub pick_sort_is : (o p q s : Option Sort) → o ≡ Some sort.Bool → p ≡ s → q ≡ s → pick_sort o p q ≡ s
 pick_sort_is o p q s eo ep eq =
@@ -109,7 +105,7 @@ pub eq_sort_is : (p q s : Option Sort) → p ≡ s → q ≡ s → IsTrue (is_pl
 eq_sort_is p q s ep eq h = ap₂ (two_sort Eq) ep eq ∙ over s h where
   over : (s : Option Sort) → IsTrue (is_plain s) → two_sort Eq s s ≡ Some sort.Bool
   over None y = absurd (false≢true y)
-  over (Some t) y = ap (λ (b : Bool). two_sort Eq (Some t) (Some t)) (same_sort-refl t) ∙ (rw (same_sort-refl t) refl)
+  over (Some t) y = ap (λ (b : Bool). two_sort Eq (Some t) (Some t)) (same_self t) ∙ (rw (same_self t) refl)
 
 -- ---- values
 

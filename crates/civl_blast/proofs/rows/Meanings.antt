@@ -17,6 +17,7 @@ use Rattle.civl_tree.specs.declared.expr.Two.{Two}
 use Rattle.civl_tree.specs.declared.expr.Two.TheVariants.{Eq, Ne, And, Or}
 use Rattle.civl_firing.specs.values.Operators.{nothing, two_value, pick_value, get_value, set_value, fill_value}
 use Rattle.civl_tree.specs.rules.Exprs.{is_index}
+use Rattle.civl_tree.proofs.Bools.{same_truth}
 use Rattle.civl_firing.specs.values.Values.{HasSort}
 use Rattle.civl_firing.proofs.values.Sorting.{bool_of, word_of, row_of}
 use Rattle.civl_blast.specs.reach.Reaching.{is_plain}
@@ -183,11 +184,6 @@ joined_not x y (suc n) =
     ap (λ (v : Value). two_value Or v (two_value Ne (x (suc n)) (y (suc n)))) (joined_not x y n)
     ∙ ap (λ (b : Bool). value.Bool b) (not_both (all_upto (same_at x y) n) (same_at x y (suc n)))
 
-iff_same : (a b : Bool) → (a ≡ true → b ≡ true) → (b ≡ true → a ≡ true) → a ≡ b
-iff_same true b f g = sym (f refl)
-iff_same false true f g = g refl
-iff_same false false f g = refl
-
 pointwise_gives : (xs ys : List ℕ) (c : ℕ) → pointwise nat_eq xs ys ≡ true → get_or xs c 0 ≡ get_or ys c 0
 pointwise_gives [] [] c e = refl
 pointwise_gives [] (y ∷ ys) c e = absurd (false≢true e)
@@ -208,7 +204,7 @@ rows_same r t k w hr ht ek ew fk fw =
     let sr : length r.cells ≡ 2 ^ k = hr.size ∙ ap (λ (i : ℕ). 2 ^ i) ek in
     let st : length t.cells ≡ 2 ^ k = ht.size ∙ ap (λ (i : ℕ). 2 ^ i) fk in
     let pos = pow_pos k in
-    iff_same (same_row r t) (all_upto (same_at (cell_of (value.Row r)) (cell_of (value.Row t))) (2 ^ k - 1))
+    same_truth (same_row r t) (all_upto (same_at (cell_of (value.Row r)) (cell_of (value.Row t))) (2 ^ k - 1))
     (λ e.
     let p = (and_parts (nat_eq r.index t.index && nat_eq r.width t.width) (pointwise nat_eq r.cells t.cells) e).1 in
     all_from (same_at (cell_of (value.Row r)) (cell_of (value.Row t))) (2 ^ k - 1)

@@ -1,8 +1,8 @@
 -- A node and the cells of its parts.
 use Rattle.std.proofs.Common.{◌≡◌, ℕ, ◌+◌, ◌-◌, ◌<◌, ◌≤◌, Bool, true, false, List, length, get_or, refl, sym, ap, ◌∙◌, arith, Some, None, Option, IsTrue, inl, inr}
-use Rattle.std.specs.Prelude.{IsSome, if◌then◌else◌, ◌&&◌}
+use Rattle.std.specs.Prelude.{if◌then◌else◌, ◌&&◌}
 use Rattle.std.proofs.lemmas.Bool.{false≢true, cases_Bool, cases_lt, and_parts}
-use Rattle.std.proofs.lemmas.Option.{slice_get_within}
+use Rattle.std.proofs.lemmas.Option.{slice_get_within, none-some}
 use Rattle.civl_bits.specs.declared.value.Value.{Value}
 use Rattle.civl_tree.specs.declared.expr.Sort.{Sort}
 use Rattle.civl_tree.specs.declared.expr.Sort.TheVariants as sort
@@ -22,6 +22,7 @@ use Rattle.civl_terms.proofs.Nodes.{value_of_node, sort_of_node}
 use Rattle.civl_blast.proofs.rows.Made.{sort_past}
 use Rattle.civl_blast.proofs.rows.Solid.{all_at}
 use Rattle.civl_terms.proofs.Soundness.{nodes_have_their_sorts}
+use Rattle.civl_terms.proofs.Operations.{the_sort}
 use Rattle.civl_blast.proofs.rows.Meanings.{cell_plain}
 use Rattle.civl_blast.proofs.rows.Limits.{some_cells}
 
@@ -40,13 +41,9 @@ here_value {ns} {table} {n} {at} h env = value_of_node env ns at n (here_below h
 pub here_weight : {ns : List Node} {table : List (List ℕ)} {n : Node} {at : ℕ} → Here ns table n at → own_weight ns at ≡ node_weight (sorts ns) n
 here_weight {ns} h = ap (weight_in ns) h.node
 
-some_of : (o : Option Sort) → IsSome o → (s : Sort) × (o ≡ Some s)
-some_of None h = absurd (false≢true h)
-some_of (Some s) h = (s, refl)
-
 pub here_sorted : {ns : List Node} {table : List (List ℕ)} {n : Node} {at : ℕ} → Here ns table n at → (s : Sort) × (node_sort (sorts ns) n ≡ Some s)
 here_sorted {ns} {table} {n} {at} h =
-    let x = some_of (sort_at ns at) (h.graph.sorted at n h.node) in
+    let x = the_sort (sort_at ns at) (h.graph.sorted at n h.node) in
     (x.0, sym (here_sort h) ∙ x.1)
 
 -- ---- a part that is a bool or a word has one cell, itself
@@ -122,31 +119,28 @@ sorted_part ns ids k s shape e =
 
 -- ---- the sorts of the parts, by the operation's
 
-no_sort : (s : Sort) → None ≡ Some s → ⊥
-no_sort s e = cc
-
 word_is_plain : (o : Option Sort) (s : Sort) (w : ℕ) → o ≡ Some (sort.Word w) → IsTrue (is_plain o)
 word_is_plain o s w e = ap is_plain e
 
 pub one_part_plain : (op : One) (o : Option Sort) (s : Sort) → one_sort op o ≡ Some s → IsTrue (is_plain o)
 one_part_plain op None s e = absurd (none op e) where
   none : (op : One) → one_sort op None ≡ Some s → ⊥
-  none one.Not e = no_sort s e
-  none one.Flip e = no_sort s e
-  none one.Minus e = no_sort s e
+  none one.Not e = none-some s e
+  none one.Flip e = none-some s e
+  none one.Minus e = none-some s e
 one_part_plain op (Some sort.Bool) s e = refl
 one_part_plain op (Some (sort.Word w)) s e = refl
 one_part_plain op (Some (sort.Row k w)) s e = absurd (row op e) where
   row : (op : One) → one_sort op (Some (sort.Row k w)) ≡ Some s → ⊥
-  row one.Not e = no_sort s e
-  row one.Flip e = no_sort s e
-  row one.Minus e = no_sort s e
+  row one.Not e = none-some s e
+  row one.Flip e = none-some s e
+  row one.Minus e = none-some s e
 
 pub one_plain : (op : One) (o : Option Sort) (s : Sort) → one_sort op o ≡ Some s → IsTrue (is_plain (one_sort op o))
 one_plain one.Not o s e = not_case (is_truth o) e where
   not_case : (b : Bool) → (if b then Some sort.Bool else None) ≡ Some s → IsTrue (is_plain (if b then Some sort.Bool else None))
   not_case true e = refl
-  not_case false e = absurd (no_sort s e)
+  not_case false e = absurd (none-some s e)
 one_plain one.Flip o s e = let w = a_word o s e in ap is_plain (e ∙ ap (λ (t : Sort). Some t) (sym w.2))
 one_plain one.Minus o s e = let w = a_word o s e in ap is_plain (e ∙ ap (λ (t : Sort). Some t) (sym w.2))
 
@@ -178,7 +172,7 @@ plain_truths o p s e = elim (cases_Bool (is_truth o && is_truth p)) [
   | inl y ↦
       let b = and_parts (is_truth o) (is_truth p) y in
       record { first = ap is_plain (a_truth o b.0); second = ap is_plain (a_truth p b.1); result = ap (λ (z : Bool). is_plain (if z then Some sort.Bool else None)) y }
-  | inr y ↦ absurd (no_sort s (sym (ap (λ (z : Bool). if z then Some sort.Bool else None) y) ∙ e))
+  | inr y ↦ absurd (none-some s (sym (ap (λ (z : Bool). if z then Some sort.Bool else None) y) ∙ e))
 ]
 
 pub two_plain : (op : Two) (o p : Option Sort) (s : Sort) → is_comparison op ≡ false → two_sort op o p ≡ Some s → ArePlain o p (two_sort op o p)
@@ -219,59 +213,59 @@ pick_parts o p q s e = elim (cases_Bool (is_truth o)) [
   | inl y ↦
       let c = common p q s (sym (ap (λ (z : Bool). if z then common_sort p q else None) y) ∙ e) in
       (a_truth o y, c.0, c.1)
-  | inr y ↦ absurd (no_sort s (sym (ap (λ (z : Bool). if z then common_sort p q else None) y) ∙ e))
+  | inr y ↦ absurd (none-some s (sym (ap (λ (z : Bool). if z then common_sort p q else None) y) ∙ e))
 ]
 
 pub get_parts : (o p : Option Sort) (s : Sort) → get_sort o p ≡ Some s → (k w : ℕ) × (o ≡ Some (sort.Row k w)) × (p ≡ Some (sort.Word k)) × (Some s ≡ Some (sort.Word w))
-get_parts None p s e = absurd (no_sort s e)
-get_parts (Some sort.Bool) p s e = absurd (no_sort s e)
-get_parts (Some (sort.Word w)) p s e = absurd (no_sort s e)
+get_parts None p s e = absurd (none-some s e)
+get_parts (Some sort.Bool) p s e = absurd (none-some s e)
+get_parts (Some (sort.Word w)) p s e = absurd (none-some s e)
 get_parts (Some (sort.Row k w)) p s e = elim (cases_Bool (is_word k p)) [
   | inl y ↦ (k, w, refl, of_width k p y, sym e ∙ ap (λ (z : Bool). if z then Some (sort.Word w) else None) y)
-  | inr y ↦ absurd (no_sort s (sym (ap (λ (z : Bool). if z then Some (sort.Word w) else None) y) ∙ e))
+  | inr y ↦ absurd (none-some s (sym (ap (λ (z : Bool). if z then Some (sort.Word w) else None) y) ∙ e))
 ]
 
 pub set_parts : (o p q : Option Sort) (s : Sort) → set_sort o p q ≡ Some s → (k w : ℕ) × (o ≡ Some (sort.Row k w)) × (p ≡ Some (sort.Word k)) × (q ≡ Some (sort.Word w)) × (Some s ≡ Some (sort.Row k w))
-set_parts None p q s e = absurd (no_sort s e)
-set_parts (Some sort.Bool) p q s e = absurd (no_sort s e)
-set_parts (Some (sort.Word w)) p q s e = absurd (no_sort s e)
+set_parts None p q s e = absurd (none-some s e)
+set_parts (Some sort.Bool) p q s e = absurd (none-some s e)
+set_parts (Some (sort.Word w)) p q s e = absurd (none-some s e)
 set_parts (Some (sort.Row k w)) p q s e = elim (cases_Bool (is_word k p && is_word w q)) [
   | inl y ↦
       let b = and_parts (is_word k p) (is_word w q) y in
       (k, w, refl, of_width k p b.0, of_width w q b.1, sym e ∙ ap (λ (z : Bool). if z then Some (sort.Row k w) else None) y)
-  | inr y ↦ absurd (no_sort s (sym (ap (λ (z : Bool). if z then Some (sort.Row k w) else None) y) ∙ e))
+  | inr y ↦ absurd (none-some s (sym (ap (λ (z : Bool). if z then Some (sort.Row k w) else None) y) ∙ e))
 ]
 
 pub fill_parts : (i : ℕ) (o : Option Sort) (s : Sort) → fill_sort i o ≡ Some s → (w : ℕ) × (o ≡ Some (sort.Word w)) × (Some s ≡ Some (sort.Row i w))
-fill_parts i None s e = absurd (no_sort s e)
-fill_parts i (Some sort.Bool) s e = absurd (no_sort s e)
+fill_parts i None s e = absurd (none-some s e)
+fill_parts i (Some sort.Bool) s e = absurd (none-some s e)
 fill_parts i (Some (sort.Word w)) s e = (w, refl, sym e)
-fill_parts i (Some (sort.Row k w)) s e = absurd (no_sort s e)
+fill_parts i (Some (sort.Row k w)) s e = absurd (none-some s e)
 
 some_word : (b : Bool) (w : ℕ) (s : Sort) → (if b then Some (sort.Word w) else None) ≡ Some s → IsTrue (is_plain (if b then Some (sort.Word w) else None))
 some_word true w s e = refl
-some_word false w s e = absurd (no_sort s e)
+some_word false w s e = absurd (none-some s e)
 
 pub slice_parts : (o : Option Sort) (i j : ℕ) (s : Sort) → slice_sort o i j ≡ Some s → IsTrue (is_plain o) × IsTrue (is_plain (slice_sort o i j))
-slice_parts None i j s e = absurd (no_sort s e)
-slice_parts (Some sort.Bool) i j s e = absurd (no_sort s e)
-slice_parts (Some (sort.Row k w)) i j s e = absurd (no_sort s e)
+slice_parts None i j s e = absurd (none-some s e)
+slice_parts (Some sort.Bool) i j s e = absurd (none-some s e)
+slice_parts (Some (sort.Row k w)) i j s e = absurd (none-some s e)
 slice_parts (Some (sort.Word w)) i j s e = (refl, some_word (slice_fits w i j) (i - j + 1) s e)
 
 pub widen_parts : (o : Option Sort) (i : ℕ) (s : Sort) → widen_sort o i ≡ Some s → IsTrue (is_plain o) × IsTrue (is_plain (widen_sort o i))
-widen_parts None i s e = absurd (no_sort s e)
-widen_parts (Some sort.Bool) i s e = absurd (no_sort s e)
-widen_parts (Some (sort.Row k w)) i s e = absurd (no_sort s e)
+widen_parts None i s e = absurd (none-some s e)
+widen_parts (Some sort.Bool) i s e = absurd (none-some s e)
+widen_parts (Some (sort.Row k w)) i s e = absurd (none-some s e)
 widen_parts (Some (sort.Word w)) i s e = (refl, some_word (widen_fits w i) i s e)
 
 pub join_parts : (o p : Option Sort) (s : Sort) → join_sort o p ≡ Some s → ArePlain o p (join_sort o p)
 join_parts (Some (sort.Word w)) (Some (sort.Word v)) s e = record { first = refl; second = refl; result = some_word (join_fits w v) (w + v) s e }
-join_parts None p s e = absurd (no_sort s e)
-join_parts (Some sort.Bool) p s e = absurd (no_sort s e)
-join_parts (Some (sort.Row k w)) p s e = absurd (no_sort s e)
-join_parts (Some (sort.Word w)) None s e = absurd (no_sort s e)
-join_parts (Some (sort.Word w)) (Some sort.Bool) s e = absurd (no_sort s e)
-join_parts (Some (sort.Word w)) (Some (sort.Row k v)) s e = absurd (no_sort s e)
+join_parts None p s e = absurd (none-some s e)
+join_parts (Some sort.Bool) p s e = absurd (none-some s e)
+join_parts (Some (sort.Row k w)) p s e = absurd (none-some s e)
+join_parts (Some (sort.Word w)) None s e = absurd (none-some s e)
+join_parts (Some (sort.Word w)) (Some sort.Bool) s e = absurd (none-some s e)
+join_parts (Some (sort.Word w)) (Some (sort.Row k v)) s e = absurd (none-some s e)
 
 -- a part's cell is in the graph where the part is
 pub here_inside : {ns : List Node} {table : List (List ℕ)} {n : Node} {at : ℕ} → Here ns table n at → at ≤ length ns

@@ -18,7 +18,7 @@ use Rattle.civl_tree.specs.declared.expr.Two.TheVariants.{Eq, Ne}
 use Rattle.civl_tree.specs.rules.Sorts.{two_sort, common_sort}
 use Rattle.civl_firing.specs.values.Operators.{two_value, pick_value}
 use Rattle.civl_firing.specs.values.Values.{HasSort}
-use Rattle.civl_firing.specs.values.Weights.{bits_in, two_weight, set_weight}
+use Rattle.civl_firing.specs.values.Weights.{bits_in, set_weight}
 use Rattle.civl_firing.proofs.values.Sorting.{over}
 use Rattle.civl_terms.specs.declared.node.Node.{Node}
 use Rattle.civl_terms.specs.declared.node.Node.TheVariants.{Constant, Two as Twice, Pick, Get, Set, Fill}
@@ -35,9 +35,7 @@ use Rattle.civl_terms.proofs.Soundness.{sort_limits}
 use Rattle.civl_blast.proofs.rows.Limits.{cell_bits, index_bits, index_word, all_bits, doubled}
 use Rattle.civl_blast.proofs.rows.Parts.{here_sort, here_value, here_weight, here_sorted, IsSingle, single_part, HasSorted, sorted_part, pick_parts, get_parts, set_parts, fill_parts, compared_parts}
 use Rattle.civl_blast.proofs.rows.PlainCells.{itself, first_of, second_of, finish, finish_one}
-
-some_same : (s t : Sort) → Some s ≡ Some t → s ≡ t
-some_same s t e = cc
+use Rattle.civl_blast.proofs.rows.Comparisons.{comparison_weight}
 
 times_at_least : (n b : ℕ) → 1 ≤ b → n ≤ n * b
 times_at_least n zero h = absurd (omega arith)
@@ -315,10 +313,6 @@ cells_compared op join x y s (inl h) hx hy =
 cells_compared op join x y s (inr h) hx hy =
     ap (λ (o : Two). two_value o x y) h.0 ∙ cells_differ x y s hx hy ∙ ap₂ (λ (o j : Two). joined o j (cell_of x) (cell_of y) (cells_in (Some s) - 1)) (sym h.0) (sym h.1)
 
-compare_weight : (op : Two) (n : ℕ) → IsComparison op → two_weight op n ≡ n
-compare_weight op n (inl e) = ap (λ (o : Two). two_weight o n) e
-compare_weight op n (inr e) = ap (λ (o : Two). two_weight o n) e
-
 one_each : (n b : ℕ) → n * (b + 1) ≡ n * b + n
 one_each n b = grind arith
 
@@ -347,7 +341,7 @@ compare_made {old} {new} table op join a b at id ids ij h m eq =
     (omega (
       arith,
       here_weight h,
-      compare_weight op (bits_in (sort_at old a)) io,
+      comparison_weight op (bits_in (sort_at old a)) io,
       ap bits_in r.first_sort,
       all_bits r.both,
       one_each n (bits_in (sort_at old (get_or (cells_at table a) 0 0))),

@@ -1,7 +1,7 @@
 -- Sets of nodes that hold what they reach.
 use Rattle.std.proofs.Common.{◌≡◌, ℕ, zero, suc, ◌+◌, ◌<◌, ◌≤◌, List, [], ◌∷◌, ◌++◌, length, get_or, refl, sym, ap, ◌∙◌, subst, inl, inr, arith, Some, IsTrue}
 use Rattle.std.specs.Prelude.{slice_get}
-use Rattle.std.proofs.lemmas.Option.{slice_get_within}
+use Rattle.std.proofs.lemmas.Option.{slice_get_within, same_Some}
 use Rattle.civl_tree.specs.declared.expr.Sort.{Sort}
 use Rattle.civl_terms.specs.declared.node.Node.{Node}
 use Rattle.civl_terms.specs.declared.node.Node.TheVariants.{Variable}
@@ -11,7 +11,7 @@ use Rattle.civl_terms.specs.Building.{Lengthens, Grows}
 use Rattle.civl_blast.specs.reach.Reaching.{is_plain}
 use Rattle.civl_blast.specs.rows.Cells.{number_above}
 use Rattle.civl_blast.specs.rows.Making.{Has, AllIn, Covers, IsSolid, nodes_weight, Takes, Adds, NoNode}
-use Rattle.civl_blast.proofs.rows.Growth.{lengthens_trans, longer, node_stays, own_weight_stays, parts_from, same_node}
+use Rattle.civl_blast.proofs.rows.Growth.{lengthens_trans, longer, node_stays, own_weight_stays, parts_from}
 
 pub all_covered : (s t xs : List ℕ) → Covers s t → AllIn s xs → AllIn t xs
 all_covered s t [] c a = tt
@@ -62,7 +62,7 @@ takes_node {old} {new} Uses Own id cost n g e plain parts own light = record {
       let more = solid_grown g solid in
       let weight : own_weight new id ≡ node_weight (sorts new) n = ap (weight_in new) e in
       let P : ℕ → Type 0 = λ i. IsTrue (is_plain (sort_at new i)) in
-      let same : (i : ℕ) (m : Node) → i ≡ id → slice_get new i ≡ Some m → n ≡ m = λ i m q f. same_node n m (sym e ∙ ap (slice_get new) (sym q) ∙ f) in (
+      let same : (i : ℕ) (m : Node) → i ≡ id → slice_get new i ≡ Some m → n ≡ m = λ i m q f. same_Some n m (sym e ∙ ap (slice_get new) (sym q) ∙ f) in (
         id ∷ s,
         record {
           solid = record {

@@ -1,7 +1,7 @@
 -- The cells of the marked nodes, one node after the other.
-use Rattle.std.proofs.Common.{◌≡◌, ℕ, zero, suc, ◌+◌, ◌*◌, ◌-◌, ◌^◌, ◌<◌, ◌≤◌, Bool, true, false, nat_eq, List, [], ◌∷◌, ◌++◌, length, get_or, refl, sym, ap, ◌∙◌, subst, inl, inr, arith, Some, None, Option, IsTrue, length-append}
+use Rattle.std.proofs.Common.{◌≡◌, ℕ, zero, suc, ◌+◌, ◌*◌, ◌-◌, ◌^◌, ◌<◌, ◌≤◌, Bool, false, nat_eq, List, [], ◌∷◌, ◌++◌, length, get_or, refl, sym, ap, ◌∙◌, subst, inl, inr, arith, Some, None, Option, IsTrue, length-append}
 use Rattle.std.specs.Prelude.{slice_get, if◌then◌else◌}
-use Rattle.std.proofs.lemmas.Bool.{false≢true, cases_lt, cases_eq, cases_Bool, eqb-true, or_cases, leb-true, and_parts, lt-ltb, le-ltb}
+use Rattle.std.proofs.lemmas.Bool.{false≢true, cases_lt, cases_eq, cases_Bool, eqb-true, or_cases, leb-true, and_parts, lt-ltb, le-ltb, cond-true, cond-false}
 use Rattle.std.proofs.Common.{leb, ltb, add-one}
 use Rattle.std.proofs.lemmas.Option.{slice_get-get_or, slice_get_within}
 use Rattle.std.proofs.lemmas.List.{get_or_append_left, get_or_push, length_push}
@@ -31,6 +31,7 @@ use Rattle.civl_blast.proofs.rows.Blocks.{length-entries}
 use Rattle.civl_blast.proofs.rows.Added.{none_added, added_then}
 use Rattle.civl_blast.proofs.rows.StepCells.{one_bit}
 use Rattle.civl_blast.proofs.rows.Entering.{EntriesTo, entries_none, entries_skip, entries_step, kinds, row_variable}
+use Rattle.civl_blast.proofs.Weighing.{weight_whole}
 
 -- ---- the cells of a node stay those of the node
 
@@ -80,20 +81,12 @@ walk_none source id marks = record {
   reached = λ i k s h. absurd h;
 }
 
-if-true : (b : Bool) (x y : ℕ) → b ≡ true → (if b then x else y) ≡ x
-if-true true x y e = refl
-if-true false x y e = absurd (false≢true e)
-
-if-false : (b : Bool) (x y : ℕ) → b ≡ false → (if b then x else y) ≡ y
-if-false false x y e = refl
-if-false true x y e = absurd (false≢true (sym e))
-
 -- what is left to go over
 marked_rest : (source : List Node) (id at : ℕ) (marks : List Bool) → at ≤ id → IsTrue (marked marks at) → weight_from source marks at (id + 1 - at) ≡ own_weight source at + weight_from source marks (at + 1) (id + 1 - (at + 1))
-marked_rest source id at marks l y = weight-more source marks at (id + 1 - (at + 1)) (id + 1 - at) (omega arith) ∙ ap (λ (x : ℕ). x + weight_from source marks (at + 1) (id + 1 - (at + 1))) (if-true (marked marks at) (own_weight source at) 0 y)
+marked_rest source id at marks l y = weight-more source marks at (id + 1 - (at + 1)) (id + 1 - at) (omega arith) ∙ ap (λ (x : ℕ). x + weight_from source marks (at + 1) (id + 1 - (at + 1))) (cond-true (marked marks at) (own_weight source at) 0 y)
 
 other_rest : (source : List Node) (id at : ℕ) (marks : List Bool) → at ≤ id → marked marks at ≡ false → weight_from source marks at (id + 1 - at) ≡ weight_from source marks (at + 1) (id + 1 - (at + 1))
-other_rest source id at marks l y = weight-more source marks at (id + 1 - (at + 1)) (id + 1 - at) (omega arith) ∙ ap (λ (x : ℕ). x + weight_from source marks (at + 1) (id + 1 - (at + 1))) (if-false (marked marks at) (own_weight source at) 0 y) ∙ omega arith
+other_rest source id at marks l y = weight-more source marks at (id + 1 - (at + 1)) (id + 1 - at) (omega arith) ∙ ap (λ (x : ℕ). x + weight_from source marks (at + 1) (id + 1 - (at + 1))) (cond-false (marked marks at) (own_weight source at) 0 y) ∙ omega arith
 
 row_bits : (index width : ℕ) → IsTrue (is_sort (sort.Row index width)) → 1 ≤ width
 row_bits index width h = leb-true 1 width (and_parts (leb 1 width) (leb width 32) (and_parts (is_index index) (is_width width) h).1).0
@@ -208,17 +201,12 @@ walk_step {source} {ns} {id} {marks} {cells} {table} {at} new after ms ts out id
       walk_other new after out ids m l (sym (ap (λ (xs : List Bool). marked xs at) em) ∙ y) o.0 o.1 eo
 ]
 
-pub total_weight : {source : List Node} {id : ℕ} {marks : List Bool} → IsMarking source id 0 marks → weight_from source marks 0 (id + 1) ≡ term_weight source id
-total_weight {source} {id} {marks} h =
-    let e : id + 1 - 0 ≡ id + 1 = omega arith in
-    omega (arith, h.weighs, ap (weight_from source marks 0) e)
-
 pub walk_room : {source ns : List Node} {id : ℕ} {marks : List Bool} {cells : List Cell} {table : List (List ℕ)} {at : ℕ} → IsGraph source → IsMarking source id 0 marks → Flattening source ns id marks cells table at → at ≤ id → id < length source → IsTrue (marked marks at) → length cells + own_weight ns at ≤ term_weight source id
 walk_room {source} {ns} {id} {marks} {cells} {table} {at} graph marking m l w y =
-    omega (arith, m.few, marked_rest source id at marks l y, own_stays at graph m.grows (omega arith), total_weight marking)
+    omega (arith, m.few, marked_rest source id at marks l y, own_stays at graph m.grows (omega arith), weight_whole marking)
 
 pub walk_few : {source ns : List Node} {id : ℕ} {marks : List Bool} {cells : List Cell} {table : List (List ℕ)} {at : ℕ} → IsMarking source id 0 marks → Flattening source ns id marks cells table at → length cells ≤ term_weight source id
-walk_few marking m = omega (arith, m.few, total_weight marking)
+walk_few marking m = omega (arith, m.few, weight_whole marking)
 
 pub walk_parts : {source ns : List Node} {id : ℕ} {marks : List Bool} {cells : List Cell} {table : List (List ℕ)} {at : ℕ} → IsGraph source → IsMarking source id 0 marks → Flattening source ns id marks cells table at → at ≤ id → id < length source → IsTrue (marked marks at) → (n : Node) → slice_get ns at ≡ Some n → PartsShaped ns table n
 walk_parts {source} {ns} {id} {marks} {cells} {table} {at} graph marking m l w y n e =
@@ -256,8 +244,8 @@ below_weight ns (x ∷ xs) n = (if ltb x n then own_weight ns x else 0) + below_
 
 part_more : (x n w : ℕ) → (if ltb x n then w else 0) ≤ (if ltb x (n + 1) then w else 0)
 part_more x n w = elim (cases_lt x n) [
-  | inl h ↦ omega (arith, if-true (ltb x n) w 0 (lt-ltb x n h), if-true (ltb x (n + 1)) w 0 (lt-ltb x (n + 1) (omega arith)))
-  | inr h ↦ omega (arith, if-false (ltb x n) w 0 (le-ltb x n h))
+  | inl h ↦ omega (arith, cond-true (ltb x n) w 0 (lt-ltb x n h), cond-true (ltb x (n + 1)) w 0 (lt-ltb x (n + 1) (omega arith)))
+  | inr h ↦ omega (arith, cond-false (ltb x n) w 0 (le-ltb x n h))
 ]
 
 below_more : (ns : List Node) (set : List ℕ) (n : ℕ) → below_weight ns set n ≤ below_weight ns set (n + 1)
@@ -266,14 +254,14 @@ below_more ns (x ∷ xs) n = omega (arith, below_more ns xs n, part_more x n (ow
 
 below_one : (ns : List Node) (set : List ℕ) (i : ℕ) → Has set i → below_weight ns set i + own_weight ns i ≤ below_weight ns set (i + 1)
 below_one ns [] i h = absurd h
-below_one ns (x ∷ xs) i (inl e) = omega (arith, below_more ns xs i, if-false (ltb x i) (own_weight ns x) 0 (le-ltb x i (omega arith)), if-true (ltb x (i + 1)) (own_weight ns x) 0 (lt-ltb x (i + 1) (omega arith)), ap (own_weight ns) e)
+below_one ns (x ∷ xs) i (inl e) = omega (arith, below_more ns xs i, cond-false (ltb x i) (own_weight ns x) 0 (le-ltb x i (omega arith)), cond-true (ltb x (i + 1)) (own_weight ns x) 0 (lt-ltb x (i + 1) (omega arith)), ap (own_weight ns) e)
 below_one ns (x ∷ xs) i (inr h) = omega (arith, below_one ns xs i h, part_more x i (own_weight ns x))
 
 below_all : (ns : List Node) (set : List ℕ) (n : ℕ) → below_weight ns set n ≤ nodes_weight ns set
 below_all ns [] n = omega arith
 below_all ns (x ∷ xs) n = elim (cases_Bool (ltb x n)) [
-  | inl y ↦ omega (arith, below_all ns xs n, if-true (ltb x n) (own_weight ns x) 0 y)
-  | inr y ↦ omega (arith, below_all ns xs n, if-false (ltb x n) (own_weight ns x) 0 y)
+  | inl y ↦ omega (arith, below_all ns xs n, cond-true (ltb x n) (own_weight ns x) 0 y)
+  | inr y ↦ omega (arith, below_all ns xs n, cond-false (ltb x n) (own_weight ns x) 0 y)
 ]
 
 parts_inside : (ns : List Node) (set : List ℕ) (i : ℕ) (wanted : ℕ → Bool) → IsSolid ns set → Has set i → ((k : ℕ) → IsTrue (wanted k) → Has set k) → (o : Option Node) → slice_get ns i ≡ o → (k : ℕ) → IsTrue (with_parts o wanted k) → Has set k
@@ -285,8 +273,8 @@ reached_at_most ns set s zero wanted h = omega arith
 reached_at_most ns set s (suc i) wanted h = elim (cases_Bool (wanted i)) [
   | inl y ↦
       let more : (k : ℕ) → IsTrue (with_parts (slice_get ns i) wanted k) → Has set k = λ k q. parts_inside ns set i wanted s (h i y) h (slice_get ns i) refl k q in
-      omega (arith, reached_at_most ns set s i (with_parts (slice_get ns i) wanted) more, below_one ns set i (h i y), if-true (wanted i) (reached_weight ns i (with_parts (slice_get ns i) wanted) + own_weight ns i) (reached_weight ns i wanted) y, next)
-  | inr y ↦ omega (arith, reached_at_most ns set s i wanted h, below_more ns set i, if-false (wanted i) (reached_weight ns i (with_parts (slice_get ns i) wanted) + own_weight ns i) (reached_weight ns i wanted) y, next)
+      omega (arith, reached_at_most ns set s i (with_parts (slice_get ns i) wanted) more, below_one ns set i (h i y), cond-true (wanted i) (reached_weight ns i (with_parts (slice_get ns i) wanted) + own_weight ns i) (reached_weight ns i wanted) y, next)
+  | inr y ↦ omega (arith, reached_at_most ns set s i wanted h, below_more ns set i, cond-false (wanted i) (reached_weight ns i (with_parts (slice_get ns i) wanted) + own_weight ns i) (reached_weight ns i wanted) y, next)
 ] where
   next : below_weight ns set (i + 1) ≡ below_weight ns set (suc i)
   next = ap (below_weight ns set) (add-one i)
@@ -331,7 +319,7 @@ walk_all {source} {ns} {id} {marks} {cells} {table} {at} flat ts graph marking m
           ∙ m.is env f r id (omega arith) marking.first 0 (omega arith)
           ∙ ap (λ (v : Value). cell_of v 0) (m.grows.values env id w)
           ∙ own_cell source graph env f id 0 (ap is_plain boolean);
-      weight = omega (arith, term_at_most flat m.solid inside, m.weighs, total_weight marking, none);
+      weight = omega (arith, term_at_most flat m.solid inside, m.weighs, weight_whole marking, none);
       variables = m.variables;
       reaches = λ i k s r e. elim (m.variables.only i k s e) [
         | inl q ↦ inl (marking.only i (m.reached i k s (reached_inside m.solid inside i r) q), q)

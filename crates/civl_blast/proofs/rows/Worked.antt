@@ -2,6 +2,7 @@
 use Rattle.std.proofs.Common.{◌≡◌, ℕ, zero, suc, ◌+◌, ◌^◌, ◌<◌, refl, sym, ap, ◌∙◌, arith, Some, None}
 use Rattle.std.specs.Prelude.{slice_get}
 use Rattle.std.proofs.lemmas.Bool.{false≢true}
+use Rattle.std.proofs.lemmas.Option.{same_Some, none-some}
 use Rattle.civl_bits.specs.declared.value.Value.{Value}
 use Rattle.civl_bits.specs.declared.value.Value.TheVariants as value
 use Rattle.civl_tree.specs.declared.expr.Sort.TheVariants as sort
@@ -12,7 +13,6 @@ use Rattle.civl_blast.specs.reach.Reaching.{Reaches, IsRowless}
 use Rattle.civl_blast.specs.rows.Cells.{cell_of, Reads, HasEntries}
 use Rattle.civl_blast.specs.rows.Example.{index_bits, cell_bits, pair, example, example_cells, example_array}
 use Rattle.civl_blast.specs.declared.rows.flat.Cell.{Cell}
-use Rattle.civl_blast.proofs.rows.Growth.{same_node}
 use Rattle.civl_blast.proofs.rows.Blocks.{entry}
 use Rattle.civl_blast.proofs.rows.Entering.{row_variable}
 
@@ -48,27 +48,21 @@ two_places (suc (suc c)) h = absurd (omega arith)
 
 found : (i k index width c : ℕ) → slice_get example i ≡ Some (row_variable k index width) → c < 2 ^ index → (p : ℕ) × (slice_get example_cells p ≡ Some (entry k c (4 + p)))
 found zero k index width c e l =
-    let r = the_row k index width (same_node (Variable 3 pair) (row_variable k index width) e) in
+    let r = the_row k index width (same_Some (Variable 3 pair) (row_variable k index width) e) in
     let x = two_places c (omega (arith, ap (λ (n : ℕ). 2 ^ n) r.1)) in
     (x.0, x.1 ∙ ap (λ (n : ℕ). Some (entry n c (4 + x.0))) r.0)
-found (suc zero) k index width c e l = absurd (no_word k index width (same_node (Variable 1 (sort.Word index_bits)) (row_variable k index width) e))
-found (suc (suc zero)) k index width c e l = absurd (no_read k index width (same_node (Get 0 1) (row_variable k index width) e))
-found (suc (suc (suc zero))) k index width c e l = absurd (no_constant k index width (same_node (Constant (value.Word (cell_bits, 5))) (row_variable k index width) e))
-found (suc (suc (suc (suc zero)))) k index width c e l = absurd (no_comparison k index width (same_node (Twice Eq 2 3) (row_variable k index width) e))
+found (suc zero) k index width c e l = absurd (no_word k index width (same_Some (Variable 1 (sort.Word index_bits)) (row_variable k index width) e))
+found (suc (suc zero)) k index width c e l = absurd (no_read k index width (same_Some (Get 0 1) (row_variable k index width) e))
+found (suc (suc (suc zero))) k index width c e l = absurd (no_constant k index width (same_Some (Constant (value.Word (cell_bits, 5))) (row_variable k index width) e))
+found (suc (suc (suc (suc zero)))) k index width c e l = absurd (no_comparison k index width (same_Some (Twice Eq 2 3) (row_variable k index width) e))
 found (suc (suc (suc (suc (suc i))))) k index width c e l = absurd (nothing e) where
   nothing : None ≡ Some (row_variable k index width) → ⊥
   nothing q = cc
 
-same_cell : (d e : Cell) → Some d ≡ Some e → d ≡ e
-same_cell d e h = cc
-
-no_cell : (e : Cell) → None ≡ Some e → ⊥
-no_cell e h = cc
-
 place_of : (p : ℕ) (e : Cell) → slice_get example_cells p ≡ Some e → (p < 2) × (entry 3 p (4 + p) ≡ e)
-place_of zero e h = (omega arith, same_cell (entry 3 0 4) e h)
-place_of (suc zero) e h = (omega arith, same_cell (entry 3 1 5) e h)
-place_of (suc (suc p)) e h = absurd (no_cell e h)
+place_of zero e h = (omega arith, same_Some (entry 3 0 4) e h)
+place_of (suc zero) e h = (omega arith, same_Some (entry 3 1 5) e h)
+place_of (suc (suc p)) e h = absurd (none-some e h)
 
 pub worked_entries : HasEntries example 4 example_cells
 worked_entries = record {

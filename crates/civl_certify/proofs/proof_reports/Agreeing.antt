@@ -2,7 +2,7 @@
 use Rattle.std.specs.Prelude.{slice_get}
 use Rattle.std.proofs.Common.{◌≡◌, ◌∙◌, ℕ, ◌≤◌, List, length, refl, sym, ap, subst, arith, Option, None, Some, inl, inr}
 use Rattle.std.proofs.lemmas.Bool.{cases_lt}
-use Rattle.std.proofs.lemmas.Option.{slice_get_within}
+use Rattle.std.proofs.lemmas.Option.{slice_get_within, same_Some}
 use Rattle.civl_tree.specs.declared.program.Program.{Program}
 use Rattle.civl_cnf.specs.Literal.{Literal}
 use Rattle.civl_cnf.specs.ClauseSet.{ClauseSet}
@@ -23,7 +23,6 @@ use Rattle.civl_certify.specs.proof_reports.Making.{IsMaking, IsShownAt}
 use Rattle.civl_certify.specs.proof_reports.Replaying.{IsReplay}
 use Rattle.civl_certify.specs.proof_reports.Agreement.{Agree}
 use Rattle.civl_certify.specs.proof_reports.Laws.{MakingsAgree, OneReplaying}
-use Rattle.civl_certify.proofs.proof_reports.Leaning.{same_condition}
 
 -- ---- one program
 
@@ -42,7 +41,7 @@ module _ (program : Program) (budget limit at : ℕ) where
 
   same_shown : (c d : Condition) (x y : Certified) → IsShownAt program budget at c x → IsShownAt program limit at d y → Agree (Shown c x) (Shown d y)
   same_shown c d x y a b =
-      let same : c ≡ d = same_condition c d (sym a.there ∙ b.there) in
+      let same : c ≡ d = same_Some c d (sym a.there ∙ b.there) in
       (same, answers_on_one_agree program c budget limit x y a.is (subst (λ (e : Condition). IsCertified program limit e y) (sym same) b.is))
 
   agree : (first second : Making) → IsMaking program budget at first → IsMaking program limit at second → Agree first second

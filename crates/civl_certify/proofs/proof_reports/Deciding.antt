@@ -3,6 +3,7 @@ use Rattle.std.proofs.Common.{◌⊎◌, zero, suc, List, [], ◌∷◌, refl, i
 use Rattle.std.specs.Prelude.{IsTrue, All, Any, AllPairs}
 use Rattle.std.proofs.lemmas.List.Elements.{All-nil, All-cons, All-contains}
 use Rattle.std.proofs.lemmas.List.Kept.{AllPairs-cons}
+use Rattle.civl_tree.proofs.Pairs.{pairs_head, pairs_tail}
 
 -- it is so, or it isn't
 abbrev pub IsOrNot : Type 0 → Type 0
@@ -51,12 +52,6 @@ any_so P test xs = elim (all_or_any (λ x. P x → ⊥) P (none_or P test) xs) [
   | inl none ↦ inr (λ some. All-contains (λ x. P x → ⊥) xs some.1 none (some.0, some.2, some.3) some.4)
   | inr some ↦ inl some
 ]
-
-pairs_head : {X : Type 0} (R : X → X → Type 0) (x : X) (xs : List X) → AllPairs R (x ∷ xs) → All (R x) xs
-pairs_head R x xs pairs k d low = pairs zero (suc k) d (omega arith) (omega arith)
-
-pairs_tail : {X : Type 0} (R : X → X → Type 0) (x : X) (xs : List X) → AllPairs R (x ∷ xs) → AllPairs R xs
-pairs_tail R x xs pairs i j d less low = pairs (suc i) (suc j) d (omega arith) (omega arith)
 
 pub pairs_so : {X : Type 0} (R : X → X → Type 0) → ((x y : X) → IsOrNot (R x y)) → (xs : List X) → IsOrNot (AllPairs R xs)
 pairs_so R test [] = inl (λ i j d less low. absurd (omega arith))

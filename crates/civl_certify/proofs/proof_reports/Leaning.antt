@@ -1,6 +1,7 @@
 -- What is shown of a condition, once its log is lean.
 use Rattle.std.specs.Prelude.{slice_get}
 use Rattle.std.proofs.Common.{◌≡◌, ◌∙◌, ℕ, List, refl, sym, subst, Option, None, Some}
+use Rattle.std.proofs.lemmas.Option.{same_Some}
 use Rattle.civl_tree.specs.declared.program.Program.{Program}
 use Rattle.civl_cnf.specs.Literal.{Literal}
 use Rattle.civl_cnf.specs.ClauseSet.{ClauseSet}
@@ -20,12 +21,9 @@ use Rattle.civl_certify.specs.declared.proof_reports.making.Making.TheVariants a
 use Rattle.civl_certify.specs.proof_reports.Making.{IsShownAt, HasLeanLog, MadeBy}
 use Rattle.civl_certify.specs.proof_reports.Trimmed.{IsRefuting, IsTrimmed, IsUnshown}
 
-pub same_condition : (c d : Condition) → Some c ≡ Some d → c ≡ d
-same_condition c d e = cc
-
 -- what is said of the condition with a number, of that condition
 pub certified_here : (program : Program) (budget at : ℕ) (c : Condition) (certified : Certified) → slice_get (conditions program) at ≡ Some c → IsCertifiedAt program budget at certified → IsCertified program budget c certified
-certified_here program budget at c certified there h = subst (λ (d : Condition). IsCertified program budget d certified) (same_condition h.0 c (sym h.1 ∙ there)) h.2
+certified_here program budget at c certified there h = subst (λ (d : Condition). IsCertified program budget d certified) (same_Some h.0 c (sym h.1 ∙ there)) h.2
 
 refuting_by : (program : Program) (budget : ℕ) (c : Condition) (shown : Shown) → IsShown program budget c shown → IsRefuting shown
 refuting_by program budget c (Holds set log) h = h.1.refutes

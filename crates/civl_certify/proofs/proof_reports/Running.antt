@@ -5,10 +5,12 @@ use Rattle.std.proofs.lemmas.Bool.{or_left, or_right}
 use Rattle.std.proofs.lemmas.Bool.Decides.{eqb_tells}
 use Rattle.std.proofs.lemmas.List.Elements.{All-nil, All-cons, All-head, All-tail, All-weaker, All-contains_itself, Contains-append_left, Contains-append_right}
 use Rattle.civl_cnf.specs.Literal.{Literal, opposite}
+use Rattle.civl_cnf.proofs.Literals.{opposite_twice}
 use Rattle.civl_units.specs.Propagation.{Holds, Fails, IsFalsified, IsClosedAt, IsClosed, HasConflict, GivesConflict}
 use Rattle.civl_units.specs.Laws.{set_of, IsRun, IsComplete}
 use Rattle.civl_units.specs.Marks.{IsIncluded}
-use Rattle.civl_units.proofs.LawLemmas.{not_not, run_decides}
+use Rattle.civl_units.proofs.LawLemmas.{run_decides}
+use Rattle.civl_units.proofs.Listing.{own_sign}
 use Rattle.civl_certify.proofs.proof_reports.Deciding.{IsOrNot, not_so, both_so, either_so, true_so, all_or_any, all_so, any_so}
 
 -- ---- literals
@@ -27,9 +29,6 @@ literals_so m l = elim (both_so (variables_so m.variable l.variable) (signs_so m
   | inl both ↦ inl (ap₂ (λ (v : ℕ) (b : Bool). record { variable = v; positive = b }) both.0 both.1)
   | inr none ↦ inr (λ e. none (ap (λ (x : Literal). x.variable) e, ap (λ (x : Literal). x.positive) e))
 ]
-
-opposite_twice : (l : Literal) → opposite (opposite l) ≡ l
-opposite_twice l = ap (λ (b : Bool). record { variable = l.variable; positive = b }) (not_not l.positive)
 
 -- ---- a set of literals
 
@@ -112,10 +111,6 @@ there_at (c ∷ clauses) clause l (suc k) low is there =
     Contains-append_right c (all_literals clauses) l (there_at clauses clause l k (omega arith) is there)
 
 -- ---- runs
-
-own_sign : (b : Bool) → cond b b (not b) ≡ true
-own_sign true = refl
-own_sign false = refl
 
 held_now : (l : Literal) (run : List Literal) → Holds (set_of (l ∷ run)) l
 held_now l run =

@@ -13,13 +13,13 @@ use Rattle.civl_tree.specs.declared.action.Choice.{Choice}
 use Rattle.civl_tree.specs.declared.action.Update.{Update}
 use Rattle.civl_tree.specs.declared.program.Global.{Global}
 use Rattle.civl_tree.specs.rules.Names.{same_name, global_names, param_names}
+use Rattle.civl_tree.proofs.Naming.{swapped}
 use Rattle.civl_firing.specs.declared.store.Store.{Store}
 use Rattle.civl_firing.specs.declared.scope.Scope.{Scope}
 use Rattle.civl_firing.specs.Truth.{place_of}
 use Rattle.civl_firing.specs.Eval.{look, value_of}
 use Rattle.civl_firing.specs.Scope.{present_values, gate_values, guard_values, choice_names, zeros_of_params}
 use Rattle.civl_firing.specs.Fired.{gate_holds, guard_holds, offers, updated, store_after, outs_after, fires}
-use Rattle.civl_firing.proofs.Finding.{swapped}
 use Rattle.civl_layers.specs.Names.{uses}
 use Rattle.civl_conditions.specs.footprints.Agreement.{AgreeBut, AgreeOn, StoresAgree, fails_test, names_other, action_uses}
 use Rattle.civl_conditions.specs.footprints.Laws.{ActsAlike, FireAlike}
@@ -64,7 +64,7 @@ module _ (test : Global → Bool) where
 
   -- ---- updates
 
-  set_agrees : (gs : List Global) (vs ws : List Value) (i : ℕ) (x y : Value) → x ≡ y → AgreeOn test gs vs ws → AgreeOn test gs (slice_set vs i x) (slice_set ws i y)
+  pub set_agrees : (gs : List Global) (vs ws : List Value) (i : ℕ) (x y : Value) → x ≡ y → AgreeOn test gs vs ws → AgreeOn test gs (slice_set vs i x) (slice_set ws i y)
   set_agrees [] [] [] i x y e a = tt
   set_agrees (g ∷ gs) (v ∷ vs) (w ∷ ws) zero x y e a = (λ f. e, a.1)
   set_agrees (g ∷ gs) (v ∷ vs) (w ∷ ws) (suc i) x y e a = (a.0, set_agrees gs vs ws i x y e a.1)

@@ -4,6 +4,7 @@ use Rattle.std.specs.Prelude.{slice_set, map, if◌then◌else◌}
 use Rattle.std.specs.List.{list_any}
 use Rattle.std.specs.Str.{bytes_eq}
 use Rattle.std.proofs.lemmas.Bool.{or_left, or_right, or_parts, or_from, true≢false, false≢true}
+use Rattle.std.proofs.Math.Bool.{not-not}
 use Rattle.civl_bits.specs.declared.value.Value.{Value}
 use Rattle.civl_firing.specs.values.Values.{HaveSorts}
 use Rattle.civl_tree.specs.declared.name.Name.{Name}
@@ -58,10 +59,6 @@ agree_both test _ _ _ a b = absurd a
 next_set : (v x : Value) (vs : List Value) (k : ℕ) → slice_set (v ∷ vs) (k + 1) x ≡ v ∷ slice_set vs k x
 next_set v x vs k = ap (λ (i : ℕ). slice_set (v ∷ vs) i x) (add-one k)
 
-not_not : (b : Bool) → not (not b) ≡ b
-not_not true = refl
-not_not false = refl
-
 module _ (test : Global → Bool) where
   -- what has the name doesn't pass
   abbrev Misses : List Global → Name → Type 0
@@ -75,7 +72,7 @@ module _ (test : Global → Bool) where
           AgreeOn test (g ∷ gs) (u ∷ us) (slice_set (v ∷ vs) (if bytes_eq g.name.bytes n.bytes then 0 else place_of (global_names gs) n + 1) x)
       go true e behind =
           subst (λ (b : Bool). AgreeOn test (g ∷ gs) (u ∷ us) (slice_set (v ∷ vs) (if b then 0 else place_of (global_names gs) n + 1) x)) (sym e)
-          (λ passes. absurd (true≢false (sym passes ∙ (sym (not_not (test g)) ∙ (sym (names_first (λ h. not (test h)) g gs n true e) ∙ h)))), a.1)
+          (λ passes. absurd (true≢false (sym passes ∙ (sym (not-not (test g)) ∙ (sym (names_first (λ h. not (test h)) g gs n true e) ∙ h)))), a.1)
       go false e behind =
           subst (λ (b : Bool). AgreeOn test (g ∷ gs) (u ∷ us) (slice_set (v ∷ vs) (if b then 0 else place_of (global_names gs) n + 1) x)) (sym e)
           (subst (AgreeOn test (g ∷ gs) (u ∷ us)) (sym (next_set v x vs (place_of (global_names gs) n))) (a.0, behind (sym (names_first (λ h. not (test h)) g gs n false e) ∙ h)))
@@ -114,7 +111,7 @@ module _ (action : Action) where
   target_missed (g ∷ gs) n h = go (bytes_eq g.name.bytes n.bytes) refl (target_missed gs n h)
     where
       go : (same : Bool) → bytes_eq g.name.bytes n.bytes ≡ same → names_other Target gs n ≡ false → names_other Target (g ∷ gs) n ≡ false
-      go true e behind = names_first Target g gs n true e ∙ (not_not (not (has_name (targets_of action) g.name)) ∙ ap not (h g e))
+      go true e behind = names_first Target g gs n true e ∙ (not-not (not (has_name (targets_of action) g.name)) ∙ ap not (h g e))
       go false e behind = names_first Target g gs n false e ∙ behind
 
   -- of some of the action's updates, whose targets are those of the action
@@ -138,7 +135,7 @@ leaves_others test gs store action inputs chosen after fit unused e =
   where
     twice : (o : Option Global) → fails_test (λ g. not (not (test g))) o ≡ fails_test test o
     twice None = refl
-    twice (Some g) = not_not (not (test g))
+    twice (Some g) = not-not (not (test g))
 
     all_missed : (us : List Update) → list_any (λ u. names_other test gs u.target || uses (names_other test gs) u.expr) us ≡ false → list_any (λ u. names_other (λ g. not (not (test g))) gs u.target) us ≡ false
     all_missed [] h = refl

@@ -1,6 +1,6 @@
 -- Paths see what their statements see: in two states that agree on the globals that these use they come to states that agree.
-use Rattle.std.proofs.Common.{◌≡◌, ℕ, zero, suc, ◌+◌, Bool, true, false, ◌||◌, List, [], ◌∷◌, ◌++◌, map, refl, sym, ap, ◌∙◌, subst, append-nil}
-use Rattle.std.specs.Prelude.{slice_set, if◌then◌else◌}
+use Rattle.std.proofs.Common.{◌≡◌, ℕ, ◌+◌, Bool, true, false, ◌||◌, List, [], ◌∷◌, ◌++◌, map, refl, sym, ap, ◌∙◌, subst, append-nil}
+use Rattle.std.specs.Prelude.{if◌then◌else◌}
 use Rattle.std.proofs.lemmas.Bool.{true≢false, false≢true}
 use Rattle.civl_bits.specs.declared.value.Value.{Value}
 use Rattle.civl_tree.specs.declared.name.Name.{Name}
@@ -23,8 +23,8 @@ use Rattle.civl_layers.specs.declared.cut.Cut.{Cut}
 use Rattle.civl_layers.specs.declared.cut.CutKind.{CutKind}
 use Rattle.civl_layers.specs.declared.cut.CutKind.TheVariants as kind
 use Rattle.civl_layers.specs.Names.{uses}
-use Rattle.civl_conditions.specs.footprints.Agreement.{AgreeOn, names_other}
-use Rattle.civl_conditions.proofs.footprints.Acting.{present_agree}
+use Rattle.civl_conditions.specs.footprints.Agreement.{names_other}
+use Rattle.civl_conditions.proofs.footprints.Acting.{present_agree, set_agrees}
 use Rattle.civl_conditions.proofs.footprints.Seeing.{one_value_in}
 use Rattle.civl_conditions.specs.paths.NoteValues.{plain_note_values}
 use Rattle.civl_conditions.specs.paths.Paths.{Course, Progress, Outcome, Past, Comes, Fails, Stops, after, came, stepped, tested, introduced, pass, pass_all, from_loop, from_layer, from_rest, from_kind, path_from}
@@ -32,12 +32,6 @@ use Rattle.civl_conditions.specs.paths.Seen.{StatesAgree, OutcomesAgree, Changes
 use Rattle.civl_conditions.proofs.paths.Passing.{pass_layer, pass_is, pass_none, pass_more}
 use Rattle.civl_conditions.proofs.paths.Each.{Each, EachIn, each_first, each_others, each_branch, each_else, each_of_layer, each_own, each_numbered, rest_each}
 use Rattle.civl_conditions.proofs.paths.Seeing.{CallSeen, FormSeen, step_alike}
-
-set_agrees : (test : Global → Bool) (gs : List Global) (vs ws : List Value) (i : ℕ) (x y : Value) → x ≡ y → AgreeOn test gs vs ws → AgreeOn test gs (slice_set vs i x) (slice_set ws i y)
-set_agrees test [] [] [] i x y e a = tt
-set_agrees test (g ∷ gs) (v ∷ vs) (w ∷ ws) zero x y e a = (λ f. e, a.1)
-set_agrees test (g ∷ gs) (v ∷ vs) (w ∷ ws) (suc i) x y e a = (a.0, set_agrees test gs vs ws i x y e a.1)
-set_agrees test _ _ _ i x y e a = absurd a
 
 module _ (test : Global → Bool) (c : Course) where
   abbrev gs : List Global

@@ -1,6 +1,6 @@
 -- What is still to run from a place of a body belongs to the body: from its own place on, and from those behind it and inside
 -- its first statement, what is still to run is the rest of it.
-use Rattle.std.proofs.Common.{◌≡◌, ℕ, ◌+◌, ◌<◌, ◌≤◌, Bool, true, false, List, [], ◌∷◌, ◌++◌, map, refl, sym, ap, ◌∙◌, subst, arith, inl, inr}
+use Rattle.std.proofs.Common.{◌≡◌, ℕ, ◌+◌, ◌<◌, ◌≤◌, Bool, true, false, List, [], ◌∷◌, ◌++◌, map, refl, sym, ap, ◌∙◌, subst, arith, inl, inr, map-id}
 use Rattle.std.proofs.lemmas.Bool.{false≢true, cases_lt, lt-ltb, le-ltb, eq-eqb, ne_eqb}
 use Rattle.std.specs.Prelude.{if◌then◌else◌}
 use Rattle.civl_tree.specs.declared.expr.Expr.{Expr}
@@ -9,20 +9,10 @@ use Rattle.civl_tree.specs.declared.stmt.Stmt.TheOpen.{Stmt-F, If, While, YieldL
 use Rattle.civl_tree.specs.declared.stmt.Stmt.TheFolds.{ind-Stmt}
 use Rattle.civl_tree.specs.Numbering.{size_step, size_of, sizes_of, numbered}
 use Rattle.civl_tree.proofs.Numbers.{sizes_more}
+use Rattle.civl_tree.proofs.Sizes.{size_is_some, size_by}
 use Rattle.civl_meaning.specs.Places.{start_of}
 use Rattle.civl_meaning.specs.Rest.{Rest, rest_inside, rest_among, rest_at, place_in}
 use Rattle.civl_meaning.proofs.Rests.{rest_layer, rest_is, among_rest, rest_none}
-use Rattle.civl_meaning.proofs.Spots.{size_is}
-
-layer_is_some : (d : Stmt-F ℕ) → 1 ≤ size_step d
-layer_is_some (If e a b) = omega arith
-layer_is_some (While e a) = omega arith
-layer_is_some (YieldLoop e i a) = omega arith
-layer_is_some (RankLoop e r i a) = omega arith
-layer_is_some _ = omega arith
-
-pub size_is_some : (s : Stmt) → 1 ≤ size_of s
-size_is_some s = let h = layer_is_some (map-Stmt Stmt ℕ size_of (out-Stmt s)) in let e = size_is s in omega arith
 
 -- from a place of these statements on, what is still to run in the body is what is still to run among them, with k behind
 abbrev pub Covers : List Stmt → List Stmt → ℕ → Rest → Type 0
@@ -50,7 +40,7 @@ in_first s ss at k w low h =
 pub past_first : (s : Stmt) (ss : List Stmt) (at : ℕ) (k : Rest) (w : ℕ) → at + size_of s ≤ w → rest_among (s ∷ ss) at k w ≡ rest_among ss (at + size_of s) k w
 past_first s ss at k w h = among_rest s ss at k w ∙ rw (le-ltb w (at + size_of s) h) refl
 
-past_all : (ss : List Stmt) (at : ℕ) (k : Rest) (w : ℕ) → at + sizes_of ss ≤ w → rest_among ss at k w ≡ k
+pub past_all : (ss : List Stmt) (at : ℕ) (k : Rest) (w : ℕ) → at + sizes_of ss ≤ w → rest_among ss at k w ≡ k
 past_all [] at k w h = rest_none at k w
 past_all (s ∷ ss) at k w h =
     let more = sizes_more s ss in
@@ -68,10 +58,6 @@ first_with : (s : Stmt) (ss : List Stmt) (at : ℕ) (k : Rest) (w : ℕ) → w <
 first_with s ss at k w h =
     let b = lt-ltb w (at + size_of s) h in
     among_rest s ss at k w ∙ if_so _ _ _ b ∙ sym (if_so _ _ _ b) ∙ sym (among_rest s [] at (numbered (at + size_of s) ss ++ k) w)
-
-pub map_same : (ss : List Stmt) → map (λ s. s) ss ≡ ss
-map_same [] = refl
-map_same (s ∷ ss) = ap (λ (r : List Stmt). s ∷ r) (map_same ss)
 
 module _ (body : List Stmt) where
   covers_first : (s : Stmt) (ss : List Stmt) (at : ℕ) (k : Rest) → Covers body (s ∷ ss) at k → Covers body (s ∷ []) at (numbered (at + size_of s) ss ++ k)
@@ -107,9 +93,6 @@ module _ (body : List Stmt) where
   inside_first s at k d e c w low high =
       let alone = sizes_more s [] in
       c w (omega arith) (omega arith) ∙ in_first s [] at k w low high ∙ rest_is s s at k w ∙ ap (λ (d : Stmt-F Stmt). rest_layer d s at k w) e
-
-  size_by : (s : Stmt) (d : Stmt-F Stmt) → out-Stmt s ≡ d → size_of s ≡ size_step (map-Stmt Stmt ℕ size_of d)
-  size_by s d e = size_is s ∙ ap (λ (d : Stmt-F Stmt). size_step (map-Stmt Stmt ℕ size_of d)) e
 
   pub first_covered : (s : Stmt) (at : ℕ) (k : Rest) (e : Expr) (a b : List Stmt) → out-Stmt s ≡ If e a b → Covers body (s ∷ []) at k → Covers body a (at + 1) k
   first_covered s at k e a b o c w low high =
@@ -178,5 +161,5 @@ module _ (body : List Stmt) where
 
   pub rest_belongs : (w : ℕ) → Belongs body (rest_at body w)
   rest_belongs w =
-      subst (λ (ss : List Stmt). Covers body ss 0 [] → Belongs body (rest_among ss 0 [] w)) (map_same body)
+      subst (λ (ss : List Stmt). Covers body ss 0 [] → Belongs body (rest_among ss 0 [] w)) (map-id body)
       (λ c. among_belongs body (λ (s : Stmt). s) within 0 [] w (omega arith) c (exit_is body)) (λ w low high. refl)

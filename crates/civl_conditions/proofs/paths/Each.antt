@@ -1,32 +1,23 @@
 -- What holds of each statement of a body, with its number, holds of each statement that is still to run from a place, and of
 -- those in it.
-use Rattle.std.proofs.Common.{◌≡◌, ℕ, zero, suc, ◌+◌, Bool, true, false, List, [], ◌∷◌, ◌++◌, map, length, refl, sym, ap, ◌∙◌, subst, arith, Some}
-use Rattle.std.proofs.lemmas.Option.{none-some}
-use Rattle.std.specs.Prelude.{slice_get, nat_lt, nat_eq, if◌then◌else◌}
+use Rattle.std.proofs.Common.{◌≡◌, ℕ, suc, ◌+◌, List, [], ◌∷◌, ◌++◌, map, length, refl, sym, ap, ◌∙◌, subst, arith, Some, map-id}
+use Rattle.std.specs.Prelude.{slice_get, nat_lt, nat_eq}
 use Rattle.civl_tree.specs.declared.stmt.Stmt.{Stmt, roll-Stmt, out-roll-Stmt, map-Stmt}
 use Rattle.civl_tree.specs.declared.stmt.Stmt.TheOpen.{Stmt-F, If, While, YieldLoop, RankLoop}
 use Rattle.civl_tree.specs.declared.stmt.Stmt.TheFolds.{ind-Stmt}
 use Rattle.civl_tree.specs.Numbering.{size_of, sizes_of, numbered, inner_of, statements_of}
 use Rattle.civl_tree.proofs.Numbers.{sizes_are_counts}
 use Rattle.civl_tree.proofs.Preorder.{inner_layer, inner_is}
+use Rattle.civl_tree.proofs.Bools.{either}
+use Rattle.civl_tree.proofs.Lists.{get_front}
 use Rattle.civl_meaning.specs.Rest.{Rest, rest_inside, rest_among, rest_at}
 use Rattle.civl_meaning.proofs.Rests.{rest_layer, rest_is, among_rest, rest_none}
-use Rattle.civl_conditions.proofs.paths.Belonging.{map_same}
 use Rattle.civl_conditions.proofs.paths.Heading.{counted}
-
-left_at : (xs ys : List Stmt) (j : ℕ) (s : Stmt) → slice_get xs j ≡ Some s → slice_get (xs ++ ys) j ≡ Some s
-left_at [] ys j s e = absurd (none-some s e)
-left_at (x ∷ xs) ys zero s e = e
-left_at (x ∷ xs) ys (suc j) s e = left_at xs ys j s e
 
 -- behind these elements
 right_at : (xs ys : List Stmt) (j : ℕ) (s : Stmt) → slice_get ys j ≡ Some s → (i : ℕ) × (i ≡ length xs + j) × (slice_get (xs ++ ys) i ≡ Some s)
 right_at [] ys j s e = (j, omega arith, e)
 right_at (x ∷ xs) ys j s e = let r = right_at xs ys j s e in let place = r.1 in (suc r.0, omega arith, r.2)
-
-either : (P : Rest → Type 0) (b : Bool) (x y : Rest) → P x → P y → P (if b then x else y)
-either P true x y p q = p
-either P false x y p q = q
 
 module _ (Holds : ℕ → Stmt → Type 0) where
   -- of each of these, which have the numbers from this one on
@@ -34,7 +25,7 @@ module _ (Holds : ℕ → Stmt → Type 0) where
   Each at ss = (j n : ℕ) (s : Stmt) → n ≡ at + j → slice_get ss j ≡ Some s → Holds n s
 
   pub each_left : (at : ℕ) (xs ys : List Stmt) → Each at (xs ++ ys) → Each at xs
-  each_left at xs ys h j n s e g = h j n s e (left_at xs ys j s g)
+  each_left at xs ys h j n s e g = h j n s e (get_front xs ys j s g)
 
   pub each_right : (at next : ℕ) (xs ys : List Stmt) → next ≡ at + length xs → Each at (xs ++ ys) → Each next ys
   each_right at next xs ys f h j n s e g = let r = right_at xs ys j s g in let place = r.1 in h r.0 n s (omega arith) r.2
@@ -106,5 +97,5 @@ module _ (Holds : ℕ → Stmt → Type 0) where
 
   pub rest_each : (body : List Stmt) (w : ℕ) → Each 0 (statements_of body) → EachIn (rest_at body w)
   rest_each body w =
-      subst (λ (ss : List Stmt). Each 0 (statements_of ss) → EachIn (rest_among ss 0 [] w)) (map_same body)
+      subst (λ (ss : List Stmt). Each 0 (statements_of ss) → EachIn (rest_among ss 0 [] w)) (map-id body)
       (λ h. among_each body (λ (s : Stmt). s) within 0 [] w h tt)

@@ -73,7 +73,7 @@ any_mapped : (p : ℕ → Bool) (f : ℕ → ℕ) (ns : List ℕ) → list_any (
 any_mapped p f [] = refl
 any_mapped p f (n ∷ ns) = ap (λ (b : Bool). p (f n) || b) (any_mapped p f ns)
 
-among_same : (p q : ℕ → Bool) → ((n : ℕ) → p n ≡ q n) → (at : ℕ) (cuts : List Cut) → ends_among p at cuts ≡ ends_among q at cuts
+pub among_same : (p q : ℕ → Bool) → ((n : ℕ) → p n ≡ q n) → (at : ℕ) (cuts : List Cut) → ends_among p at cuts ≡ ends_among q at cuts
 among_same p q h at [] = ap (λ (b : Bool). if b then at ∷ [] else []) (h at)
 among_same p q h at (cut ∷ cuts) =
     ap (λ (b : Bool). (if b then at ∷ [] else []) ++ ends_among p (at + 1) cuts) (h at) ∙ ap (λ (l : List ℕ). (if q at then at ∷ [] else []) ++ l) (among_same p q h (at + 1) cuts)

@@ -1,14 +1,14 @@
 -- Flows one behind the other, and their numbers; where no path begins in statements, the walk over them does what the flow says.
-use Rattle.std.proofs.Common.{◌≡◌, ℕ, ◌+◌, ◌<◌, ◌≤◌, Bool, true, false, List, [], ◌∷◌, ◌++◌, map, refl, sym, ap, ◌∙◌, subst, append_assoc, Option, arith}
+use Rattle.std.proofs.Common.{◌≡◌, ℕ, ◌+◌, ◌<◌, ◌≤◌, Bool, true, false, List, [], ◌∷◌, ◌++◌, map, refl, sym, ap, ◌∙◌, subst, append_assoc, Option, arith, map-id}
 use Rattle.std.proofs.lemmas.List.{append-nil, map-append}
 use Rattle.std.specs.Prelude.{if◌then◌else◌, ◌||◌}
-use Rattle.civl_tree.specs.declared.stmt.Stmt.{Stmt, out-Stmt, roll-Stmt, out-roll-Stmt, map-Stmt}
+use Rattle.civl_tree.specs.declared.stmt.Stmt.{Stmt, roll-Stmt, out-roll-Stmt, map-Stmt}
 use Rattle.civl_tree.specs.declared.stmt.Stmt.TheOpen.{Stmt-F, If, While, YieldLoop, RankLoop, Yield, Spawn}
 use Rattle.civl_tree.specs.declared.stmt.Stmt.TheFolds.{ind-Stmt}
 use Rattle.civl_tree.specs.Numbering.{size_step, size_of, sizes_of, numbered}
 use Rattle.civl_tree.proofs.Numbers.{sizes_more}
+use Rattle.civl_tree.proofs.Sizes.{size_is, size_is_some}
 use Rattle.civl_meaning.specs.Rest.{Rest}
-use Rattle.civl_meaning.proofs.Spots.{size_is}
 use Rattle.civl_conditions.specs.declared.paths.met.Met.{Met}
 use Rattle.civl_conditions.specs.paths.Flows.{Flow, ended_flow, flow_then, flow_or, flow_with, flow, flow_all}
 use Rattle.civl_conditions.specs.paths.Meets.{numbers_met, is_from, with_onward, met_passing, met_ending, met_entering, met_behind, met_either, walk, walk_all}
@@ -116,16 +116,6 @@ branch_is number m a b = branch_cases number m.passed m.ends m.onward a b
 
 -- ---- statements in which no path begins
 
-layer_is_some : (d : Stmt-F ℕ) → 1 ≤ size_step d
-layer_is_some (If e a b) = omega arith
-layer_is_some (While e a) = omega arith
-layer_is_some (YieldLoop e i a) = omega arith
-layer_is_some (RankLoop e r i a) = omega arith
-layer_is_some _ = omega arith
-
-pub size_is_some : (s : Stmt) → 1 ≤ size_of s
-size_is_some s = let h = layer_is_some (map-Stmt Stmt ℕ size_of (out-Stmt s)) in let e = size_is s in omega arith
-
 -- none of so many numbers from this one on is that from which the paths begin
 abbrev pub IsApart : Option ℕ → ℕ → ℕ → Type 0
 IsApart from at size = (n : ℕ) → at ≤ n → n < at + size → is_from from n ≡ false
@@ -189,14 +179,10 @@ follows s =
     ∙ ap (λ (d : Stmt-F Stmt). met_then m (numbers_met (flow_of_layer d t at))) (sym q)
     ∙ ap (λ (f : Flow). met_then m (numbers_met f)) (sym (flow_is r t at))) s
 
-map_same : (ss : List Stmt) → map (λ s. s) ss ≡ ss
-map_same [] = refl
-map_same (s ∷ ss) = ap (λ (r : List Stmt). s ∷ r) (map_same ss)
-
 -- the walk over statements in which no path begins
 pub walk_apart : (from : Option ℕ) (ss : List Stmt) (at : ℕ) (m : Met) → IsApart from at (sizes_of ss) → walk_all from ss at m ≡ met_then m (numbers_met (flow_all (numbered at ss)))
 walk_apart from ss at m apart =
-    subst (λ (r : List Stmt). IsApart from at (sizes_of r) → walk_all from r at m ≡ met_then m (numbers_met (flow_all (numbered at r)))) (map_same ss) (all_follow ss (λ (s : Stmt). s) follows from at m) apart
+    subst (λ (r : List Stmt). IsApart from at (sizes_of r) → walk_all from r at m ≡ met_then m (numbers_met (flow_all (numbered at r)))) (map-id ss) (all_follow ss (λ (s : Stmt). s) follows from at m) apart
 
 -- and over one
 pub one_apart : (from : Option ℕ) (s : Stmt) (at : ℕ) (m : Met) → IsApart from at (size_of s) → walk from s at m ≡ met_then m (numbers_met (flow s s at))

@@ -9,6 +9,7 @@ use Rattle.civl_tree.specs.declared.stmt.Stmt.TheOpen as stmt
 use Rattle.civl_tree.specs.rules.Names.{names_in_proc}
 use Rattle.civl_tree.specs.Numbering.{size_step, size_of, sizes_of, numbered}
 use Rattle.civl_tree.proofs.Numbers.{sizes_more}
+use Rattle.civl_tree.proofs.Sizes.{size_is, size_is_some}
 use Rattle.civl_firing.specs.declared.firing.Fired.{Fired}
 use Rattle.civl_firing.specs.declared.firing.Fired.TheVariants as fire
 use Rattle.civl_firing.specs.Eval.{values_of}
@@ -22,11 +23,10 @@ use Rattle.civl_meaning.specs.Places.{Spot, skip_layer, is_skipped, start_of}
 use Rattle.civl_meaning.specs.Rest.{Rest, rest_at, place_in, head_of}
 use Rattle.civl_meaning.specs.Change.{layer_change, call_change, acted}
 use Rattle.civl_meaning.proofs.Rests.{spot_of_rest}
-use Rattle.civl_meaning.proofs.Spots.{size_is}
 use Rattle.civl_conditions.specs.paths.Paths.{Course, Progress, Outcome, Past, Comes, Fails, Stops, after, came, tested, committed, introduced, pass, pass_all}
 use Rattle.civl_conditions.specs.paths.Runs.{Standing, rest_of, comes_to, layer_led, led, layer_yields, layer_leads, yield_before, layer_ends, Advance, Ends, Stands, advance_by, advance_from, advance_at, advance, Reaches}
 use Rattle.civl_conditions.proofs.paths.Passing.{after_same, pass_layer, pass_is, pass_none, pass_more}
-use Rattle.civl_conditions.proofs.paths.Belonging.{Belongs, size_is_some, all_belong, own_place, start_place, first_covered, second_covered, rest_belongs}
+use Rattle.civl_conditions.proofs.paths.Belonging.{Belongs, all_belong, own_place, start_place, first_covered, second_covered, rest_belongs}
 
 -- ---- rests
 

@@ -1,5 +1,5 @@
 -- What is still to run from the number of a statement begins with it.
-use Rattle.std.proofs.Common.{◌≡◌, ℕ, zero, suc, ◌+◌, ◌<◌, List, [], ◌∷◌, ◌++◌, map, length, sym, ap, ◌∙◌, subst, arith, Some, ◌⊎◌, inl, inr, append-nil}
+use Rattle.std.proofs.Common.{◌≡◌, ℕ, zero, suc, ◌+◌, ◌<◌, List, [], ◌∷◌, ◌++◌, map, length, sym, ap, ◌∙◌, subst, arith, Some, ◌⊎◌, inl, inr, append-nil, map-id}
 use Rattle.std.proofs.lemmas.Bool.{lt-ltb, le-ltb}
 use Rattle.std.proofs.lemmas.Option.{none-some}
 use Rattle.std.specs.Prelude.{slice_get}
@@ -11,7 +11,7 @@ use Rattle.civl_tree.proofs.Numbers.{sizes_more, sizes_are_counts}
 use Rattle.civl_tree.proofs.Preorder.{inner_layer, inner_is}
 use Rattle.civl_meaning.specs.Rest.{Rest, rest_inside, rest_among, rest_at}
 use Rattle.civl_meaning.proofs.Rests.{rest_layer, rest_is}
-use Rattle.civl_conditions.proofs.paths.Belonging.{map_same, at_first, in_first, past_first}
+use Rattle.civl_conditions.proofs.paths.Belonging.{at_first, in_first, past_first}
 
 -- this statement with this number, and others
 abbrev pub Begins : Rest → ℕ → Stmt → Type 0
@@ -79,5 +79,5 @@ heads s =
 
 pub number_begins : (body : List Stmt) (n : ℕ) (s : Stmt) → slice_get (statements_of body) n ≡ Some s → Begins (rest_at body n) n s
 number_begins body n s =
-    subst (λ (ss : List Stmt). slice_get (statements_of ss) n ≡ Some s → Begins (rest_among ss 0 [] n) n s) (map_same body)
+    subst (λ (ss : List Stmt). slice_get (statements_of ss) n ≡ Some s → Begins (rest_among ss 0 [] n) n s) (map-id body)
     (among_heads body (λ (s : Stmt). s) heads 0 [] n n s (omega arith))

@@ -1,5 +1,5 @@
 -- A walk passes statements in the order of the text.
-use Rattle.std.proofs.Common.{◌≡◌, ℕ, zero, suc, ◌+◌, ◌<◌, ◌≤◌, Bool, true, false, List, [], ◌∷◌, ◌++◌, map, refl, sym, ap, ◌∙◌, subst, append_assoc, Option, arith}
+use Rattle.std.proofs.Common.{◌≡◌, ℕ, zero, suc, ◌+◌, ◌<◌, ◌≤◌, Bool, true, false, List, [], ◌∷◌, ◌++◌, map, refl, sym, ap, ◌∙◌, subst, append_assoc, Option, arith, map-id}
 use Rattle.std.proofs.lemmas.List.{append-nil}
 use Rattle.std.specs.List.Sorted.{IsStrictlyIncreasing}
 use Rattle.std.specs.Prelude.{slice_index, nat_lt, if◌then◌else◌}
@@ -9,7 +9,7 @@ use Rattle.civl_tree.specs.declared.stmt.Stmt.TheOpen.{Stmt-F, If, While, YieldL
 use Rattle.civl_tree.specs.declared.stmt.Stmt.TheFolds.{ind-Stmt}
 use Rattle.civl_tree.specs.Numbering.{size_step, size_of, sizes_of}
 use Rattle.civl_tree.proofs.Numbers.{sizes_more}
-use Rattle.civl_meaning.proofs.Spots.{size_is}
+use Rattle.civl_tree.proofs.Sizes.{size_is}
 use Rattle.civl_conditions.specs.declared.paths.met.Met.{Met}
 use Rattle.civl_conditions.specs.paths.Meets.{is_from, with_onward, met_passing, met_ending, met_entering, met_behind, met_past, nothing_met, walk, walk_all}
 use Rattle.civl_conditions.proofs.paths.Walked.{walk_layer, walk_is, walk_none, walk_more}
@@ -135,10 +135,6 @@ adds s =
     subst (λ (n : ℕ). Added at n m.passed (walk from r at m).passed) (sym sized)
     (subst (λ (w : Met). Added at (size_step (map-Stmt Stmt ℕ size_of (map-Stmt _ Stmt (λ z. z.0) y))) m.passed w.passed) (sym walked) (layer_adds y (λ z. z.0) (λ z. z.1) from at m))) s
 
-map_same : (ss : List Stmt) → map (λ s. s) ss ≡ ss
-map_same [] = refl
-map_same (s ∷ ss) = ap (λ (r : List Stmt). s ∷ r) (map_same ss)
-
 past_same : (from : Option ℕ) (end : ℕ) (m : Met) → (met_past from end m).passed ≡ m.passed
 past_same from end m = by_test (option_map_or (λ n. nat_lt n end) from true)
   where
@@ -149,5 +145,5 @@ past_same from end m = by_test (option_map_or (λ n. nat_lt n end) from true)
 -- what a walk over a body passes, in the order of the text
 pub walk_rises : (from : Option ℕ) (body : List Stmt) (onward : Bool) (end : ℕ) → IsStrictlyIncreasing (met_past from end (walk_all from body 0 (nothing_met onward))).passed
 walk_rises from body onward end =
-    let added = subst (λ (ss : List Stmt). Added 0 (sizes_of ss) [] (walk_all from ss 0 (nothing_met onward)).passed) (map_same body) (all_add body (λ (s : Stmt). s) adds from 0 (nothing_met onward)) in
+    let added = subst (λ (ss : List Stmt). Added 0 (sizes_of ss) [] (walk_all from ss 0 (nothing_met onward)).passed) (map-id body) (all_add body (λ (s : Stmt). s) adds from 0 (nothing_met onward)) in
     subst IsStrictlyIncreasing (sym (past_same from end (walk_all from body 0 (nothing_met onward)) ∙ added.is)) (rising 0 (0 + sizes_of body) added.more added.within)

@@ -1,5 +1,5 @@
 -- The statements that paths pass stand in the body at their numbers.
-use Rattle.std.proofs.Common.{◌≡◌, ℕ, ◌+◌, Bool, true, false, List, [], ◌∷◌, ◌++◌, map, refl, sym, ap, ap₂, ◌∙◌, subst, Option, Some}
+use Rattle.std.proofs.Common.{◌≡◌, ℕ, ◌+◌, Bool, true, false, List, [], ◌∷◌, ◌++◌, map, refl, sym, ap, ap₂, ◌∙◌, subst, Option, Some, map-id}
 use Rattle.std.specs.Prelude.{if◌then◌else◌, nat_lt, nat_eq}
 use Rattle.std.specs.List.{AllByRecursion}
 use Rattle.civl_tree.specs.declared.expr.Expr.{Expr}
@@ -93,13 +93,9 @@ module _ (body : List Stmt) where
       let q = out-roll-Stmt x ∙ sym e in
       subst AllStand (sym (rest_is r r at k w ∙ ap (λ (d : Stmt-F Stmt). rest_layer d r at k w) q)) (layer_leaves y (λ z. z.0) (λ z. z.1) r at k w q n i)) s
 
-  map_same : (ss : List Stmt) → map (λ s. s) ss ≡ ss
-  map_same [] = refl
-  map_same (s ∷ ss) = ap (λ (r : List Stmt). s ∷ r) (map_same ss)
-
   rest_stands : (w : ℕ) → AllStand (rest_at body w)
   rest_stands w =
-      subst (λ (ss : List Stmt). AreNumberedIn body 0 ss → AllStand (rest_among ss 0 [] w)) (map_same body) (λ n. all_leave body (λ (s : Stmt). s) leaves 0 [] w n tt) (body_statements_numbered body)
+      subst (λ (ss : List Stmt). AreNumberedIn body 0 ss → AllStand (rest_among ss 0 [] w)) (map-id body) (λ n. all_leave body (λ (s : Stmt). s) leaves 0 [] w n tt) (body_statements_numbered body)
 
   -- ---- what is passed
 

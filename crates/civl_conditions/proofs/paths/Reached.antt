@@ -16,6 +16,7 @@ use Rattle.civl_conditions.specs.declared.paths.met.Met.{Met}
 use Rattle.civl_conditions.specs.paths.Ends.{is_entry, ends_among, reaches}
 use Rattle.civl_conditions.specs.paths.EndsMet.{cuts_before, number_among, is_reached, ends_by, AreEnds}
 use Rattle.civl_conditions.specs.paths.Flows.{Flow, flow_from}
+use Rattle.civl_conditions.proofs.paths.Flowing.{among_same}
 
 -- ---- one number more
 
@@ -74,10 +75,6 @@ before_is number at (suc n) (stmt ∷ stmts) e =
 any_same : (f g : ℕ → ℕ) (end : ℕ) → ((n : ℕ) → nat_eq end (f n) ≡ nat_eq end (g n)) → (ns : List ℕ) → list_any (λ n. nat_eq end n) (map f ns) ≡ list_any (λ n. nat_eq end (g n)) ns
 any_same f g end h [] = refl
 any_same f g end h (n ∷ ns) = ap₂ (λ (a b : Bool). a || b) (h n) (any_same f g end h ns)
-
-among_same : (t u : ℕ → Bool) → ((n : ℕ) → t n ≡ u n) → (at : ℕ) (cuts : List Cut) → ends_among t at cuts ≡ ends_among u at cuts
-among_same t u h at [] = ap (λ (b : Bool). if b then at ∷ [] else []) (h at)
-among_same t u h at (cut ∷ cuts) = ap₂ (λ (b : Bool) (ns : List ℕ). (if b then at ∷ [] else []) ++ ns) (h at) (among_same t u h (at + 1) cuts)
 
 -- the number of a cut by what stands before it
 abbrev counted : List Stmt → ℕ → ℕ

@@ -1,39 +1,27 @@
 -- Each statement that some path from a cut passes stands in the body, at its number.
-use Rattle.std.proofs.Common.{◌≡◌, ℕ, zero, suc, ◌+◌, ◌<◌, ◌≤◌, Bool, true, false, List, [], ◌∷◌, ◌++◌, map, length, Some, refl, sym, ap, ◌∙◌, subst, append-nil, arith, inl, inr}
+use Rattle.std.proofs.Common.{◌≡◌, ℕ, ◌+◌, Bool, true, false, List, [], ◌∷◌, ◌++◌, map, length, Some, refl, sym, ap, ◌∙◌, subst, append-nil, arith, inl, inr}
 use Rattle.std.proofs.lemmas.Bool.{cases_lt}
-use Rattle.std.specs.Prelude.{slice_get}
 use Rattle.civl_tree.specs.declared.stmt.Stmt.{Stmt, out-Stmt, roll-Stmt, out-roll-Stmt, map-Stmt}
 use Rattle.civl_tree.specs.declared.stmt.Stmt.TheOpen.{Stmt-F, If, While, YieldLoop, RankLoop, Yield, Spawn}
 use Rattle.civl_tree.specs.declared.stmt.Stmt.TheFolds.{ind-Stmt}
 use Rattle.civl_tree.specs.declared.program.Proc.{Proc}
 use Rattle.civl_tree.specs.Numbering.{size_of, sizes_of, numbered, statements_of, statement_at}
 use Rattle.civl_tree.proofs.Numbers.{sizes_more, sizes_are_counts}
-use Rattle.civl_meaning.specs.Rest.{Rest, rest_among, rest_at}
-use Rattle.civl_meaning.proofs.Rests.{rest_none}
+use Rattle.civl_tree.proofs.Sizes.{size_is_some}
+use Rattle.civl_tree.proofs.Lists.{get_there}
+use Rattle.civl_meaning.specs.Rest.{Rest, rest_at}
 use Rattle.civl_layers.specs.declared.cut.Cut.{Cut}
 use Rattle.civl_layers.specs.declared.cut.CutKind.{CutKind}
 use Rattle.civl_layers.specs.declared.cut.CutKind.TheVariants as kind
 use Rattle.civl_conditions.specs.paths.Flows.{Flow, flow_then, flow_or, flow, flow_all, flow_loop, flow_layer, flow_rest, flow_kind, flow_from}
 use Rattle.civl_conditions.proofs.paths.Heading.{number_begins}
-use Rattle.civl_conditions.proofs.paths.Belonging.{Belongs, Covers, size_is_some, at_first, past_first, exit_is, all_belong, first_covered, second_covered, yield_loop_covered, rank_loop_covered, rest_belongs}
+use Rattle.civl_conditions.proofs.paths.Belonging.{Belongs, Covers, at_first, exit_is, all_belong, first_covered, second_covered, yield_loop_covered, rank_loop_covered, rest_belongs, past_all}
 use Rattle.civl_conditions.proofs.paths.Passing.{flow_of_layer, flow_is, flow_none, flow_more}
 
 -- each of these statements stands at its number
 abbrev pub Stand : List Stmt → List (ℕ × Stmt) → Type 0
 Stand body [] = Unit
 Stand body (q ∷ qs) = (statement_at body q.0 ≡ Some q.1) × Stand body qs
-
--- from the number behind a body on nothing is still to run
-past_end : (ss : List Stmt) (at : ℕ) (k : Rest) (w : ℕ) → at + sizes_of ss ≤ w → rest_among ss at k w ≡ k
-past_end [] at k w h = rest_none at k w
-past_end (s ∷ ss) at k w h =
-    let more = sizes_more s ss in
-    past_first s ss at k w (omega arith) ∙ past_end ss (at + size_of s) k w (omega arith)
-
-some_of : (xs : List Stmt) (n : ℕ) → n < length xs → (x : Stmt) × (slice_get xs n ≡ Some x)
-some_of [] n h = absurd (omega arith)
-some_of (x ∷ xs) zero h = (x, refl)
-some_of (x ∷ xs) (suc n) h = some_of xs n (omega arith)
 
 abbrev head_or : Stmt → Rest → Stmt
 head_or s [] = s
@@ -44,12 +32,12 @@ module _ (body : List Stmt) where
   pub begins_stands : (n : ℕ) (s : Stmt) (k : Rest) → rest_at body n ≡ (n, s) ∷ k → statement_at body n ≡ Some s
   begins_stands n s k e = elim (cases_lt n (length (statements_of body))) [
     | inl low ↦
-        let found = some_of (statements_of body) n low in
+        let found = get_there (statements_of body) n low in
         let begins = number_begins body n found.0 found.1 in
         found.1 ∙ ap (λ (t : Stmt). Some t) (ap (head_or s) (sym begins.1 ∙ e))
     | inr high ↦
         let counts = sizes_are_counts body in
-        let none : length {A = ℕ × Stmt} [] ≡ length ((n, s) ∷ k) = ap (length {A = ℕ × Stmt}) (sym (past_end body 0 [] n (omega arith)) ∙ e) in
+        let none : length {A = ℕ × Stmt} [] ≡ length ((n, s) ∷ k) = ap (length {A = ℕ × Stmt}) (sym (past_all body 0 [] n (omega arith)) ∙ e) in
         absurd (omega arith)
   ]
 

@@ -1,5 +1,5 @@
 -- The walk over statements in which the paths begin does what the flow from there says.
-use Rattle.std.proofs.Common.{◌≡◌, ℕ, ◌+◌, ◌<◌, ◌≤◌, Bool, true, false, List, [], ◌∷◌, ◌++◌, map, refl, sym, ap, ◌∙◌, subst, append_assoc, None, Some, inl, inr, arith}
+use Rattle.std.proofs.Common.{◌≡◌, ℕ, ◌+◌, ◌<◌, ◌≤◌, Bool, true, false, List, [], ◌∷◌, ◌++◌, map, refl, sym, ap, ◌∙◌, subst, append_assoc, None, Some, inl, inr, arith, map-id}
 use Rattle.std.proofs.lemmas.Bool.{cases_lt, lt-ltb, le-ltb, eq-eqb, ne_eqb}
 use Rattle.std.proofs.lemmas.List.{append-nil}
 use Rattle.std.specs.Prelude.{if◌then◌else◌, ◌||◌, is_none}
@@ -8,9 +8,9 @@ use Rattle.civl_tree.specs.declared.stmt.Stmt.TheOpen.{Stmt-F, If, While, YieldL
 use Rattle.civl_tree.specs.declared.stmt.Stmt.TheFolds.{ind-Stmt}
 use Rattle.civl_tree.specs.Numbering.{size_step, size_of, sizes_of, numbered}
 use Rattle.civl_tree.proofs.Numbers.{sizes_more}
+use Rattle.civl_tree.proofs.Sizes.{size_is, size_is_some}
 use Rattle.civl_meaning.specs.Rest.{Rest, rest_inside, rest_among, rest_at}
 use Rattle.civl_meaning.proofs.Rests.{rest_layer, rest_is, among_rest, rest_none}
-use Rattle.civl_meaning.proofs.Spots.{size_is}
 use Rattle.civl_tree.specs.declared.program.Proc.{Proc}
 use Rattle.civl_layers.specs.declared.cut.Cut.{Cut}
 use Rattle.civl_layers.specs.declared.cut.CutKind.{CutKind}
@@ -20,7 +20,7 @@ use Rattle.civl_conditions.specs.paths.Flows.{Flow, onward_flow, ended_flow, flo
 use Rattle.civl_conditions.specs.paths.Meets.{numbers_met, with_onward, met_ending, met_entering, met_behind, met_either, met_past, nothing_met, from_kind, from_cut, walk, walk_all}
 use Rattle.civl_conditions.proofs.paths.Passing.{flow_is, flow_none, flow_more}
 use Rattle.civl_conditions.proofs.paths.Walked.{walk_layer, walk_is, walk_more}
-use Rattle.civl_conditions.proofs.paths.Following.{flow_append, met_then, numbers_then, end_is, stop_is, behind_apart, size_is_some, IsApart, walk_apart, one_apart}
+use Rattle.civl_conditions.proofs.paths.Following.{flow_append, met_then, numbers_then, end_is, stop_is, behind_apart, IsApart, walk_apart, one_apart}
 
 -- ---- from a cut, with more behind
 
@@ -276,15 +276,11 @@ begins s =
     (walk_is (Some w) r at (idle p f) ∙ ap (λ (d : Stmt-F Stmt). walk_layer (Some w) d at (idle p f)) q)
     (layer_begins y (λ z. z.0) (λ z. z.1) r at w p f q l (subst (λ (n : ℕ). w < at + n) sized u))) s
 
-map_same : (ss : List Stmt) → map (λ s. s) ss ≡ ss
-map_same [] = refl
-map_same (s ∷ ss) = ap (λ (r : List Stmt). s ∷ r) (map_same ss)
-
 -- ---- a body
 
 begins_in : (body : List Stmt) (w : ℕ) → w < sizes_of body → Begun (λ k. rest_among body 0 k w) [] [] (walk_all (Some w) body 0 (nothing_met false))
 begins_in body w l =
-    subst (λ (ss : List Stmt). w < sizes_of ss → Begun (λ k. rest_among ss 0 k w) [] [] (walk_all (Some w) ss 0 (nothing_met false))) (map_same body)
+    subst (λ (ss : List Stmt). w < sizes_of ss → Begun (λ k. rest_among ss 0 k w) [] [] (walk_all (Some w) ss 0 (nothing_met false))) (map-id body)
     (λ u. all_begin body (λ (s : Stmt). s) begins 0 w [] [] (omega arith) (omega arith)) l
 
 past_all : (ss : List Stmt) (at w : ℕ) (k : Rest) → at + sizes_of ss ≤ w → rest_among ss at k w ≡ k

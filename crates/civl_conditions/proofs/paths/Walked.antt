@@ -1,7 +1,8 @@
 -- A walk over statements, one layer at a time.
 use Rattle.std.proofs.Common.{◌≡◌, ℕ, ◌+◌, ◌<◌, ◌≤◌, List, [], ◌∷◌, map, drop, length, get_or, refl, sym, ap, ◌∙◌, Option}
-use Rattle.std.proofs.lemmas.List.{drop_more, drop_all}
+use Rattle.std.proofs.lemmas.List.{drop_all}
 use Rattle.civl_tree.proofs.Numbers.{sizes_more}
+use Rattle.civl_tree.proofs.Lists.{drop_is}
 use Rattle.civl_tree.specs.declared.stmt.Stmt.{Stmt, out-Stmt, roll-out-Stmt, map-Stmt, the_lemmas as of_stmt}
 use Rattle.civl_tree.specs.declared.stmt.Stmt.TheOpen.{Stmt-F, Assign, Assert, If, While, YieldLoop, RankLoop, Call, Yield, Commit, Intro, Spawn}
 use Rattle.civl_tree.specs.declared.stmt.Stmt.TheFolds.{para-roll-Stmt}
@@ -70,9 +71,6 @@ module _ (from : Option ℕ) where
 pub ruleset walked = (walk_is, walk_none, walk_more, of_stmt)
 
 -- ---- in a loop over statements
-
-pub drop_is : (ss : List Stmt) (i : ℕ) (s : Stmt) → i < length ss → s ≡ get_or ss i s → drop i ss ≡ s ∷ drop (i + 1) ss
-drop_is ss i s h e = drop_more ss i s h ∙ ap (λ (t : Stmt). t ∷ drop (i + 1) ss) (sym e)
 
 pub sizes_behind : (ss : List Stmt) (i : ℕ) (s : Stmt) → i < length ss → s ≡ get_or ss i s → sizes_of (drop i ss) ≡ size_of s + sizes_of (drop (i + 1) ss)
 sizes_behind ss i s h e = ap sizes_of (drop_is ss i s h e) ∙ sizes_more s (drop (i + 1) ss)

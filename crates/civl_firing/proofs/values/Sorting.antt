@@ -1,7 +1,7 @@
 -- The value of each operator has its sort.
 use Rattle.std.proofs.Common.{◌≡◌, ℕ, ◌+◌, ◌-◌, ◌^◌, ◌<◌, ◌/◌, Bool, true, false, ◌&&◌, ◌||◌, refl, sym, ap, ◌∙◌, subst, arith, Option, Some, None, get_or}
 use Rattle.std.specs.Prelude.{nat_lt, nat_le, nat_eq, if◌then◌else◌, not}
-use Rattle.std.proofs.lemmas.Bool.{false≢true, eqb-true, ltb-true, leb-true, eq-eqb}
+use Rattle.std.proofs.lemmas.Bool.{false≢true, eqb-true, ltb-true, leb-true, eq-eqb, and_parts}
 use Rattle.std.proofs.lemmas.List.{length-replicate, get_or-replicate}
 use Rattle.std.proofs.lemmas.Nat.{pow_pos, mod_below}
 use Rattle.civl_bits.specs.Word.{IsWord, sum_at, difference_at, product_at, negative_at, quotient_at, remainder_at, bitwise_and_at, bitwise_or_at, bitwise_xor_at, complement_at, left_shift_at, right_shift_at, arithmetic_right_shift_at, slice_of, concatenation_at}
@@ -23,11 +23,6 @@ use Rattle.civl_tree.specs.rules.Exprs.{is_width, is_index, literal_fits}
 use Rattle.civl_firing.specs.values.Operators.{literal_value, one_value, on_word, on_words, test_words, on_bools, is_less, is_less_or_same, is_signed_less, is_signed_less_or_same, implies, two_value, pick_value, get_value, set_value, fill_value, slice_value, widen_value, join_value}
 use Rattle.civl_firing.specs.values.Values.{HasSort}
 
-pub both : (a b : Bool) → (a && b) ≡ true → (a ≡ true) × (b ≡ true)
-both true true e = (refl, refl)
-both true false e = absurd (false≢true e)
-both false b e = absurd (false≢true e)
-
 -- ---- sorts that are there
 
 pub if_some : {A : Type 0} (c : Bool) (a s : A) → (if c then Some a else None) ≡ Some s → (c ≡ true) × (a ≡ s)
@@ -44,7 +39,7 @@ same_sort-true (Word v) (Row i w) e = absurd (false≢true e)
 same_sort-true (Row i v) Truth e = absurd (false≢true e)
 same_sort-true (Row i v) (Word w) e = absurd (false≢true e)
 same_sort-true (Row i v) (Row j w) e =
-    let h = both (nat_eq i j) (nat_eq v w) e in
+    let h = and_parts (nat_eq i j) (nat_eq v w) e in
     ap (λ (n : ℕ). Row n v) (eqb-true i j h.0) ∙ ap (λ (n : ℕ). Row j n) (eqb-true v w h.1)
 
 -- a sort that two parts have in common
@@ -96,7 +91,7 @@ pub row_of : (x : Value) (i w : ℕ) → HasSort x (Row i w) → (r : Cells) × 
 row_of (value.Bool b) i w h = absurd (false≢true h.1)
 row_of (value.Word a) i w h = absurd (false≢true h.1)
 row_of (value.Row r) i w h =
-    let e = both (nat_eq r.index i) (nat_eq r.width w) h.1 in
+    let e = and_parts (nat_eq r.index i) (nat_eq r.width w) h.1 in
     (r, refl, h.0, eqb-true r.index i e.0, eqb-true r.width w e.1)
 
 pub is_bool : (b : Bool) → HasSort (value.Bool b) Truth
@@ -172,7 +167,7 @@ tests_fit f o p x y g h s e =
 bools_fit : (f : Bool → Bool → Bool) (o p : Option Sort) (x y : Value) → Given o x → Given p y → (s : Sort) → truths_sort o p ≡ Some s → HasSort (on_bools f x y) s
 bools_fit f o p x y g h s e =
     let i = if_some (is_truth o && is_truth p) Truth s e in
-    let j = both (is_truth o) (is_truth p) i.0 in
+    let j = and_parts (is_truth o) (is_truth p) i.0 in
     let a = given_bool o x g j.0 in
     let b = given_bool p y h j.1 in
     let r = ap (λ (v : Value). on_bools f v y) a.1 ∙ ap (λ (v : Value). on_bools f (value.Bool a.0) v) b.1 in
@@ -223,7 +218,7 @@ pick_fits c o p z x y f g h s e =
 pub literal_has_sort : (n w : ℕ) → literal_fits n w ≡ true → HasSort (literal_value n w) (Word w)
 literal_has_sort n w e =
     let h = within (is_width w) (nat_lt n (2 ^ w)) e in
-    let k = both (nat_le 1 w) (nat_le w 32) h.0 in
+    let k = and_parts (nat_le 1 w) (nat_le w 32) h.0 in
     let i : IsWord w n = record { narrow = leb-true 1 w k.0; wide = leb-true w 32 k.1; fits = ltb-true n (2 ^ w) h.1 } in
     let r : literal_value n w ≡ value.Word (w, n) = rw (h.0, h.1) refl in
     subst (λ (v : Value). HasSort v (Word w)) (sym r) (is_a_word w n i)
@@ -266,7 +261,7 @@ set_fits (Some Truth) p c x y z g h f s e = absurd (cc)
 set_fits (Some (Word w)) p c x y z g h f s e = absurd (cc)
 set_fits (Some (Row i w)) p c x y z g h f s e =
     let k = if_some (is_word i p && is_word w c) (Row i w) s e in
-    let j = both (is_word i p) (is_word w c) k.0 in
+    let j = and_parts (is_word i p) (is_word w c) k.0 in
     let r = row_of x i w (g (Row i w) refl) in
     let n = word_of y i (h (Word i) (of_width i p j.0)) in
     let m = word_of z w (f (Word w) (of_width w c j.1)) in
@@ -276,7 +271,7 @@ set_fits (Some (Row i w)) p c x y z g h f s e =
 
 filled : (i w n : ℕ) → is_index i ≡ true → IsWord w n → IsRow (filled_row i w n)
 filled i w n e h =
-    let k = both (nat_le 1 i) (nat_le i 6) e in
+    let k = and_parts (nat_le 1 i) (nat_le i 6) e in
     record {
       low = leb-true 1 i k.0;
       high = leb-true i 6 k.1;
@@ -299,7 +294,7 @@ fill_fits i (Some (Row j w)) x g q s e = absurd (cc)
 
 sliced : (w n high low : ℕ) → IsWord w n → slice_fits w high low ≡ true → HasSort (slice_value (value.Word (w, n)) high low) (Word (high - low + 1))
 sliced w n high low h e =
-    let k = both (nat_le low high) (nat_lt high w) e in
+    let k = and_parts (nat_le low high) (nat_lt high w) e in
     let l = leb-true low high k.0 in
     let u = ltb-true high w k.1 in
     let wide = h.wide in
@@ -318,7 +313,7 @@ slice_has_sort (Some (Row i w)) x high low g s e = absurd (cc)
 
 widened : (w n wider : ℕ) → IsWord w n → widen_fits w wider ≡ true → HasSort (widen_value (value.Word (w, n)) wider) (Word wider)
 widened w n wider h e =
-    let k = both (nat_le w wider) (nat_le wider 32) e in
+    let k = and_parts (nat_le w wider) (nat_le wider 32) e in
     let l = leb-true w wider k.0 in
     let u = leb-true wider 32 k.1 in
     let narrow = h.narrow in

@@ -1,7 +1,7 @@
 -- Zeros have their sorts.
 use Rattle.std.proofs.Common.{ℕ, ◌≡◌, ◌≤◌, ◌^◌, Bool, true, false, ◌&&◌, refl, arith}
 use Rattle.std.specs.Prelude.{nat_le, if◌then◌else◌, replicate, slice_index}
-use Rattle.std.proofs.lemmas.Bool.{false≢true, leb-true, eq-eqb}
+use Rattle.std.proofs.lemmas.Bool.{false≢true, leb-true, eq-eqb, and_parts}
 use Rattle.std.proofs.lemmas.Nat.{pow_pos}
 use Rattle.std.proofs.lemmas.List.{length-replicate, get_or-replicate}
 use Rattle.civl_bits.specs.Row.{filled_row}
@@ -12,10 +12,9 @@ use Rattle.civl_tree.specs.declared.expr.Sort.TheVariants as sort
 use Rattle.civl_firing.specs.values.Operators.{nothing}
 use Rattle.civl_tree.specs.rules.Exprs.{is_width, is_index}
 use Rattle.civl_firing.specs.values.Values.{HasSort, ZerosHaveTheirSorts}
-use Rattle.civl_firing.proofs.values.Sorting.{both}
 
 within : (low high n : ℕ) → (nat_le low n && nat_le n high) ≡ true → (low ≤ n) × (n ≤ high)
-within low high n e = let b = both (nat_le low n) (nat_le n high) e in (leb-true low n b.0, leb-true n high b.1)
+within low high n e = let b = and_parts (nat_le low n) (nat_le n high) e in (leb-true low n b.0, leb-true n high b.1)
 
 if_true : (b : Bool) (v w : Value) (s : Sort) → b ≡ true → HasSort v s → HasSort (if b then v else w) s
 if_true true v w s e h = h
@@ -43,5 +42,5 @@ pub zeros_have_their_sorts : ZerosHaveTheirSorts
 zeros_have_their_sorts sort.Bool p = (tt, refl)
 zeros_have_their_sorts (sort.Word w) p = if_true (is_width w) (value.Word (w, 0)) nothing (sort.Word w) p (zero_word w p)
 zeros_have_their_sorts (sort.Row k w) p =
-    let b = both (is_index k) (is_width w) p in
+    let b = and_parts (is_index k) (is_width w) p in
     if_true (is_index k && is_width w) (value.Row (filled_row k w 0)) nothing (sort.Row k w) p (zero_row k w b.0 b.1)

@@ -25,6 +25,7 @@ use Rattle.civl_tree.specs.rules.Arity.{thread_arity}
 use Rattle.civl_tree.specs.rules.Rules.{Keeps}
 use Rattle.civl_tree.specs.rules.Typing.{typing_rules, unknown_rule, sort_rule, width_rule, index_rule, arity_rule}
 use Rattle.civl_tree.proofs.Kept.{proc_kept, thread_kept, unknown_among, sort_among, width_among, index_among, arity_among}
+use Rattle.civl_tree.proofs.Options.{some_of}
 use Rattle.civl_firing.specs.declared.store.Store.{Store}
 use Rattle.civl_firing.specs.Eval.{values_of}
 use Rattle.civl_firing.specs.Scope.{global_values}
@@ -64,10 +65,6 @@ module _ (program : Program) where
       by (Some s) k = refl
 
 -- ---- a thread of a checked program
-
-some_of : {A : Type 0} (o : Option A) → is_none o ≡ false → (x : A) × (o ≡ Some x)
-some_of None e = absurd (false≢true (sym e))
-some_of (Some x) e = (x, refl)
 
 pub record Callable (program : Program) (thread : Thread) : Type 0 where
   pub proc : Proc

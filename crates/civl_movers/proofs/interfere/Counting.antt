@@ -1,10 +1,9 @@
 -- The invariant of a step at a place among those of the step.
 use Rattle.std.specs.Prelude.{map, filter, drop, slice_get, nat_eq, not, All, if◌then◌else◌}
-use Rattle.std.proofs.Common.{◌≡◌, ◌∙◌, ℕ, zero, suc, ◌+◌, ◌-◌, ◌≤◌, ◌<◌, Bool, true, false, List, [], ◌∷◌, length, get_or, refl, sym, ap, subst, arith, Option, Some, None}
+use Rattle.std.proofs.Common.{◌≡◌, ◌∙◌, ℕ, zero, suc, ◌+◌, ◌-◌, ◌≤◌, ◌<◌, Bool, true, false, List, ◌∷◌, length, get_or, refl, sym, ap, arith, Option, Some, None}
 use Rattle.std.proofs.lemmas.List.{drop_more, drop_all}
 use Rattle.std.specs.Option.{option_map_or}
-use Rattle.std.proofs.lemmas.Bool.{eqb-true}
-use Rattle.std.proofs.lemmas.List.Elements.{All-nil, All-cons, All-head, All-tail, All-filter, All-map}
+use Rattle.std.proofs.lemmas.List.Elements.{All-filter, All-map}
 use Rattle.civl_tree.specs.declared.expr.Expr.{Expr}
 use Rattle.civl_tree.specs.declared.program.Invariant.{Invariant}
 use Rattle.civl_tree.specs.declared.expr.Sort.TheVariants.{Bool as Truth}
@@ -12,6 +11,7 @@ use Rattle.civl_tree.specs.declared.program.Program.{Program}
 use Rattle.civl_tree.specs.rules.Scopes.{global_scope}
 use Rattle.civl_tree.specs.rules.Rules.{Keeps}
 use Rattle.civl_tree.specs.rules.Typing.{typing_rules}
+use Rattle.civl_tree.proofs.Lists.{all_at, all_by_get}
 use Rattle.civl_firing.specs.declared.store.Store.{Store}
 use Rattle.civl_conditions.specs.Steps.{step_invariants}
 use Rattle.civl_conditions.specs.Invariants.{invariant_at, holds_of_globals, invariant_lost}
@@ -19,13 +19,6 @@ use Rattle.civl_conditions.specs.Weights.{maybe_weight, global_weight}
 use Rattle.civl_states.specs.Notes.{HasType}
 use Rattle.civl_states.proofs.Typed.{invariant_typed}
 use Rattle.civl_states.proofs.Stepping.{of_step}
-
-pub differs : (a b : ℕ) → (a ≡ b → ⊥) → nat_eq a b ≡ false
-differs a b f = by (nat_eq a b) refl
-  where
-    by : (t : Bool) → nat_eq a b ≡ t → t ≡ false
-    by true e = absurd (f (eqb-true a b e))
-    by false e = refl
 
 -- the one at a place among those from here on
 abbrev pub from_here : ℕ → List Invariant → ℕ → ℕ → Option Expr
@@ -56,18 +49,9 @@ none_left step is k left l = ap (λ js. slice_get (of_step step js) left) (drop_
 
 -- ---- its type
 
-all_at : {A : Type 0} (P : A → Type 0) (xs : List A) (k : ℕ) (x : A) → All P xs → slice_get xs k ≡ Some x → P x
-all_at P [] k x h e = absurd (cc)
-all_at P (y ∷ ys) zero x h e = let r : y ≡ x = cc in subst P r (All-head P y ys h)
-all_at P (y ∷ ys) (suc k) x h e = all_at P ys k x (All-tail P y ys h) e
-
-all_from : {A : Type 0} (P : A → Type 0) (xs : List A) → ((k : ℕ) (x : A) → slice_get xs k ≡ Some x → P x) → All P xs
-all_from P [] f = All-nil P
-all_from P (x ∷ xs) f = All-cons P x xs (f zero x refl) (all_from P xs (λ k y e. f (suc k) y e))
-
 pub found_typed : (program : Program) → Keeps typing_rules program → (step place : ℕ) (e : Expr) → invariant_at program step place ≡ Some e → HasType (global_scope program) e Truth
 found_typed program keeps step place e at =
-    let each : All (λ i. HasType (global_scope program) i.expr Truth) program.invariants = all_from (λ (i : Invariant). HasType (global_scope program) i.expr Truth) program.invariants (invariant_typed program keeps) in
+    let each : All (λ i. HasType (global_scope program) i.expr Truth) program.invariants = all_by_get (λ (i : Invariant). HasType (global_scope program) i.expr Truth) program.invariants (invariant_typed program keeps) in
     all_at (λ d. HasType (global_scope program) d Truth) (step_invariants program step) place e
     (All-map (λ d. HasType (global_scope program) d Truth) (λ (i : Invariant). i.expr) (filter (λ i. nat_eq i.step step) program.invariants) (All-filter (λ i. nat_eq i.step step) (λ (i : Invariant). HasType (global_scope program) i.expr Truth) program.invariants each)) at
 

@@ -1,7 +1,7 @@
 -- Loops over the arguments of a thread, and over threads.
 use Rattle.std.specs.Prelude.{map, flat_map, unwrap_or}
 use Rattle.std.proofs.Common.{◌≡◌, ◌∙◌, ℕ, ◌+◌, ◌^◌, ◌≤◌, List, [], ◌∷◌, ◌++◌, append_assoc, refl, sym, ap, ap₂, subst, arith, Option, Some}
-use Rattle.std.proofs.lemmas.List.{map-append}
+use Rattle.std.proofs.lemmas.List.{map-append, append-nil}
 use Rattle.civl_bits.specs.declared.value.Value.{Value}
 use Rattle.civl_tree.specs.declared.expr.Expr.{Expr}
 use Rattle.civl_tree.specs.declared.expr.Sort.{Sort}
@@ -33,10 +33,6 @@ use Rattle.civl_states.specs.Notes.{IsGlobalNote}
 use Rattle.civl_states.proofs.Stepping.{weights_last}
 use Rattle.civl_movers.specs.interfere.Arguments.{arg_sorts, threads_items, thread_weight, threads_weight, of_threads}
 use Rattle.civl_movers.proofs.interfere.Arguing.{own_sort}
-
-append_end : {A : Type 0} (xs : List A) → xs ++ [] ≡ xs
-append_end [] = refl
-append_end (x ∷ xs) = ap (λ ys. x ∷ ys) (append_end xs)
 
 -- ---- arguments
 
@@ -76,7 +72,7 @@ summed_last f [] t = omega arith
 summed_last f (s ∷ ts) t = omega (arith, summed_last f ts t)
 
 flat_last : (f : Thread → List (List ℕ)) (ts : List Thread) (t : Thread) → flat_map f (ts ++ t ∷ []) ≡ flat_map f ts ++ f t
-flat_last f [] t = append_end (f t)
+flat_last f [] t = append-nil (f t)
 flat_last f (s ∷ ts) t = ap (λ xs. f s ++ xs) (flat_last f ts t) ∙ sym (append_assoc (f s) (flat_map f ts) (f t))
 
 -- what these threads carry behind what was there
@@ -91,7 +87,7 @@ pub threads_begin : (old : List Node) (program : Program) (globals : List ℕ) (
 threads_begin old program globals first can = (
   grows_same old,
   can,
-  λ f g h s. carried_as f (λ env. f env ++ []) (λ env fits. sym (append_end (f env))) h,
+  λ f g h s. carried_as f (λ env. f env ++ []) (λ env fits. sym (append-nil (f env))) h,
   λ n h. (let e : n ≡ n + 0 = omega arith in subst (HasItems first.mask) e h),
   λ n h. (let e : n ≡ n + 0 = omega arith in omega (arith, ap (items_weight (2 ^ program.permissions)) e)),
 )

@@ -1,7 +1,7 @@
 -- All globals as variables.
 use Rattle.std.specs.Prelude.{map, filter}
-use Rattle.std.proofs.Common.{◌≡◌, ◌∙◌, ℕ, ◌+◌, ◌<◌, ◌^◌, true, List, [], ◌∷◌, ◌++◌, length, refl, sym, ap, arith}
-use Rattle.std.proofs.lemmas.List.{length-map}
+use Rattle.std.proofs.Common.{◌≡◌, ◌∙◌, ℕ, ◌+◌, ◌<◌, ◌^◌, true, List, [], ◌∷◌, length, refl, sym, ap, arith}
+use Rattle.std.proofs.lemmas.List.{length-map, append-nil}
 use Rattle.civl_bits.specs.declared.value.Value.{Value}
 use Rattle.civl_tree.specs.declared.expr.Sort.{Sort}
 use Rattle.civl_tree.specs.declared.program.Global.{Global}
@@ -24,10 +24,6 @@ use Rattle.civl_states.proofs.Given.{stand_first, given_long}
 use Rattle.civl_states.proofs.Limits.{globals_few}
 use Rattle.civl_states.proofs.Variables.{bits_same, globals_named}
 
-append_end : {A : Type 0} (xs : List A) → xs ++ [] ≡ xs
-append_end [] = refl
-append_end (x ∷ xs) = ap (λ ys. x ∷ ys) (append_end xs)
-
 all_pass : (gs : List Global) → filter (λ g. true) gs ≡ gs
 all_pass [] = refl
 all_pass (g ∷ gs) = ap (λ hs. g ∷ hs) (all_pass gs)
@@ -39,7 +35,7 @@ pub all_count : (program : Program) → count_of (passes All) program ≡ length
 all_count program = ap length (all_pass program.globals)
 
 pub all_stand : (program : Program) (sorts : List Sort) → sorts ≡ global_sorts program → StandFrom sorts 0 (existing_sorts All program)
-all_stand program sorts e = stand_first sorts (existing_sorts All program) [] (e ∙ sym (all_sorts program) ∙ sym (append_end (existing_sorts All program)))
+all_stand program sorts e = stand_first sorts (existing_sorts All program) [] (e ∙ sym (all_sorts program) ∙ sym (append-nil (existing_sorts All program)))
 
 pub sorts_few : (program : Program) → Keeps typing_rules program → length (global_sorts program) < 2 ^ 32
 sorts_few program keeps = omega (arith, length-map program.globals (λ g. g.sort), globals_few program keeps)

@@ -1,8 +1,8 @@
 -- K11 as tests that are all true, and at the values of all its variables.
-use Rattle.std.specs.Prelude.{slice_get, All}
-use Rattle.std.proofs.Common.{◌≡◌, ◌∙◌, ℕ, ◌+◌, ◌*◌, ◌≤◌, ◌<◌, ◌^◌, Bool, true, false, ◌&&◌, List, [], ◌∷◌, ◌++◌, length, append_assoc, refl, sym, ap, ap₂, arith, Some}
-use Rattle.std.proofs.lemmas.List.{length-map, length-append}
-use Rattle.std.proofs.lemmas.List.Elements.{All-nil, All-cons}
+use Rattle.std.specs.Prelude.{slice_get}
+use Rattle.std.proofs.Common.{◌≡◌, ◌∙◌, ℕ, ◌+◌, ◌*◌, ◌≤◌, ◌<◌, ◌^◌, Bool, true, false, ◌&&◌, List, [], ◌++◌, length, append_assoc, refl, sym, ap, ap₂, arith, Some}
+use Rattle.std.proofs.lemmas.List.{length-map, length-append, append-nil}
+use Rattle.std.proofs.Math.Bool.{and-true}
 use Rattle.civl_bits.specs.declared.value.Value.{Value}
 use Rattle.civl_tree.specs.declared.expr.Sort.{Sort}
 use Rattle.civl_tree.specs.declared.action.Action.{Action}
@@ -14,7 +14,6 @@ use Rattle.civl_firing.specs.declared.store.Store.{Store}
 use Rattle.civl_firing.specs.Fired.{gate_holds, guard_holds, store_after}
 use Rattle.civl_meaning.specs.Permissions.{pairwise_disjoint, of_params}
 use Rattle.civl_conditions.specs.paths.Seen.{exists_near}
-use Rattle.civl_terms.specs.declared.node.Node.{Node}
 use Rattle.civl_conditions.specs.declared.condition.Condition.TheVariants.{Act}
 use Rattle.civl_conditions.specs.declared.condition.Target.TheVariants as target
 use Rattle.civl_conditions.specs.Steps.{step_invariants}
@@ -26,7 +25,6 @@ use Rattle.civl_conditions.specs.Violated.{violated}
 use Rattle.civl_conditions.specs.Weights.{weight, lin, linear_globals, linear_inputs, weights_of, global_weight, maybe_weight}
 use Rattle.civl_states.specs.formula_parts.Said.{Env}
 use Rattle.civl_states.specs.formula_parts.Given.{given, bits_of_sorts}
-use Rattle.civl_states.proofs.formula_parts.Saying.{IsBool}
 use Rattle.civl_states.specs.Items.{comes_in}
 use Rattle.civl_states.specs.Runs.{param_sorts, instance_sorts}
 use Rattle.civl_meaning.specs.Config.{choice_sorts}
@@ -39,18 +37,6 @@ use Rattle.civl_states.proofs.Limits.{AreSorts}
 use Rattle.civl_states.proofs.Variables.{there_is, bits_same, act_sorts, instance_long, instance_are}
 use Rattle.civl_states.proofs.Taking.{store_given, invoked_given, front_stand, tail_stand, whole_long, whole_few, whole_are}
 
-true_last : (a : Bool) → (a && true) ≡ a
-true_last true = refl
-true_last false = refl
-
-append_end : {A : Type 0} (xs : List A) → xs ++ [] ≡ xs
-append_end [] = refl
-append_end (x ∷ xs) = ap (λ ys. x ∷ ys) (append_end xs)
-
-pub five_bools : (ns : List Node) (a b c d e : ℕ) → IsBool ns a → IsBool ns b → IsBool ns c → IsBool ns d → IsBool ns e → All (IsBool ns) (a ∷ b ∷ c ∷ d ∷ e ∷ [])
-five_bools ns a b c d e p q r s t =
-    All-cons (IsBool ns) a (b ∷ c ∷ d ∷ e ∷ []) p (All-cons (IsBool ns) b (c ∷ d ∷ e ∷ []) q (All-cons (IsBool ns) c (d ∷ e ∷ []) r (All-cons (IsBool ns) d (e ∷ []) s (All-cons (IsBool ns) e [] t (All-nil (IsBool ns))))))
-
 pub act_is : (program : Program) (step place : ℕ) (g : Store) (a : Action) (i c : List Value)
     → (invariants_hold program step g && (gate_holds program.globals g a i && (pairwise_disjoint (comes_in program a g i ++ []) && (guard_holds program.globals g a i c && (invariant_lost program step place (store_after program.globals g a i c) && true)))))
     ≡ act_fails program step g (record { action = a; inputs = i; chosen = c }) (target.Invariant place) [] 0
@@ -58,7 +44,7 @@ act_is program step place g a i c =
     let gs = program.globals in
     ap (λ (b : Bool). invariants_hold program step g && (gate_holds gs g a i && b))
     (ap₂ (λ (ps : List (List ℕ)) (b : Bool). pairwise_disjoint ps && b) (append_assoc (in_store program g) (of_params a.params i) [])
-    (ap (λ (b : Bool). guard_holds gs g a i c && b) (true_last (invariant_lost program step place (store_after gs g a i c))) ∙ sym (fires_is program g a i c (λ s. invariant_lost program step place s.0))))
+    (ap (λ (b : Bool). guard_holds gs g a i c && b) (and-true (invariant_lost program step place (store_after gs g a i c))) ∙ sym (fires_is program g a i c (λ s. invariant_lost program step place s.0))))
 
 -- ---- at the values of all variables
 
@@ -88,7 +74,7 @@ module _ (program : Program) (step x place : ℕ) (a : Action) (at : slice_get p
 
   module _ (keeps : Keeps typing_rules program) (sorts : List Sort) (e : sorts ≡ sorts_of program (Act step x (target.Invariant place))) where
     view : sorts ≡ existing_sorts (Near step) program ++ instance_sorts a
-    view = e ∙ act_sorts program step x a at (target.Invariant place) ∙ ap (λ ss. existing_sorts (Near step) program ++ ss) (append_end (instance_sorts a))
+    view = e ∙ act_sorts program step x a at (target.Invariant place) ∙ ap (λ ss. existing_sorts (Near step) program ++ ss) (append-nil (instance_sorts a))
 
     counted : length (instance_sorts a) ≡ instance_count a
     counted = omega (arith, length-append (param_sorts a) (choice_sorts a), length-map a.params (λ p. p.sort), length-map a.choices (λ c. c.sort))

@@ -2,9 +2,10 @@
 use Rattle.std.specs.Prelude.{take, nat_eq, if◌then◌else◌}
 use Rattle.std.specs.List.{Contains, list_any}
 use Rattle.std.proofs.Common.{◌≡◌, ◌∙◌, ℕ, zero, suc, ◌+◌, ◌≤◌, Bool, true, false, ◌&&◌, ◌||◌, List, [], ◌∷◌, length, refl, sym, ap, subst, arith, Some, Option, inl, inr}
-use Rattle.std.proofs.lemmas.Bool.{false≢true, eq-eqb, eqb-true, and_parts, cases_lt}
+use Rattle.std.proofs.lemmas.Bool.{false≢true, eq-eqb, eqb-true, and_parts, cases_lt, or_left, or_right}
 use Rattle.std.proofs.lemmas.List.{length-append}
 use Rattle.std.proofs.lemmas.List.Elements.{Contains-append_left, Contains-append_right}
+use Rattle.std.proofs.lemmas.Option.{same_Some}
 use Rattle.civl_tree.specs.declared.program.Proc.{Proc}
 use Rattle.civl_tree.specs.declared.program.Refines.{Refines}
 use Rattle.civl_tree.specs.declared.stmt.Stmt.{Stmt}
@@ -56,22 +57,14 @@ within_exit proc refines n e =
 
 -- ---- what a sweep takes
 
-or_first : (a b : Bool) → a ≡ true → (a || b) ≡ true
-or_first true b e = refl
-or_first false b e = absurd (false≢true e)
-
-or_second : (a b : Bool) → b ≡ true → (a || b) ≡ true
-or_second true b e = refl
-or_second false b e = e
-
 -- a stop that is taken is among the numbers
 taken_among : (p : ℕ → Bool) (n : ℕ) (stops : List Stop) → takes n stops ≡ true → p n ≡ true → list_any p (numbers_of stops) ≡ true
 taken_among p n [] h t = absurd (false≢true h)
 taken_among p n (s ∷ ss) h t = by_first (nat_eq n s.number && s.taken) refl h (λ k. taken_among p n ss k t)
   where
     by_first : (b : Bool) → (nat_eq n s.number && s.taken) ≡ b → (b || takes n ss) ≡ true → (takes n ss ≡ true → list_any p (numbers_of ss) ≡ true) → (p s.number || list_any p (numbers_of ss)) ≡ true
-    by_first true e k f = let same = eqb-true n s.number (and_parts (nat_eq n s.number) s.taken e).0 in or_first (p s.number) _ (ap p (sym same) ∙ t)
-    by_first false e k f = or_second (p s.number) _ (f k)
+    by_first true e k f = let same = eqb-true n s.number (and_parts (nat_eq n s.number) s.taken e).0 in or_left (p s.number) _ (ap p (sym same) ∙ t)
+    by_first false e k f = or_right (p s.number) _ (f k)
 
 onward_from : (b : Bool) → (b ≡ false → true ≡ false) → b ≡ true
 onward_from true f = refl
@@ -89,23 +82,17 @@ module _ (c : Course) (cut : Cut) (p : Progress) (refines : Refines) (some : c.p
       let d = subst (λ (o : Outcome). Draws o (sweep_from c cut (sweep_begins p))) e (sweeps_draw_paths c cut p) in
       let stop = sweeps_stop_at_ends c cut p in
       let onward : flows.onward ≡ true = sym stop.1 ∙ onward_from (sweep_from c cut (sweep_begins p)).onward (λ n. sym d.live ∙ d.onward n) in
-      let same : exit_of c.proc ≡ end = some_is (exit_of c.proc) end a in
-      let reach : reaches c.proc flows (exit_of c.proc) ≡ true = or_first (flows.onward && nat_eq (exit_of c.proc) (exit_of c.proc)) _ (ap (λ (b : Bool). b && nat_eq (exit_of c.proc) (exit_of c.proc)) onward ∙ eq-eqb (exit_of c.proc) (exit_of c.proc) refl) in
+      let same : exit_of c.proc ≡ end = same_Some (exit_of c.proc) end a in
+      let reach : reaches c.proc flows (exit_of c.proc) ≡ true = or_left (flows.onward && nat_eq (exit_of c.proc) (exit_of c.proc)) _ (ap (λ (b : Bool). b && nat_eq (exit_of c.proc) (exit_of c.proc)) onward ∙ eq-eqb (exit_of c.proc) (exit_of c.proc) refl) in
       subst (Contains (ends_from c.proc cut)) same (contained (exit_of c.proc) reach (omega arith))
-    where
-      some_is : (x y : ℕ) → Some x ≡ Some y → x ≡ y
-      some_is x y q = cc
   by_outcome (Comes n q) end e a =
       let d = subst (λ (o : Outcome). Draws o (sweep_from c cut (sweep_begins p))) e (sweeps_draw_paths c cut p) in
       let stop = sweeps_stop_at_ends c cut p in
       let number = cut_number c.proc n in
-      let same : number ≡ end = some_is number end a in
+      let same : number ≡ end = same_Some number end a in
       let taken = taken_among (λ k. nat_eq number (cut_number c.proc k)) n (sweep_from c cut (sweep_begins p)).stops (d.all n (eq-eqb n n refl)) (eq-eqb number number refl) in
       let among = ap (list_any (λ k. nat_eq number (cut_number c.proc k))) (sym stop.0) ∙ taken in
-      subst (Contains (ends_from c.proc cut)) same (contained number (or_second (flows.onward && nat_eq number (exit_of c.proc)) _ among) (within_exit c.proc refines n some))
-    where
-      some_is : (x y : ℕ) → Some x ≡ Some y → x ≡ y
-      some_is x y q = cc
+      subst (Contains (ends_from c.proc cut)) same (contained number (or_right (flows.onward && nat_eq number (exit_of c.proc)) _ among) (within_exit c.proc refines n some))
   by_outcome (Fails q) end e a = absurd (cc)
   by_outcome (Stops q) end e a = absurd (cc)
 

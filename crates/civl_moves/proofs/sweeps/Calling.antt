@@ -1,6 +1,8 @@
 -- A sweep over a call follows the path.
 use Rattle.std.proofs.Common.{◌≡◌, ◌∙◌, ℕ, ◌+◌, Bool, true, false, ◌&&◌, ◌||◌, not, List, refl, ap}
 use Rattle.std.specs.Prelude.{if◌then◌else◌, Some, None}
+use Rattle.std.proofs.lemmas.Bool.{or_right, and_left}
+use Rattle.std.proofs.Math.Bool.{and-true, and-false, or-false}
 use Rattle.civl_bits.specs.declared.value.Value.{Value}
 use Rattle.civl_tree.specs.declared.name.Name.{Name}
 use Rattle.civl_tree.specs.declared.expr.Expr.{Expr}
@@ -21,10 +23,10 @@ use Rattle.civl_conditions.specs.paths.Paths.{Course, came, stepped}
 use Rattle.civl_moves.specs.sweeps.Sweeps.{Swept, standing, with_action, with_meaning, with_call}
 use Rattle.civl_moves.specs.sweeps.Draws.{Draws}
 use Rattle.civl_moves.proofs.sweeps.Drawing.{Here, Idle, Follows, still_idle, past_draws, fails_draws, stops_draws}
-use Rattle.civl_moves.proofs.sweeps.Following.{and_true, and_false, or_false, false_and, or_false_and, halted_follows}
+use Rattle.civl_moves.proofs.sweeps.Following.{or_false_and, halted_follows}
 
 -- by whether the gate is true, the choices fit, and the guard is true
-abbrev fired_where : Bool → Bool → Store → List Value → Fired
+abbrev pub fired_where : Bool → Bool → Store → List Value → Fired
 fired_where gate guard store outs = if gate then fired_by (if guard then Some (store, outs) else None) else fire.GateFalse
 
 abbrev done_where : Bool → Bool → Bool → Store → List Value → List Name → List Name → Swept → Swept
@@ -37,20 +39,16 @@ done_where gate fit guard store outs names results d = record d {
 
 module _ (store : Store) (outs : List Value) (names results : List Name) (next : ℕ) (d : Swept) (h : Here d) where
   live_by : (gate go : Bool) → gate ≡ true → go ≡ true → ((d.live && gate) && go) ≡ true
-  live_by gate go e f = ap (λ (b : Bool). (d.live && b) && go) e ∙ ap (λ (b : Bool). b && go) (and_true d.live ∙ h.live) ∙ f
+  live_by gate go e f = ap (λ (b : Bool). (d.live && b) && go) e ∙ ap (λ (b : Bool). b && go) (and-true d.live ∙ h.live) ∙ f
 
   whole_by : (gate : Bool) → gate ≡ true → (d.broken || (d.live && not gate)) ≡ false
-  whole_by gate e = ap (λ (b : Bool). d.broken || (d.live && not b)) e ∙ ap (λ (b : Bool). d.broken || b) (and_false d.live) ∙ or_false d.broken ∙ h.whole
-
-  or_true : (a b : Bool) → b ≡ true → (a || b) ≡ true
-  or_true true b e = refl
-  or_true false b e = e
+  whole_by gate e = ap (λ (b : Bool). d.broken || (d.live && not b)) e ∙ ap (λ (b : Bool). d.broken || b) (and-false d.live) ∙ or-false d.broken ∙ h.whole
 
   done_draws : (gate fit guard : Bool) → Draws (came (standing d) (if gate then (if fit then acted names d.locals results next (fired_where gate guard store outs) else Stays answer.BadChoices) else Stays answer.Failing)) (done_where gate fit guard store outs names results d)
   done_draws true true true = past_draws _ (record { onward = h.onward; live = live_by true true refl refl; whole = whole_by true refl; free = h.free })
-  done_draws true true false = stops_draws (standing d) _ (and_false (d.live && true)) (whole_by true refl) refl h.free
-  done_draws true false guard = stops_draws (standing d) _ (and_false (d.live && true)) (whole_by true refl) refl h.free
-  done_draws false fit guard = fails_draws (standing d) _ (false_and (d.live && false) (fit && guard) (and_false d.live)) (or_true d.broken (d.live && true) (and_true d.live ∙ h.live)) refl h.free
+  done_draws true true false = stops_draws (standing d) _ (and-false (d.live && true)) (whole_by true refl) refl h.free
+  done_draws true false guard = stops_draws (standing d) _ (and-false (d.live && true)) (whole_by true refl) refl h.free
+  done_draws false fit guard = fails_draws (standing d) _ (and_left (d.live && false) (fit && guard) (and-false d.live)) (or_right d.broken (d.live && true) (and-true d.live ∙ h.live)) refl h.free
 
 action_draws : (c : Course) (results : List Name) (at : ℕ) (a : Action) (inputs chosen : List Value) (d : Swept) → Here d
     → Draws (came (standing d) (action_change c.plain d.store chosen (names_in_proc c.proc) d.locals results (at + 1) a inputs)) (with_action c results a inputs chosen d)
@@ -68,7 +66,7 @@ meaning_draws c results at Missing inputs chosen d h = halted_follows.on d h
 meaning_idle : (c : Course) (results : List Name) (m : Meaning) (inputs chosen : List Value) (d : Swept) → d.live ≡ false → Idle d (with_meaning c results m inputs chosen d)
 meaning_idle c results (Does a) inputs chosen d l =
     still_idle d (with_action c results a inputs chosen d)
-    (false_and _ _ (false_and d.live (gate_holds c.plain.program.globals d.store a inputs) l))
+    (and_left _ _ (and_left d.live (gate_holds c.plain.program.globals d.store a inputs) l))
     (or_false_and d.broken d.live (not (gate_holds c.plain.program.globals d.store a inputs)) l) refl refl
 meaning_idle c results (Runs number proc) inputs chosen d l = halted_follows.idle d l
 meaning_idle c results Missing inputs chosen d l = halted_follows.idle d l

@@ -1,7 +1,7 @@
 -- What a sweep draws, where the path is here, and where it isn't.
 use Rattle.std.proofs.Common.{◌≡◌, ◌∙◌, ℕ, Bool, true, false, ◌&&◌, ◌||◌, List, [], ◌∷◌, ◌++◌, refl, sym, ap, subst, append-nil, append_assoc}
 use Rattle.std.specs.Prelude.{nat_eq, ⊤, if◌then◌else◌}
-use Rattle.std.proofs.lemmas.Bool.{true≢false, false≢true}
+use Rattle.std.proofs.lemmas.Bool.{true≢false, false≢true, or_left}
 use Rattle.civl_conditions.specs.paths.Paths.{Progress, Outcome, Past, Comes, Fails, Stops, after}
 use Rattle.civl_moves.specs.sweeps.Sweeps.{Stop, Swept, standing, where_onward}
 use Rattle.civl_moves.specs.sweeps.Draws.{is_past, AreStops, takes, Draws}
@@ -46,16 +46,12 @@ pub stops_append : (o : Outcome) (xs ys : List Stop) → AreStops o xs → AreSt
 stops_append o [] ys h k = k
 stops_append o (x ∷ xs) ys h k = (h.0, stops_append o xs ys h.1 k)
 
-or_first : (a b : Bool) → a ≡ true → (a || b) ≡ true
-or_first true b e = refl
-or_first false b e = absurd (false≢true e)
-
 pub takes_first : (n : ℕ) (xs ys : List Stop) → takes n xs ≡ true → takes n (xs ++ ys) ≡ true
 takes_first n [] ys h = absurd (false≢true h)
 takes_first n (x ∷ xs) ys h = by_cases (nat_eq n x.number && x.taken) refl (takes_first n xs ys) h
   where
     by_cases : (b : Bool) → (nat_eq n x.number && x.taken) ≡ b → (takes n xs ≡ true → takes n (xs ++ ys) ≡ true) → (b || takes n xs) ≡ true → ((nat_eq n x.number && x.taken) || takes n (xs ++ ys)) ≡ true
-    by_cases true e f k = or_first (nat_eq n x.number && x.taken) (takes n (xs ++ ys)) e
+    by_cases true e f k = or_left (nat_eq n x.number && x.taken) (takes n (xs ++ ys)) e
     by_cases false e f k = ap (λ (b : Bool). b || takes n (xs ++ ys)) e ∙ f k
 
 -- a path that is past has ended nowhere

@@ -1,7 +1,8 @@
 -- A sweep over one plain statement follows the path.
 use Rattle.std.proofs.Common.{◌≡◌, ◌∙◌, ℕ, ◌+◌, Bool, true, false, ◌&&◌, ◌||◌, not, List, [], ◌∷◌, ◌++◌, refl, sym, ap}
 use Rattle.std.specs.Prelude.{if◌then◌else◌}
-use Rattle.std.proofs.lemmas.Bool.{false≢true, eq-eqb}
+use Rattle.std.proofs.lemmas.Bool.{false≢true, eq-eqb, and_left, or_right}
+use Rattle.std.proofs.Math.Bool.{and-true, and-false, or-false}
 use Rattle.civl_tree.specs.declared.name.Name.{Name}
 use Rattle.civl_tree.specs.declared.expr.Expr.{Expr}
 use Rattle.civl_tree.specs.declared.stmt.Stmt.TheOpen as stmt
@@ -12,24 +13,8 @@ use Rattle.civl_moves.specs.sweeps.Sweeps.{Stop, Swept, standing, gated, halted,
 use Rattle.civl_moves.specs.sweeps.Draws.{IsStop, AreStops, takes, Draws}
 use Rattle.civl_moves.proofs.sweeps.Drawing.{Here, Idle, Follows, still_idle, past_draws, fails_draws, stops_draws, none_are}
 
-pub and_true : (a : Bool) → (a && true) ≡ a
-and_true true = refl
-and_true false = refl
-
-pub and_false : (a : Bool) → (a && false) ≡ false
-and_false true = refl
-and_false false = refl
-
-pub or_false : (a : Bool) → (a || false) ≡ a
-or_false true = refl
-or_false false = refl
-
--- a bool and one that is false
-pub false_and : (a b : Bool) → a ≡ false → (a && b) ≡ false
-false_and a b e = ap (λ (x : Bool). x && b) e
-
 pub or_false_and : (x a b : Bool) → a ≡ false → (x || (a && b)) ≡ x
-or_false_and x a b e = ap (λ (y : Bool). x || y) (false_and a b e) ∙ or_false x
+or_false_and x a b e = ap (λ (y : Bool). x || y) (and_left a b e) ∙ or-false x
 
 pub assign_follows : (c : Course) (x : Name) (e : Expr) (at : ℕ) → Follows (stepped c (stmt.Assign x e) at) (with_assign c x e)
 assign_follows c x e at = record {
@@ -38,17 +23,13 @@ assign_follows c x e at = record {
 }
 
 pub gated_idle : (t : Bool) (d : Swept) → d.live ≡ false → Idle d (gated t d)
-gated_idle t d l = still_idle d (gated t d) (false_and d.live t l) (or_false_and d.broken d.live (not t) l) refl refl
+gated_idle t d l = still_idle d (gated t d) (and_left d.live t l) (or_false_and d.broken d.live (not t) l) refl refl
 
 gated_draws : (t : Bool) (d : Swept) (next : ℕ) → Here d → Draws (came (standing d) (if t then Goes d.locals next else Stays answer.Failing)) (gated t d)
 gated_draws true d next h =
-    past_draws (gated true d) (record { onward = h.onward; live = and_true d.live ∙ h.live; whole = ap (λ (b : Bool). d.broken || b) (and_false d.live) ∙ or_false d.broken ∙ h.whole; free = h.free })
+    past_draws (gated true d) (record { onward = h.onward; live = and-true d.live ∙ h.live; whole = ap (λ (b : Bool). d.broken || b) (and-false d.live) ∙ or-false d.broken ∙ h.whole; free = h.free })
 gated_draws false d next h =
-    fails_draws (standing d) (gated false d) (and_false d.live) (or_true d.broken (d.live && true) (and_true d.live ∙ h.live)) refl h.free
-  where
-    or_true : (a b : Bool) → b ≡ true → (a || b) ≡ true
-    or_true true b e = refl
-    or_true false b e = e
+    fails_draws (standing d) (gated false d) (and-false d.live) (or_right d.broken (d.live && true) (and-true d.live ∙ h.live)) refl h.free
 
 pub assert_follows : (c : Course) (e : Expr) (at : ℕ) → Follows (stepped c (stmt.Assert e) at) (λ d. gated (tested c e (standing d)) d)
 assert_follows c e at = record {
@@ -99,16 +80,12 @@ last_is : (o : Outcome) (ss : List Stop) (s : Stop) → AreStops o ss → IsStop
 last_is o [] s h k = (k, tt)
 last_is o (x ∷ ss) s h k = (h.0, last_is o ss s h.1 k)
 
-or_second : (a b : Bool) → b ≡ true → (a || b) ≡ true
-or_second true b e = refl
-or_second false b e = e
-
 takes_last : (n : ℕ) (ss : List Stop) (s : Stop) → (takes n (s ∷ []) ≡ true) → takes n (ss ++ s ∷ []) ≡ true
 takes_last n [] s h = h
-takes_last n (x ∷ ss) s h = or_second _ (takes n (ss ++ s ∷ [])) (takes_last n ss s h)
+takes_last n (x ∷ ss) s h = or_right _ (takes n (ss ++ s ∷ [])) (takes_last n ss s h)
 
 takes_one : (a b : Bool) → a ≡ true → b ≡ true → ((a && b) || false) ≡ true
-takes_one a b e f = ap (λ (x : Bool). (x && b) || false) e ∙ or_false b ∙ f
+takes_one a b e f = ap (λ (x : Bool). (x && b) || false) e ∙ or-false b ∙ f
 
 pub cut_follows : (at : ℕ) → Follows (Comes at) (cut_at at)
 cut_follows at = record {

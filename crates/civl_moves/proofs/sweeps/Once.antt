@@ -1,21 +1,21 @@
 -- No two ends of the paths from a cut have one number.
 use Rattle.std.specs.Prelude.{nat_lt, nat_eq, if◌then◌else◌}
-use Rattle.std.proofs.Common.{◌≡◌, ◌∙◌, ℕ, ◌+◌, ◌<◌, ◌≤◌, Bool, true, false, List, [], ◌∷◌, ◌++◌, map, inl, inr, refl, sym, ap, subst, arith}
+use Rattle.std.proofs.Common.{◌≡◌, ◌∙◌, ℕ, ◌+◌, ◌<◌, ◌≤◌, Bool, true, false, List, [], ◌∷◌, ◌++◌, map, inl, inr, refl, sym, ap, subst, arith, map-id}
 use Rattle.std.proofs.lemmas.Bool.{lt-ltb, le-ltb, ne_eqb, cases_lt}
 use Rattle.civl_tree.specs.declared.stmt.Stmt.{Stmt, out-Stmt, roll-Stmt, out-roll-Stmt, map-Stmt}
 use Rattle.civl_tree.specs.declared.stmt.Stmt.TheOpen as stmt
 use Rattle.civl_tree.specs.declared.stmt.Stmt.TheFolds.{ind-Stmt}
 use Rattle.civl_tree.specs.Numbering.{size_step, size_of, sizes_of, numbered}
 use Rattle.civl_tree.proofs.Numbers.{sizes_more}
+use Rattle.civl_tree.proofs.Sizes.{size_is}
+use Rattle.civl_tree.proofs.Bools.{either}
 use Rattle.civl_meaning.specs.Rest.{Rest, rest_inside, rest_among, rest_at}
 use Rattle.civl_meaning.proofs.Rests.{rest_layer, rest_is, among_rest, rest_none}
-use Rattle.civl_meaning.proofs.Spots.{size_is}
 use Rattle.civl_layers.specs.declared.cut.CutKind.{CutKind}
 use Rattle.civl_layers.specs.declared.cut.CutKind.TheVariants as kind
 use Rattle.civl_conditions.specs.paths.Flows.{Flow, ended_flow, flow_then, flow, flow_all, flow_loop, flow_layer, flow_rest, flow_kind, flow_from}
 use Rattle.civl_conditions.proofs.paths.Passing.{flow_of_layer, flow_is, flow_none, flow_more}
 use Rattle.civl_conditions.proofs.paths.Following.{flow_append}
-use Rattle.civl_conditions.proofs.paths.Belonging.{map_same}
 use Rattle.civl_moves.specs.sweeps.Flowing.{times, EndsComeOnce}
 
 module _ (n : ℕ) where
@@ -128,7 +128,7 @@ module _ (n : ℕ) where
       (subst (λ (g : Flow). times n g.ends + below at ≤ below (at + size_step (map-Stmt Stmt ℕ size_of (map-Stmt _ Stmt (λ z. z.0) y)))) (sym flows) (layer_few y (λ z. z.0) (λ z. z.1) t at))) s
 
   body_few : (ss : List Stmt) (at : ℕ) → times n (flow_all (numbered at ss)).ends + below at ≤ below (at + sizes_of ss)
-  body_few ss at = subst (λ (xs : List Stmt). times n (flow_all (numbered at xs)).ends + below at ≤ below (at + sizes_of xs)) (map_same ss) (all_few ss (λ (s : Stmt). s) stmt_few at)
+  body_few ss at = subst (λ (xs : List Stmt). times n (flow_all (numbered at xs)).ends + below at ≤ below (at + sizes_of xs)) (map-id ss) (all_few ss (λ (s : Stmt). s) stmt_few at)
 
   -- ---- what is still to run from a place
 
@@ -165,10 +165,6 @@ module _ (n : ℕ) where
       let others = room_numbered ss (at + size_of s) k in
       let e : below (at + size_of s + sizes_of ss) ≡ below (at + sizes_of (s ∷ ss)) = ap below (omega (arith, sizes_more s ss)) in
       omega (arith, others, h, e)
-
-  either : (P : Rest → Type 0) (b : Bool) (x y : Rest) → P x → P y → P (if b then x else y)
-  either P true x y p q = p
-  either P false x y p q = q
 
   abbrev Within : Stmt → Type 0
   Within s = (at : ℕ) (k : Rest) (w : ℕ) → below (at + size_of s) + room k ≤ 1 + below at → Room k → Room (rest_inside s s at k w)
@@ -221,7 +217,7 @@ module _ (n : ℕ) where
   rest_room : (body : List Stmt) (w : ℕ) → Room (rest_at body w)
   rest_room body w =
       let m = most (nat_lt n (0 + sizes_of body)) in
-      subst (λ (ss : List Stmt). below (0 + sizes_of ss) ≤ 1 → Room (rest_among ss 0 [] w)) (map_same body) (λ h. among_room body (λ (s : Stmt). s) within 0 [] w (omega (arith, h)) tt) m
+      subst (λ (ss : List Stmt). below (0 + sizes_of ss) ≤ 1 → Room (rest_among ss 0 [] w)) (map-id body) (λ h. among_room body (λ (s : Stmt). s) within 0 [] w (omega (arith, h)) tt) m
 
   -- ---- from a cut
 

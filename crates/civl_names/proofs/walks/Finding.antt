@@ -20,9 +20,6 @@ next_seen {A = A} {B = B} see items at item l e =
 pub none_seen : {A B : Type 0} (see : B → A) (items : List B) (at : ℕ) → length items ≤ at → drop at (map see items) ≡ []
 none_seen see items at l = drop-map see at items ∙ ap (map see) (drop_all at items l)
 
-pub next_noted : {A : Type 0} (notes : List A) (at : ℕ) (note : A) → at < length notes → note ≡ get_or notes at note → drop at notes ≡ note ∷ drop (at + 1) notes
-next_noted {A = A} notes at note l e = drop_more notes at note l ∙ ap (λ (x : A). x ∷ drop (at + 1) notes) (sym e)
-
 pub none_noted : {A : Type 0} (notes : List A) (at : ℕ) → length notes ≤ at → drop at notes ≡ []
 none_noted notes at l = drop_all at notes l
 

@@ -59,9 +59,6 @@ body_counts stmts small = omega (arith, small, sizes_are_counts stmts)
 pub map_parts : {A B : Type 0} (f : A → B) (xs ys : List A) → map f (xs ++ ys) ≡ map f xs ++ map f ys
 map_parts f xs ys = map-append f xs ys
 
-pub nothing_behind : {A : Type 0} (xs : List A) → xs ++ [] ≡ xs
-nothing_behind xs = append-nil xs
-
 -- the first of what is told of statements
 pub first_map : {A B : Type 0} (f : A → B) (xs : List A) → first_of (map f xs) ≡ option_map f (first_of xs)
 first_map f [] = refl
@@ -117,4 +114,4 @@ pub ruleset of_procs = (first_append, first_map, map_parts)
 
 pub ruleset of_places = (first_append, map_parts)
 
-pub ruleset of_rules = (first_append, nothing_behind)
+pub ruleset of_rules = (first_append, append-nil)

@@ -3,13 +3,12 @@ use Rattle.std.proofs.Common.{◌≡◌, ℕ, suc, ◌+◌, ◌<◌, ◌≤◌, 
 use Rattle.std.specs.Prelude.{Option, if◌then◌else◌}
 use Rattle.std.proofs.lemmas.List.{append_assoc, length-append, drop_more, drop_all}
 use Rattle.civl_tree.specs.declared.expr.Expr.{Expr}
-use Rattle.civl_tree.specs.declared.stmt.Stmt.{Stmt, out-Stmt}
-use Rattle.civl_tree.specs.declared.stmt.Stmt.TheOpen.{If, While, YieldLoop, RankLoop}
+use Rattle.civl_tree.specs.declared.stmt.Stmt.{Stmt}
 use Rattle.civl_tree.specs.declared.stmt.Stmt as tree
 use Rattle.civl_tree.specs.Numbering.{statements_of, inner_of}
 use Rattle.civl_tree.specs.rules.Rules.{numbers_where, first_of}
-use Rattle.civl_tree.proofs.Trees.{of_trees}
 use Rattle.civl_tree.proofs.Preorder.{preorder, inner_is, inner_layer}
+use Rattle.civl_tree.proofs.Sizes.{if_out, while_out, yield_loop_out, rank_loop_out}
 
 -- the first of two answers
 abbrev pub or_first : {A : Type 0} → Option A → Option A → Option A
@@ -89,29 +88,17 @@ lengths xs ys = length-append xs ys
 
 -- ---- how many statements stand in a statement
 
-told_if : (test : Expr) (first second : List Stmt) → out-Stmt (tree.If test first second) ≡ If test first second
-told_if test first second = simp of_trees
-
-told_while : (test : Expr) (body : List Stmt) → out-Stmt (tree.While test body) ≡ While test body
-told_while test body = simp of_trees
-
-told_yield_loop : (test inv : Expr) (body : List Stmt) → out-Stmt (tree.YieldLoop test inv body) ≡ YieldLoop test inv body
-told_yield_loop test inv body = simp of_trees
-
-told_rank_loop : (test rank inv : Expr) (body : List Stmt) → out-Stmt (tree.RankLoop test rank inv body) ≡ RankLoop test rank inv body
-told_rank_loop test rank inv body = simp of_trees
-
 pub if_parts : (stmt : Stmt) (test : Expr) (first second : List Stmt) → stmt ≡ tree.If test first second → length (inner_of stmt) ≡ length (statements_of first) + length (statements_of second)
-if_parts stmt test first second e = ap (λ s. length (inner_of s)) e ∙ ap (length {A = Stmt}) (inner_is (tree.If test first second)) ∙ ap (λ layer. length (inner_layer layer)) (told_if test first second) ∙ length-append (statements_of first) (statements_of second)
+if_parts stmt test first second e = ap (λ s. length (inner_of s)) e ∙ ap (length {A = Stmt}) (inner_is (tree.If test first second)) ∙ ap (λ layer. length (inner_layer layer)) (if_out test first second) ∙ length-append (statements_of first) (statements_of second)
 
 pub while_parts : (stmt : Stmt) (test : Expr) (body : List Stmt) → stmt ≡ tree.While test body → length (inner_of stmt) ≡ length (statements_of body)
-while_parts stmt test body e = ap (λ s. length (inner_of s)) e ∙ ap (length {A = Stmt}) (inner_is (tree.While test body)) ∙ ap (λ layer. length (inner_layer layer)) (told_while test body)
+while_parts stmt test body e = ap (λ s. length (inner_of s)) e ∙ ap (length {A = Stmt}) (inner_is (tree.While test body)) ∙ ap (λ layer. length (inner_layer layer)) (while_out test body)
 
 pub yield_loop_parts : (stmt : Stmt) (test inv : Expr) (body : List Stmt) → stmt ≡ tree.YieldLoop test inv body → length (inner_of stmt) ≡ length (statements_of body)
-yield_loop_parts stmt test inv body e = ap (λ s. length (inner_of s)) e ∙ ap (length {A = Stmt}) (inner_is (tree.YieldLoop test inv body)) ∙ ap (λ layer. length (inner_layer layer)) (told_yield_loop test inv body)
+yield_loop_parts stmt test inv body e = ap (λ s. length (inner_of s)) e ∙ ap (length {A = Stmt}) (inner_is (tree.YieldLoop test inv body)) ∙ ap (λ layer. length (inner_layer layer)) (yield_loop_out test inv body)
 
 pub rank_loop_parts : (stmt : Stmt) (test rank inv : Expr) (body : List Stmt) → stmt ≡ tree.RankLoop test rank inv body → length (inner_of stmt) ≡ length (statements_of body)
-rank_loop_parts stmt test rank inv body e = ap (λ s. length (inner_of s)) e ∙ ap (length {A = Stmt}) (inner_is (tree.RankLoop test rank inv body)) ∙ ap (λ layer. length (inner_layer layer)) (told_rank_loop test rank inv body)
+rank_loop_parts stmt test rank inv body e = ap (λ s. length (inner_of s)) e ∙ ap (length {A = Stmt}) (inner_is (tree.RankLoop test rank inv body)) ∙ ap (λ layer. length (inner_layer layer)) (rank_loop_out test rank inv body)
 
 -- a statement at this place, with those in it, are some of all
 pub item_parts : (items : List Stmt) (i : ℕ) (stmt : Stmt) → i < length items → stmt ≡ get_or items i stmt → length (inner_of stmt) + 1 + length (statements_of (drop (i + 1) items)) ≡ length (statements_of (drop i items))

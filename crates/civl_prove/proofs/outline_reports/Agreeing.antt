@@ -2,7 +2,7 @@
 use Rattle.std.specs.Prelude.{slice_get, map, unwrap_or}
 use Rattle.std.proofs.Common.{◌≡◌, ◌∙◌, ℕ, ◌<◌, List, [], sym, ap, arith, true, false, Option, None, Some, inl, inr}
 use Rattle.std.proofs.lemmas.Bool.{cases_lt}
-use Rattle.std.proofs.lemmas.Option.{slice_get_within}
+use Rattle.std.proofs.lemmas.Option.{slice_get_within, same_Some}
 use Rattle.civl_bits.specs.declared.value.Value.{Value}
 use Rattle.civl_tree.specs.declared.program.Program.{Program}
 use Rattle.civl_tree.specs.rules.Rules.{Place, first_of}
@@ -26,9 +26,6 @@ use Rattle.civl_prove.specs.declared.outline_reports.proving.Proving.TheVariants
 use Rattle.civl_prove.specs.outline_reports.Agreement.{StandsUpTo, ProvedAgree, Agree}
 use Rattle.civl_prove.specs.outline_reports.Proving.{IsProving}
 use Rattle.civl_prove.specs.outline_reports.Laws.{ProvingsAgree}
-
-same_value : {A : Type 0} (x y : A) → Some x ≡ Some y → x ≡ y
-same_value x y e = cc
 
 not_none : {A : Type 0} (x : A) (o : Option A) → o ≡ Some x → o ≡ None → ⊥
 not_none x o a b = let e = sym a ∙ b in cc
@@ -60,7 +57,7 @@ module _ (program : Program) (outline : Outline) where
       | inl low ↦ absurd (not_before h g j i ws second first other low)
       | inr down ↦
           let same : i ≡ j = omega (arith, up, down) in
-          same_value g h (sym first.there ∙ ap (slice_get (goals program outline)) same ∙ second.there)
+          same_Some g h (sym first.there ∙ ap (slice_get (goals program outline)) same ∙ second.there)
     ]
   ]
 
@@ -103,7 +100,7 @@ module _ (program : Program) (outline : Outline) where
 
   module _ (budget limit : ℕ) where
     agree : (first second : Proving) → IsProving program outline budget first → IsProving program outline limit second → Agree program outline first second
-    agree (Note m) (Note n) a b = same_value m n (sym a ∙ b)
+    agree (Note m) (Note n) a b = same_Some m n (sym a ∙ b)
     agree (Note m) (Roots i s) a b = notes_fit m a b.0
     agree (Note m) (Heavy f) a b = notes_fit m a b.0.notes
     agree (Note m) (HeavyGoal g) a b = notes_fit m a b.1.0.notes
@@ -117,14 +114,14 @@ module _ (program : Program) (outline : Outline) where
     agree (Roots i s) (Decided n p) a b = roots_fit (i, s) a.1 b.0.fits.roots
     agree (Heavy e) (Note n) a b = notes_fit n b a.0.notes
     agree (Heavy e) (Roots j t) a b = roots_fit (j, t) b.1 a.0.roots
-    agree (Heavy e) (Heavy f) a b = same_value e f (sym a.1 ∙ b.1)
+    agree (Heavy e) (Heavy f) a b = same_Some e f (sym a.1 ∙ b.1)
     agree (Heavy e) (HeavyGoal g) a b = is_light e a.1 b.0
     agree (Heavy e) (Judged v) a b = is_light e a.1 b.0.light
     agree (Heavy e) (Decided n p) a b = is_light e a.1 b.0.light
     agree (HeavyGoal g) (Note n) a b = notes_fit n b a.1.0.notes
     agree (HeavyGoal g) (Roots j t) a b = roots_fit (j, t) b.1 a.1.0.roots
     agree (HeavyGoal g) (Heavy f) a b = is_light f b.1 a.0
-    agree (HeavyGoal g) (HeavyGoal h) a b = same_value g h (sym a.1.1 ∙ b.1.1)
+    agree (HeavyGoal g) (HeavyGoal h) a b = same_Some g h (sym a.1.1 ∙ b.1.1)
     agree (HeavyGoal g) (Judged v) a b = goals_are_light g a.1.1 b.0.light_goals
     agree (HeavyGoal g) (Decided n p) a b = goals_are_light g a.1.1 b.0.light_goals
     agree (Judged v) (Note n) a b = notes_fit n b a.0.fits.notes

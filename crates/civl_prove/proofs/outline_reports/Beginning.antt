@@ -1,13 +1,10 @@
 -- Only the report that all conditions and goals hold begins with the byte of `s`.
-use Rattle.std.proofs.Common.{◌≡◌, ℕ, List, ◌∷◌, refl, arith}
+use Rattle.std.proofs.Common.{◌≡◌, refl, arith}
+use Rattle.civl_tree.proofs.Lists.{one_first}
 use Rattle.civl_verdicts.specs.declared.verdict.Verdict.TheVariants.{Accepted, Rejected, Undecided as LeftOpen, NoInitial}
 use Rattle.civl_prove.specs.declared.proved.Proved.TheVariants.{All, Fails, Undecided}
 use Rattle.civl_prove.specs.declared.outline_reports.proving.Proving.TheVariants.{Note, Roots, Heavy, HeavyGoal, Judged, Decided}
 use Rattle.civl_prove.specs.outline_reports.Laws.{OnlySafeIsSafe}
-
--- a text begins with one byte
-one_first : (x y : ℕ) (xs ys : List ℕ) → x ∷ xs ≡ y ∷ ys → x ≡ y
-one_first x y xs ys e = cc
 
 pub only_safe_is_safe : OnlySafeIsSafe
 only_safe_is_safe program budget (Note number) after e = let bytes : 114 ≡ 115 = one_first 114 115 _ _ e in absurd (omega (arith, bytes))

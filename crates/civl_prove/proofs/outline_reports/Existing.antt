@@ -1,11 +1,9 @@
 -- Of each program and each outline something is found.
 use Rattle.std.specs.Prelude.{map, slice_get, get_or}
-use Rattle.std.proofs.Common.{◌≡◌, ◌∙◌, ℕ, zero, suc, ◌^◌, ◌<◌, ◌≤◌, ◌⊎◌, inl, inr, Bool, true, false, List, [], ◌∷◌, length, refl, sym, ap, subst, arith, Option, None, Some}
+use Rattle.std.proofs.Common.{◌≡◌, ◌∙◌, ℕ, zero, suc, ◌≤◌, ◌⊎◌, inl, inr, List, [], ◌∷◌, length, refl, sym, ap, subst, arith, Option, None, Some}
 use Rattle.std.proofs.lemmas.Bool.{cases_lt}
 use Rattle.std.proofs.lemmas.Option.{same_Some, slice_get-get_or}
 use Rattle.civl_bits.specs.declared.value.Value.{Value}
-use Rattle.civl_firing.specs.values.Values.{HaveSorts}
-use Rattle.civl_tree.specs.declared.expr.Sort.{Sort}
 use Rattle.civl_tree.specs.declared.program.Program.{Program}
 use Rattle.civl_tree.specs.rules.Rules.{Place, Keeps, first_of}
 use Rattle.civl_tree.specs.rules.Typing.{typing_rules}
@@ -17,9 +15,7 @@ use Rattle.civl_verdicts.specs.declared.verdict.Verdict.{Verdict}
 use Rattle.civl_verdicts.specs.declared.verdict.Verdict.TheVariants as verdict
 use Rattle.civl_verdicts.specs.Verdicts.{IsVerdict}
 use Rattle.civl_verdicts.proofs.judgements.Judging.{each_program_has_a_verdict}
-use Rattle.civl_states.proofs.Limits.{AreSorts}
-use Rattle.civl_verdicts.specs.decisions.Numbered.{values_numbered, bits_together}
-use Rattle.civl_verdicts.proofs.decisions.Numbers.{values_have_sorts, each_is_numbered}
+use Rattle.civl_verdicts.proofs.findings.Surveying.{Some_, None_, some_or_none}
 use Rattle.civl_goals.specs.declared.goal.Goal.{Goal}
 use Rattle.civl_goals.specs.declared.goal.Goal.TheVariants.{Invariant}
 use Rattle.civl_goals.specs.Listed.{goals}
@@ -40,32 +36,6 @@ use Rattle.civl_prove.specs.outline_reports.Laws.{EachOutlineIsAnswered}
 use Rattle.civl_prove.proofs.outline_reports.Sorted.{goal_variables_have_sorts}
 
 -- ---- whether some values make a formula true
-
--- some number below the bound passes the test, or none does
-below : (test : ℕ → Bool) (bound : ℕ) → ((n : ℕ) × (test n ≡ true)) ⊎ ((n : ℕ) → n < bound → test n ≡ false)
-below test zero = inr (λ n l. absurd (omega arith))
-below test (suc bound) = by (test bound) refl (below test bound)
-  where
-    by : (b : Bool) → test bound ≡ b → ((n : ℕ) × (test n ≡ true)) ⊎ ((n : ℕ) → n < bound → test n ≡ false) → ((n : ℕ) × (test n ≡ true)) ⊎ ((n : ℕ) → n < suc bound → test n ≡ false)
-    by true e found = inl (bound, e)
-    by false e (inl some) = inl some
-    by false e (inr none) = inr (λ n l. elim (cases_lt n bound) [
-      | inl low ↦ none n low
-      | inr high ↦ let same : bound ≡ n = omega arith in subst (λ (k : ℕ). test k ≡ false) same e
-    ])
-
-abbrev Some_ : List Sort → (List Value → Bool) → Type 0
-Some_ sorts truth = (values : List Value) × HaveSorts values sorts × (truth values ≡ true)
-
-abbrev None_ : List Sort → (List Value → Bool) → Type 0
-None_ sorts truth = (values : List Value) → HaveSorts values sorts → truth values ≡ false
-
-some_or_none : (sorts : List Sort) (truth : List Value → Bool) → AreSorts sorts → Some_ sorts truth ⊎ None_ sorts truth
-some_or_none sorts truth limits = by (below (λ n. truth (values_numbered sorts n)) (2 ^ bits_together sorts))
-  where
-    by : ((n : ℕ) × (truth (values_numbered sorts n) ≡ true)) ⊎ ((n : ℕ) → n < 2 ^ bits_together sorts → truth (values_numbered sorts n) ≡ false) → Some_ sorts truth ⊎ None_ sorts truth
-    by (inl some) = inl (values_numbered sorts some.0, values_have_sorts sorts some.0 limits, some.1)
-    by (inr none) = inr (λ values have. let n = each_is_numbered sorts values have in ap truth (sym n.2) ∙ none n.0 n.1)
 
 none_told : (ps : List Place) → map told ps ≡ [] → ps ≡ []
 none_told [] e = refl

@@ -1,56 +1,33 @@
 -- The sorts of a goal's variables are within the limits.
 use Rattle.std.specs.Prelude.{map, filter, codes, Bool, All, IsTrue, slice_get}
 use Rattle.std.specs.Option.{option_map_or}
-use Rattle.std.proofs.Common.{◌≡◌, ◌∙◌, ℕ, ◌+◌, true, false, List, [], ◌∷◌, ◌++◌, refl, Option, Some, None}
-use Rattle.std.proofs.lemmas.List.Elements.{All-nil, All-cons, All-append, All-head, All-tail, All-map, All-filter}
+use Rattle.std.proofs.Common.{◌≡◌, ℕ, ◌+◌, List, [], ◌++◌, refl, Option, Some, None}
+use Rattle.std.proofs.lemmas.List.Elements.{All-nil, All-append, All-map, All-filter}
 use Rattle.civl_firing.specs.values.Values.{is_sort}
-use Rattle.civl_tree.specs.declared.name.Name.{Name}
 use Rattle.civl_tree.specs.declared.expr.Sort.{Sort}
 use Rattle.civl_tree.specs.declared.stmt.Stmt.{Stmt, out-Stmt}
-use Rattle.civl_tree.specs.declared.stmt.Stmt.TheOpen as stmt
-use Rattle.civl_tree.specs.declared.action.Action.{Action}
 use Rattle.civl_tree.specs.declared.program.Global.{Global}
-use Rattle.civl_tree.specs.declared.program.Refines.{Refines}
 use Rattle.civl_tree.specs.declared.program.Proc.{Proc}
 use Rattle.civl_tree.specs.declared.program.Program.{Program}
 use Rattle.civl_tree.specs.Numbering.{statement_at}
-use Rattle.civl_tree.specs.rules.Names.{action_named}
 use Rattle.civl_tree.specs.rules.Rules.{Keeps}
 use Rattle.civl_tree.specs.rules.Typing.{typing_rules}
-use Rattle.civl_firing.specs.Truth.{place_of}
-use Rattle.civl_firing.proofs.Finding.{found_at}
 use Rattle.civl_meaning.specs.Layers.{topmost}
-use Rattle.civl_meaning.specs.Meaning.{Meaning, proc_number, meaning_of_action, refined, meaning_by, meaning_else}
 use Rattle.civl_conditions.specs.declared.condition.Condition.TheVariants.{Keep as KeepsPermissions}
 use Rattle.civl_conditions.specs.declared.condition.Variable.{Variable}
-use Rattle.civl_conditions.specs.Variables.{variable, of_globals, of_params, of_choices, of_locals, choices_of, layer_choices, call_front}
-use Rattle.civl_states.proofs.Limits.{AreSorts, global_sorts_are, choice_sorts_are, proc_param_sorts_are, proc_out_sorts_are, local_sorts_are}
-use Rattle.civl_verdicts.proofs.findings.Sorted.{variables_have_sorts}
+use Rattle.civl_conditions.specs.Variables.{of_globals, of_params, of_choices, of_locals, layer_choices, call_front}
+use Rattle.civl_states.proofs.Limits.{AreSorts, global_sorts_are, proc_param_sorts_are, proc_out_sorts_are, local_sorts_are}
+use Rattle.civl_verdicts.proofs.findings.Sorted.{variables_have_sorts, of_sorts, IsGood, each_of}
 use Rattle.civl_goals.specs.declared.goal.Goal.{Goal}
 use Rattle.civl_goals.specs.declared.goal.Goal.TheVariants as goal
 use Rattle.civl_goals.specs.Outlines.{exists_on_top, top_globals}
 use Rattle.civl_goals.specs.Variables.{of_names, of_frame, choices_at, of_statement, variables}
-
-abbrev IsGood : Variable → Type 0
-IsGood v = IsTrue (is_sort v.sort)
-
--- from the sorts of declarations to their variables
-of_sorts : {A : Type 0} (name : A → Name) (sort : A → Sort) (front : List ℕ) (xs : List A) → AreSorts (map sort xs) → All IsGood (map (λ x. variable front (name x) (sort x)) xs)
-of_sorts name sort front [] p = All-nil IsGood
-of_sorts name sort front (x ∷ xs) p =
-    let In : Sort → Type 0 = λ s. IsTrue (is_sort s) in
-    All-cons IsGood (variable front (name x) (sort x)) _ (All-head In (sort x) (map sort xs) p) (of_sorts name sort front xs (All-tail In (sort x) (map sort xs) p))
-
-each_global : (gs : List Global) → AreSorts (map (λ g. g.sort) gs) → All (λ (g : Global). IsTrue (is_sort g.sort)) gs
-each_global [] q = All-nil (λ (g : Global). IsTrue (is_sort g.sort))
-each_global (g ∷ gs) q =
-    let In : Sort → Type 0 = λ s. IsTrue (is_sort s) in
-    All-cons (λ (x : Global). IsTrue (is_sort x.sort)) g gs (All-head In g.sort (map (λ x. x.sort) gs) q) (each_global gs (All-tail In g.sort (map (λ x. x.sort) gs) q))
+use Rattle.civl_goal_terms.proofs.Choosing.{form_few}
 
 some_of : (test : Global → Bool) (gs : List Global) → AreSorts (map (λ g. g.sort) gs) → AreSorts (map (λ g. g.sort) (filter test gs))
 some_of test gs p =
     let In : Sort → Type 0 = λ s. IsTrue (is_sort s) in
-    All-map In (λ (g : Global). g.sort) (filter test gs) (All-filter test (λ (g : Global). In g.sort) gs (each_global gs p))
+    All-map In (λ (g : Global). g.sort) (filter test gs) (All-filter test (λ (g : Global). In g.sort) gs (each_of (λ (g : Global). g.sort) gs p))
 
 none_are : AreSorts []
 none_are = All-nil (λ s. IsTrue (is_sort s))
@@ -58,47 +35,12 @@ none_are = All-nil (λ s. IsTrue (is_sort s))
 module _ (program : Program) (keeps : Keeps typing_rules program) where
   -- ---- the choices of a call
 
-  abbrev AreOfMeant : Meaning → Type 0
-  AreOfMeant m = AreSorts (map (λ c. c.sort) (choices_of m))
-
-  named_are : (name : Name) (o : Option Action) → action_named program name ≡ o → AreOfMeant (meaning_of_action o)
-  named_are name None e = none_are
-  named_are name (Some a) e = choice_sorts_are program keeps (place_of (map (λ b. b.name) program.actions) name) a (found_at (λ (b : Action). b.name) program.actions name ∙ e)
-
-  refined_are : (o : Option Refines) → AreOfMeant (refined program o)
-  refined_are None = none_are
-  refined_are (Some r) = named_are r.action (action_named program r.action) refl
-
-  body_are : (number : ℕ) (b : Option Bool) (o : Option Proc) → AreOfMeant (meaning_by program b number o)
-  body_are number None None = none_are
-  body_are number (Some b) None = none_are
-  body_are number None (Some proc) = none_are
-  body_are number (Some true) (Some proc) = none_are
-  body_are number (Some false) (Some proc) = refined_are proc.refines
-
-  else_are : (name : Name) (o : Option Action) → action_named program name ≡ o → AreOfMeant (meaning_else (topmost program) name o)
-  else_are name None e = body_are (proc_number program name) (slice_get (topmost program).bodies (proc_number program name)) (slice_get program.procs (proc_number program name))
-  else_are name (Some a) e = named_are name (Some a) e
-
-  form_are : (f : stmt.Stmt-F Stmt) → AreSorts (map (λ c. c.sort) (layer_choices (topmost program) f))
-  form_are (stmt.Call f es rs) = else_are f (action_named program f) refl
-  form_are (stmt.Assign x v) = none_are
-  form_are (stmt.Assert v) = none_are
-  form_are (stmt.If v a b) = none_are
-  form_are (stmt.While v a) = none_are
-  form_are (stmt.YieldLoop v i a) = none_are
-  form_are (stmt.RankLoop v r i a) = none_are
-  form_are (stmt.Yield i) = none_are
-  form_are stmt.Commit = none_are
-  form_are (stmt.Intro x v) = none_are
-  form_are (stmt.Spawn f es) = none_are
-
   choices_are : (r s : ℕ) → AreSorts (map (λ c. c.sort) (choices_at program r s))
   choices_are r s = in_proc (slice_get program.procs r)
     where
       in_body : (o : Option Stmt) → AreSorts (map (λ c. c.sort) (option_map_or (λ stmt. layer_choices (topmost program) (out-Stmt stmt)) o []))
       in_body None = none_are
-      in_body (Some stmt) = form_are (out-Stmt stmt)
+      in_body (Some stmt) = (form_few program keeps (out-Stmt stmt)).0
 
       in_proc : (o : Option Proc) → AreSorts (map (λ c. c.sort) (option_map_or (λ proc. option_map_or (λ stmt. layer_choices (topmost program) (out-Stmt stmt)) (statement_at proc.body s) []) o []))
       in_proc None = none_are

@@ -1,7 +1,7 @@
 -- Two steps of a plain program, the other way round.
-use Rattle.std.proofs.Common.{ℕ, zero, suc, ◌≡◌, ◌≢◌, Bool, true, false, ◌||◌, List, [], ◌∷◌, Option, Some, None, refl, slice_get, ap, sym, ◌∙◌, inl, inr, ◌⊎◌}
-use Rattle.std.specs.List.{list_any}
-use Rattle.std.proofs.lemmas.Option.{same_Some}
+use Rattle.std.proofs.Common.{ℕ, ◌≡◌, ◌≢◌, Bool, true, false, List, Option, Some, None, refl, slice_get, ap, sym, ◌∙◌, inl, inr, ◌⊎◌}
+use Rattle.std.proofs.lemmas.Option.{same_Some, none-some}
+use Rattle.std.proofs.lemmas.Map.Keys.{any_passes_from_place}
 use Rattle.civl_bits.specs.declared.value.Value.{Value}
 use Rattle.civl_tree.specs.declared.name.Name.{Name}
 use Rattle.civl_firing.specs.declared.store.Store.{Store}
@@ -23,32 +23,19 @@ use Rattle.civl_reduction.specs.interleavings.Systems.{Failing}
 use Rattle.civl_reduction.specs.interleavings.Reduction as laws
 use Rattle.civl_reduction.specs.interleavings.Threads.{stepping_of, fails_in}
 use Rattle.civl_reduction.specs.interleavings.Threads as threads
-use Rattle.civl_reduction.proofs.interleavings.Exchanging.{exchanged, none_some}
+use Rattle.civl_reduction.proofs.interleavings.Exchanging.{exchanged}
 use Rattle.civl_reduction.proofs.interleavings.Exchanging as pairs
-
-any_from : {A : Type 0} (p : A → Bool) (xs : List A) (i : ℕ) (x : A) → slice_get xs i ≡ Some x → p x ≡ true → list_any p xs ≡ true
-any_from p [] i x e h = absurd (none_some x e)
-any_from p (y ∷ xs) zero x e h = go (p y) (ap p (same_Some y x e) ∙ h)
-  where
-    go : (b : Bool) → b ≡ true → (b || list_any p xs) ≡ true
-    go true g = refl
-    go false g = absurd cc
-any_from p (y ∷ xs) (suc i) x e h = go (p y) (any_from p xs i x e h)
-  where
-    go : (b : Bool) → list_any p xs ≡ true → (b || list_any p xs) ≡ true
-    go true g = refl
-    go false g = g
 
 abbrev pub config_of : threads.Config Store Running → Config
 config_of c = record { store = c.store; threads = c.threads }
 
 told_back : (x : Stepped × Config) (d : threads.Config Store Running) → told x ≡ Some d → x ≡ (answer.Moved, config_of d)
 told_back (answer.Moved, e) d h = ap (λ (c : threads.Config Store Running). (answer.Moved, config_of c)) (same_Some (as_config e) d h)
-told_back (answer.Blocked, e) d h = absurd (none_some d h)
-told_back (answer.NoThread, e) d h = absurd (none_some d h)
-told_back (answer.Ended, e) d h = absurd (none_some d h)
-told_back (answer.Failing, e) d h = absurd (none_some d h)
-told_back (answer.BadChoices, e) d h = absurd (none_some d h)
+told_back (answer.Blocked, e) d h = absurd (none-some d h)
+told_back (answer.NoThread, e) d h = absurd (none-some d h)
+told_back (answer.Ended, e) d h = absurd (none-some d h)
+told_back (answer.Failing, e) d h = absurd (none-some d h)
+told_back (answer.BadChoices, e) d h = absurd (none-some d h)
 
 module _ (plain : Plain) (store : Store) (inside : Running → Bool) where
   abbrev Q : threads.Threads Store Running Call Chosen (List Value)
@@ -62,7 +49,7 @@ module _ (plain : Plain) (store : Store) (inside : Running → Bool) where
     where
       go : (o : Option Running) → slice_get c.threads f.0 ≡ o → fails_in Q c.store o ≡ true → is_failing plain c ≡ true
       go None i e = absurd cc
-      go (Some r) i e = any_from (thread_fails plain c.store) c.threads f.0 r i (fails_agree plain store inside c.store r ∙ e)
+      go (Some r) i e = any_passes_from_place (thread_fails plain c.store) c.threads f.0 r i (fails_agree plain store inside c.store r ∙ e)
 
   -- two calls by `Swaps`; one of the two steps spawns no thread; both threads are there before
   exchange : (c d e : Config) (m n : Move) (h : IsMove m) (i : IsMove n) (r q : Running) → m.thread ≢ n.thread → slice_get c.threads m.thread ≡ Some r → slice_get c.threads n.thread ≡ Some q
@@ -86,13 +73,13 @@ call_in _ = None
 pub called_so : (r : Running) (D : does.Doing) (x : Call) (f : List Value → Running) → whole r D ≡ threads.Calls x f
     → (names : List Name) × (locals : List Value) × (results : List Name) × (next : ℕ) × (D ≡ does.Calls names locals results next x.0 x.1)
 called_so r (does.Calls names locals results next action args) x f e = (names, locals, results, next, ap (λ (c : Call). does.Calls names locals results next c.0 c.1) (same_Some (action, args) x (ap call_in e)))
-called_so r does.Fails x f e = absurd (none_some x (ap call_in e))
-called_so r does.Waits x f e = absurd (none_some x (ap call_in e))
-called_so r does.Ends x f e = absurd (none_some x (ap call_in e))
-called_so r (does.Goes locals place) x f e = absurd (none_some x (ap call_in e))
-called_so r (does.Enters frame place) x f e = absurd (none_some x (ap call_in e))
-called_so r (does.Leaves frame) x f e = absurd (none_some x (ap call_in e))
-called_so r (does.Spawns other place) x f e = absurd (none_some x (ap call_in e))
+called_so r does.Fails x f e = absurd (none-some x (ap call_in e))
+called_so r does.Waits x f e = absurd (none-some x (ap call_in e))
+called_so r does.Ends x f e = absurd (none-some x (ap call_in e))
+called_so r (does.Goes locals place) x f e = absurd (none-some x (ap call_in e))
+called_so r (does.Enters frame place) x f e = absurd (none-some x (ap call_in e))
+called_so r (does.Leaves frame) x f e = absurd (none-some x (ap call_in e))
+called_so r (does.Spawns other place) x f e = absurd (none-some x (ap call_in e))
 
 abbrev new_in : threads.Doing Running Call (List Value) → Option Running
 new_in (threads.Spawns r n) = Some n
@@ -100,13 +87,13 @@ new_in _ = None
 
 spawns_none : (r : Running) (D : does.Doing) → SpawnsNone D → (s n : Running) → whole r D ≡ threads.Spawns s n → ⊥
 spawns_none r (does.Spawns other place) h s n e = h other place refl
-spawns_none r (does.Calls names locals results next action args) h s n e = none_some n (ap new_in e)
-spawns_none r does.Fails h s n e = none_some n (ap new_in e)
-spawns_none r does.Waits h s n e = none_some n (ap new_in e)
-spawns_none r does.Ends h s n e = none_some n (ap new_in e)
-spawns_none r (does.Goes locals place) h s n e = none_some n (ap new_in e)
-spawns_none r (does.Enters frame place) h s n e = none_some n (ap new_in e)
-spawns_none r (does.Leaves frame) h s n e = none_some n (ap new_in e)
+spawns_none r (does.Calls names locals results next action args) h s n e = none-some n (ap new_in e)
+spawns_none r does.Fails h s n e = none-some n (ap new_in e)
+spawns_none r does.Waits h s n e = none-some n (ap new_in e)
+spawns_none r does.Ends h s n e = none-some n (ap new_in e)
+spawns_none r (does.Goes locals place) h s n e = none-some n (ap new_in e)
+spawns_none r (does.Enters frame place) h s n e = none-some n (ap new_in e)
+spawns_none r (does.Leaves frame) h s n e = none-some n (ap new_in e)
 
 -- where threads stand inside blocks doesn't matter to a step
 abbrev nowhere : Running → Bool

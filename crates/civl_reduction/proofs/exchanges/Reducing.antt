@@ -1,9 +1,9 @@
 -- The reduction of a plain program, from what is asked of its actions, of where its threads stand, of its configurations,
 -- and of blocks that stand together.
-use Rattle.std.proofs.Common.{ℕ, suc, ◌≡◌, Bool, true, false, ◌||◌, List, [], ◌∷◌, Some, refl, slice_get, ap, sym, ◌∙◌}
+use Rattle.std.proofs.Common.{ℕ, ◌≡◌, Bool, true, false, List, [], ◌∷◌, Some, slice_get, ap, sym, ◌∙◌}
 use Rattle.std.specs.Prelude.{All}
-use Rattle.std.specs.List.{list_any}
 use Rattle.std.proofs.lemmas.List.Elements.{All-head, All-tail, All-nil, All-cons}
+use Rattle.civl_tree.proofs.Lists.{any_place}
 use Rattle.civl_bits.specs.declared.value.Value.{Value}
 use Rattle.civl_firing.specs.declared.store.Store.{Store}
 use Rattle.civl_meaning.specs.declared.config.Move.{Move}
@@ -23,14 +23,6 @@ use Rattle.civl_reduction.specs.interleavings.Threads.{Movers, Phases, Parted, s
 use Rattle.civl_reduction.specs.interleavings.Threads as threads
 use Rattle.civl_reduction.proofs.interleavings.Threading.{threads_are_reducible}
 use Rattle.civl_reduction.proofs.interleavings.Reducing.{reduced}
-
-any_place : {A : Type 0} (p : A → Bool) (xs : List A) → list_any p xs ≡ true → (i : ℕ) × (x : A) × (slice_get xs i ≡ Some x) × (p x ≡ true)
-any_place p [] e = absurd cc
-any_place {A = A} p (x ∷ xs) e = go (p x) refl e (λ h. any_place p xs h)
-  where
-    go : (b : Bool) → p x ≡ b → (b || list_any p xs) ≡ true → (list_any p xs ≡ true → (i : ℕ) × (y : A) × (slice_get xs i ≡ Some y) × (p y ≡ true)) → (i : ℕ) × (y : A) × (slice_get (x ∷ xs) i ≡ Some y) × (p y ≡ true)
-    go true h f ih = (0, x, refl, h)
-    go false h f ih = let r = ih f in (suc r.0, r.1, r.2, r.3)
 
 module _ (plain : Plain) (store : Store) (inside : Running → Bool) where
   abbrev pub Q : threads.Threads Store Running Call Chosen (List Value)

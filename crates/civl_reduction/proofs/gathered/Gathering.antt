@@ -1,7 +1,7 @@
 -- Gathering, in the program of a layer of a checked program.
 use Rattle.std.proofs.Common.{ℕ, ◌≡◌, ◌≢◌, true, false, List, [], ◌∷◌, ◌++◌, Option, Some, None, ap, sym, subst, ◌∙◌, inl, inr, ◌⊎◌}
 use Rattle.std.specs.Prelude.{All}
-use Rattle.std.proofs.lemmas.List.Elements.{All-nil, All-cons, All-head, All-tail}
+use Rattle.std.proofs.lemmas.List.Elements.{All-nil, All-cons, All-head, All-tail, All-append}
 use Rattle.civl_tree.specs.declared.program.Program.{Program}
 use Rattle.civl_firing.specs.declared.store.Store.{Store}
 use Rattle.civl_meaning.specs.declared.config.Move.{Move}
@@ -15,7 +15,7 @@ use Rattle.civl_reduction.specs.checked.Checked.{SpawnsAreInRoots, ActionsKeepPe
 use Rattle.civl_reduction.specs.staged.Inside.{CheckedAreSafeInside}
 use Rattle.civl_reduction.specs.gathering.Gathered.{own, FailsInside}
 use Rattle.civl_reduction.proofs.gathering.Places.{early_gathered, early_stopped, late_gathered, late_stopped, late_along, others_leave, holds_along, stays_late}
-use Rattle.civl_reduction.proofs.gathering.Gathering.{own_all, all_join}
+use Rattle.civl_reduction.proofs.gathering.Gathering.{own_all}
 use Rattle.civl_reduction.proofs.gathering.Standing.{none_inside, fails_at_once}
 use Rattle.civl_reduction.specs.gathered.System.{layer_run, place_at}
 use Rattle.civl_reduction.specs.gathered.Offered.{offered, AreOffered}
@@ -73,7 +73,7 @@ module _ (r : SpawnsAreInRoots) (p : ActionsKeepPermissions) (a : ActionsAreMove
         ((are_movers r p a program layer store k).fails_on c o.0 q u first h o.2 (λ x. n (sym x ∙ o.1)) (subst (λ (z : ℕ). place_at program layer c z ≡ Late) (sym o.1) l) f)
 
     safe_behind : CheckedAreSafeInside → (ps ms : List Move) (t : ℕ) → All IsMove ps → All IsMove ms → (x : Config) → Staged L (ps ++ own (λ m. m.thread) t ms) (Some t) x → L.fails x t ≡ false
-    safe_behind safe ps ms t vs ws x g = safe_there program layer store (safe program layer store k) (ps ++ own (λ m. m.thread) t ms) t x (all_join IsMove ps (own (λ m. m.thread) t ms) vs (own_all IsMove (λ m. m.thread) t ms ws)) g
+    safe_behind safe ps ms t vs ws x g = safe_there program layer store (safe program layer store k) (ps ++ own (λ m. m.thread) t ms) t x (All-append IsMove ps (own (λ m. m.thread) t ms) vs (own_all IsMove (λ m. m.thread) t ms ws)) g
 
     -- where it fails behind its own moves, none of them is made
     at_once : CheckedAreSafeInside → (ps ms : List Move) (t : ℕ) (c : Config) → All IsMove ps → All IsMove ms → Staged L ps None c → FailsInside L t ms c → Failing L.steps c

@@ -1,7 +1,7 @@
 -- The offered step of a thread that stands late is made, unless it fails.
 use Rattle.std.proofs.Common.{ℕ, ◌≡◌, Bool, true, false, List, [], map, Option, Some, None, refl, slice_get, ap, sym, subst, ◌∙◌, inl, inr, ◌⊎◌}
 use Rattle.std.specs.Prelude.{All}
-use Rattle.std.proofs.lemmas.Bool.{false≢true}
+use Rattle.std.proofs.lemmas.Bool.{false≢true, not-false}
 use Rattle.std.proofs.lemmas.List.Elements.{All-nil}
 use Rattle.civl_bits.specs.Value.{IsValue}
 use Rattle.civl_bits.specs.declared.value.Value.{Value}
@@ -25,7 +25,7 @@ use Rattle.civl_layers.proofs.PlainPrograms.{layered_is_plain}
 use Rattle.civl_reduction.specs.interleavings.Reduction.{Between, Late}
 use Rattle.civl_reduction.specs.interleavings.Threads.{Threads, outcome, config_with, doing_fails, fails_in, stands_in}
 use Rattle.civl_reduction.specs.interleavings.Threads as threads
-use Rattle.civl_reduction.proofs.interleavings.Exchanging.{makes, calls, not_false}
+use Rattle.civl_reduction.proofs.interleavings.Exchanging.{makes, calls}
 use Rattle.civl_reduction.specs.exchanges.Doing.{Doing, doing}
 use Rattle.civl_reduction.specs.exchanges.Doing as does
 use Rattle.civl_reduction.specs.exchanges.Interleavings.{Chosen, Call, whole, as_config, as_move}
@@ -101,7 +101,7 @@ module _ (r : SpawnsAreInRoots) (p : ActionsKeepPermissions) (a : ActionsAreMove
         by_outcome [] (ap (offers_of plain.program.globals c.store) e) (All-nil IsValue) (c.store, thread_after q (change.Leaves frame), [])
         (ap (λ (D : Doing). outcome Q (whole q D) c.store ([], All-nil IsValue)) e)
     by_doing (does.Calls names locals results next action args) e s f =
-        fires_it action args _ (ap (whole q) e) s (not_false (gate_holds plain.program.globals c.store action args) (sym (ap (λ (D : Doing). doing_fails Q (whole q D) c.store) e) ∙ f))
+        fires_it action args _ (ap (whole q) e) s (not-false (gate_holds plain.program.globals c.store action args) (sym (ap (λ (D : Doing). doing_fails Q (whole q D) c.store) e) ∙ f))
         (ap (offers_of plain.program.globals c.store) e)
 
     -- what is offered are values

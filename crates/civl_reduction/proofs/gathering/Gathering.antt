@@ -50,10 +50,6 @@ others_all V mover t (m ∷ ms) v = elim (cases_eq (mover m) t) [
   | inr e ↦ subst (All V) (sym (others_other mover t m ms e)) (All-cons V m (others mover t ms) (All-head V m ms v) (others_all V mover t ms (All-tail V m ms v)))
 ]
 
-pub all_join : {M : Type 0} (V : M → Type 0) (ms ns : List M) → All V ms → All V ns → All V (ms ++ ns)
-all_join V [] ns v w = w
-all_join V (m ∷ ms) ns v w = All-cons V m (ms ++ ns) (All-head V m ms v) (all_join V ms ns (All-tail V m ms v) w)
-
 module _ {C M : Type 0} (S : System C M) (t : ℕ) where
   -- ---- failing along a thread's moves
 

@@ -1,17 +1,14 @@
 -- Where threads stand when the moves of one of them are gathered: before the turn of its block the others' steps are early,
 -- behind it the thread stands late.
-use Rattle.std.proofs.Common.{ℕ, ◌≡◌, ◌≢◌, Bool, true, false, List, [], ◌∷◌, ◌++◌, Some, refl, sym, ap, subst, ◌∙◌, inl, inr, ◌⊎◌}
+use Rattle.std.proofs.Common.{ℕ, ◌≡◌, ◌≢◌, true, false, List, [], ◌∷◌, ◌++◌, Some, refl, sym, ap, subst, ◌∙◌, inl, inr, ◌⊎◌}
 use Rattle.std.specs.Prelude.{All}
-use Rattle.std.proofs.lemmas.Bool.{cases_eq}
+use Rattle.std.proofs.lemmas.Bool.{cases_eq, both_ways}
 use Rattle.std.proofs.lemmas.List.Elements.{All-head, All-tail}
 use Rattle.civl_reduction.specs.interleavings.Systems.{System}
 use Rattle.civl_reduction.specs.interleavings.Runs.{RunsTo, Opens}
 use Rattle.civl_reduction.specs.interleavings.Reduction.{Exchanged, Place, Between, Early, Late, is_inside}
 use Rattle.civl_reduction.specs.gathering.Gathered.{others, FailsSooner, IsGathered, FailsInside, AllPass, AreEarly}
 use Rattle.civl_reduction.proofs.gathering.Gathering.{MayGoBehind, Gathers, others_mine, others_other, gathered, stopped}
-
-true_false : (b : Bool) → b ≡ true → b ≡ false → ⊥
-true_false b e f = cc
 
 -- what the reduction asks of steps by moves of which this is so, apart from block runs
 pub record AreMovers (C M : Type 0) (S : System C M) (place : C → ℕ → Place) (Holds : C → Type 0) (Valid : M → Type 0) : Type 0 where
@@ -71,7 +68,7 @@ module _ {C M : Type 0} (S : System C M) (place : C → ℕ → Place) (Holds : 
   IsLate t m d = place d t ≡ Late
 
   late_or_out : (p : Place) → p ≢ Early → is_inside p ≡ true → p ≡ Late
-  late_or_out Between n i = absurd (true_false false i refl)
+  late_or_out Between n i = absurd (both_ways false refl i)
   late_or_out Early n i = absurd (n refl)
   late_or_out Late n i = refl
 

@@ -1,34 +1,15 @@
 -- The laws of a system of threads over a shared store, from what is asked of its actions, of where threads stand, and of
 -- the invariant.
-use Rattle.std.proofs.Common.{ℕ, zero, suc, ◌<◌, ◌≡◌, ◌≢◌, Bool, true, false, not, List, [], ◌∷◌, ◌++◌, length, Option, None, Some, refl, sym, ap, subst, ◌∙◌, append_assoc, arith, inl, inr, ◌⊎◌}
+use Rattle.std.proofs.Common.{ℕ, ◌<◌, ◌≡◌, ◌≢◌, Bool, true, false, not, List, [], ◌∷◌, ◌++◌, length, Option, None, Some, refl, sym, ap, subst, ◌∙◌, append_assoc, arith, inl, inr, ◌⊎◌}
 use Rattle.std.specs.Prelude.{option_map, slice_get, slice_set, if◌then◌else◌}
 use Rattle.std.proofs.lemmas.List.{append-nil, set_comm, set-append_left, length-set}
-use Rattle.std.proofs.lemmas.Option.{same_Some, slice_get_within}
+use Rattle.std.proofs.lemmas.Option.{same_Some, slice_get_within, none-some}
+use Rattle.civl_tree.proofs.Lists.{get_other, get_same, get_front}
 use Rattle.civl_reduction.specs.interleavings.Systems.{Stepping, Failing}
 use Rattle.civl_reduction.specs.interleavings.Reduction.{Exchanged}
 use Rattle.civl_reduction.specs.interleavings.Threads.{Doing, Fails, Waits, Goes, Spawns, Calls, Config, Move, Threads, Outcome, fired, outcome, config_with, step_in, step_of, doing_fails, fails_in, stepping_of, Swaps}
 
 -- ---- lists
-
-pub get_other : {A : Type 0} (xs : List A) (i j : ℕ) (a : A) → j ≢ i → slice_get (slice_set xs i a) j ≡ slice_get xs j
-get_other [] i j a n = refl
-get_other (x ∷ xs) zero zero a n = absurd (n refl)
-get_other (x ∷ xs) zero (suc j) a n = refl
-get_other (x ∷ xs) (suc i) zero a n = refl
-get_other (x ∷ xs) (suc i) (suc j) a n = get_other xs i j a (λ e. n (ap (λ (k : ℕ). suc k) e))
-
-pub none_some : {A : Type 0} (x : A) → None ≡ Some x → ⊥
-none_some x e = cc
-
-get_same : {A : Type 0} (xs : List A) (i : ℕ) (a r : A) → slice_get xs i ≡ Some r → slice_get (slice_set xs i a) i ≡ Some a
-get_same [] i a r e = absurd (none_some r e)
-get_same (x ∷ xs) zero a r e = refl
-get_same (x ∷ xs) (suc i) a r e = get_same xs i a r e
-
-get_first : {A : Type 0} (xs ys : List A) (j : ℕ) (q : A) → slice_get xs j ≡ Some q → slice_get (xs ++ ys) j ≡ Some q
-get_first [] ys j q e = absurd (none_some q e)
-get_first (x ∷ xs) ys zero q e = e
-get_first (x ∷ xs) ys (suc j) q e = get_first xs ys j q e
 
 sets_swap : {A : Type 0} (ts : List A) (t u : ℕ) (a b : A) (xs ys : List A) → t ≢ u → t < length ts → u < length ts → xs ++ ys ≡ ys ++ xs → slice_set (slice_set ts u b ++ ys) t a ++ xs ≡ slice_set (slice_set ts t a ++ xs) u b ++ ys
 sets_swap ts t u a b xs ys n h k e =
@@ -38,22 +19,6 @@ sets_swap ts t u a b xs ys n h k e =
     ∙ ap (λ z. slice_set (slice_set ts t a) u b ++ z) (sym e)
     ∙ sym (append_assoc (slice_set (slice_set ts t a) u b) xs ys)
     ∙ ap (λ z. z ++ ys) (sym (set-append_left (slice_set ts t a) xs u b (omega (arith, k, length-set ts t a))))
-
-pub true_false : (b : Bool) → b ≡ true → b ≡ false → ⊥
-true_false b e f = cc
-
-pub not_true : (b : Bool) → not b ≡ true → b ≡ false
-not_true true e = absurd cc
-not_true false e = refl
-
-pub not_false : (b : Bool) → not b ≡ false → b ≡ true
-not_false true e = refl
-not_false false e = absurd cc
-
--- what isn't true
-pub untrue : (b : Bool) → (b ≡ true → ⊥) → b ≡ false
-untrue true f = absurd (f refl)
-untrue false f = refl
 
 module _ {G T X K O : Type 0} (P : Threads G T X K O) where
   -- ---- steps
@@ -67,11 +32,11 @@ module _ {G T X K O : Type 0} (P : Threads G T X K O) where
   made c d m e = go (slice_get c.threads m.thread) refl e
     where
       by_outcome : (r : T) → slice_get c.threads m.thread ≡ Some r → (o : Option (Outcome G T)) → outcome P (P.doing r) c.store m.chosen ≡ o → option_map (config_with c m.thread) o ≡ Some d → Made c m d
-      by_outcome r q None f h = absurd (none_some d h)
+      by_outcome r q None f h = absurd (none-some d h)
       by_outcome r q (Some z) f h = (r, z, q, f, same_Some (config_with c m.thread z) d h)
 
       go : (o : Option T) → slice_get c.threads m.thread ≡ o → step_in P c m o ≡ Some d → Made c m d
-      go None q h = absurd (none_some d h)
+      go None q h = absurd (none-some d h)
       go (Some r) q h = by_outcome r q (outcome P (P.doing r) c.store m.chosen) refl h
 
   pub makes : (c : Config G T) (m : Move K) (r : T) (z : Outcome G T) → slice_get c.threads m.thread ≡ Some r → outcome P (P.doing r) c.store m.chosen ≡ Some z → step_of P c m ≡ Some (config_with c m.thread z)
@@ -86,9 +51,9 @@ module _ {G T X K O : Type 0} (P : Threads G T X K O) where
     where
       go : (a b : Bool) (p : Option (G × O)) → P.gate x g ≡ a → P.fits x k ≡ b → P.fires x g k ≡ p → (if a then (if b then fired f p else None) else None) ≡ Some z → Called x f g k z
       go true true (Some p) i j l h = (i, j, p.0, p.1, l, same_Some (p.0, f p.1, []) z h)
-      go true true None i j l h = absurd (none_some z h)
-      go true false p i j l h = absurd (none_some z h)
-      go false b p i j l h = absurd (none_some z h)
+      go true true None i j l h = absurd (none-some z h)
+      go true false p i j l h = absurd (none-some z h)
+      go false b p i j l h = absurd (none-some z h)
 
   pub calls : (x : X) (f : O → T) (g h : G) (k : K) (o : O) → P.gate x g ≡ true → P.fits x k ≡ true → P.fires x g k ≡ Some (h, o) → outcome P (Calls x f) g k ≡ Some (h, f o, [])
   calls x f g h k o i j l =
@@ -99,10 +64,10 @@ module _ {G T X K O : Type 0} (P : Threads G T X K O) where
   -- ---- threads behind a step
 
   pub other_there : (c : Config G T) (t u : ℕ) (z : Outcome G T) (q : T) → u ≢ t → slice_get c.threads u ≡ Some q → slice_get (config_with c t z).threads u ≡ Some q
-  other_there c t u z q n e = get_first (slice_set c.threads t z.1) z.2 u q (get_other c.threads t u z.1 n ∙ e)
+  other_there c t u z q n e = get_front (slice_set c.threads t z.1) z.2 u q (get_other c.threads t u z.1 n ∙ e)
 
   pub same_there : (c : Config G T) (t : ℕ) (z : Outcome G T) (r : T) → slice_get c.threads t ≡ Some r → slice_get (config_with c t z).threads t ≡ Some z.1
-  same_there c t z r e = get_first (slice_set c.threads t z.1) z.2 t z.1 (get_same c.threads t z.1 r e)
+  same_there c t z r e = get_front (slice_set c.threads t z.1) z.2 t z.1 (get_same c.threads t z.1 r e)
 
   -- where none was spawned, another thread was there before
   pub other_was : (c : Config G T) (t u : ℕ) (z : Outcome G T) → u ≢ t → z.2 ≡ [] → slice_get (config_with c t z).threads u ≡ slice_get c.threads u
@@ -112,8 +77,8 @@ module _ {G T X K O : Type 0} (P : Threads G T X K O) where
       ∙ get_other c.threads t u z.1 n
 
   pub none_spawned : (D : Doing T X O) (g : G) (k : K) (z : Outcome G T) → ((s n : T) → D ≡ Spawns s n → ⊥) → outcome P D g k ≡ Some z → z.2 ≡ []
-  none_spawned Fails g k z n e = absurd (none_some z e)
-  none_spawned Waits g k z n e = absurd (none_some z e)
+  none_spawned Fails g k z n e = absurd (none-some z e)
+  none_spawned Waits g k z n e = absurd (none-some z e)
   none_spawned (Goes s) g k z n e = ap (λ (w : Outcome G T). w.2) (sym (same_Some (g, s, []) z e))
   none_spawned (Spawns s r) g k z n e = absurd (n s r refl)
   none_spawned (Calls x f) g k z n e = ap (λ (w : Outcome G T). w.2) (sym (called x f g k z e).5)
@@ -166,8 +131,8 @@ module _ {G T X K O : Type 0} (P : Threads G T X K O) where
   CallsSwap D E g k j = (x y : X) (f e : O → T) → D ≡ Calls x f → E ≡ Calls y e → Swaps P g x k y j
 
   call_then : (x : X) (f : O → T) (E : Doing T X O) (g : G) (k j : K) (z y : Outcome G T) → CallsSwap (Calls x f) E g k j → outcome P (Calls x f) g k ≡ Some z → outcome P E z.0 j ≡ Some y → Swapped (Calls x f) E g k j z y
-  call_then x f Fails g k j z y s a b = absurd (none_some y b)
-  call_then x f Waits g k j z y s a b = absurd (none_some y b)
+  call_then x f Fails g k j z y s a b = absurd (none-some y b)
+  call_then x f Waits g k j z y s a b = absurd (none-some y b)
   call_then x f (Goes r) g k j z y s a b =
       subst (Swapped (Calls x f) (Goes r) g k j z) (same_Some (z.0, r, []) y b)
       (quiet_second (Calls x f) (Goes r) g k j r [] z (λ i. refl) a (append-nil z.2))
@@ -178,8 +143,8 @@ module _ {G T X K O : Type 0} (P : Threads G T X K O) where
   call_then x f (Calls w e) g k j z y s a b = both_call x w f e g k j z y (s x w f e refl refl) (called x f g k z a) (called w e z.0 j y b)
 
   swapped : (D E : Doing T X O) (g : G) (k j : K) (z y : Outcome G T) → CallsSwap D E g k j → OneSpawns D E → outcome P D g k ≡ Some z → outcome P E z.0 j ≡ Some y → Swapped D E g k j z y
-  swapped Fails E g k j z y s n a b = absurd (none_some z a)
-  swapped Waits E g k j z y s n a b = absurd (none_some z a)
+  swapped Fails E g k j z y s n a b = absurd (none-some z a)
+  swapped Waits E g k j z y s n a b = absurd (none-some z a)
   swapped (Goes r) E g k j z y s n a b =
       let q = same_Some (g, r, []) z a in
       subst (λ v. Swapped (Goes r) E g k j v y) q

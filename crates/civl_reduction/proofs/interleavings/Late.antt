@@ -1,6 +1,6 @@
 -- A run that ends failing, looked at from a configuration in which a thread stands late in its block.
 use Rattle.std.proofs.Common.{ℕ, zero, suc, ◌<◌, ◌≤◌, ◌≡◌, ◌≢◌, Bool, true, false, Some, refl, sym, subst, ◌∙◌, arith, inl, inr, ◌⊎◌}
-use Rattle.std.proofs.lemmas.Bool.{cases_eq}
+use Rattle.std.proofs.lemmas.Bool.{cases_eq, both_ways}
 use Rattle.civl_reduction.specs.interleavings.Systems.{Failing, System}
 use Rattle.civl_reduction.specs.interleavings.Reduction.{Exchanged, Place, Between, Early, Late, IsReducible}
 use Rattle.civl_reduction.proofs.interleavings.Doomed.{Doomed}
@@ -31,9 +31,6 @@ Others {C} {M} S t (suc n) c = (m : M) × (d : C) × (S.mover m ≢ t) × (S.ste
 abbrev pub Completed : {C M : Type 0} → System C M → ℕ → ℕ → C → Type 0
 Completed {C} {M} S t zero c = (m : M) × (d : C) × (S.mover m ≡ t) × (S.step c m ≡ Some d) × Failing S.steps d
 Completed {C} {M} S t (suc n) c = (m : M) × (d : C) × (S.mover m ≢ t) × (S.step c m ≡ Some d) × Completed S t n d
-
-true_false : (b : Bool) → b ≡ true → b ≡ false → ⊥
-true_false b e f = cc
 
 module _ {C M : Type 0} (S : System C M) (place : C → ℕ → Place) (Holds : C → Type 0) (l : IsReducible C M S place Holds) where
   -- a step of a thread that stood late leaves it late, or ends its block
@@ -100,13 +97,13 @@ module _ {C M : Type 0} (S : System C M) (place : C → ℕ → Place) (Holds : 
   pub completed : (t n : ℕ) (c : C) → Holds c → place c t ≡ Late → S.fails c t ≡ false → Others S t n c → Completed S t n c
   completed t zero c h p q f =
       let r = l.late_steps c t h p q in
-      let differ : S.mover r.0 ≢ f.0 = λ v. true_false (S.fails c t) (subst (λ u. S.fails c u ≡ true) (sym v ∙ r.2) f.1) q in
+      let differ : S.mover r.0 ≢ f.0 = λ v. both_ways (S.fails c t) q (subst (λ u. S.fails c u ≡ true) (sym v ∙ r.2) f.1) in
       (r.0, r.1, r.2, r.3, (f.0, l.fails_on c r.1 r.0 f.0 h r.3 differ (subst (λ u. place c u ≡ Late) (sym r.2) p) f.1))
   completed t (suc n) c h p q f = (f.0, f.1, f.2, f.3, completed t n f.1 (l.holds_on c f.1 f.0 h f.3) (l.others_stay c f.1 f.0 t h f.3 f.2 ∙ p) (still (S.fails f.1 t) refl) f.4)
     where
       still : (b : Bool) → S.fails f.1 t ≡ b → S.fails f.1 t ≡ false
       still false e = e
-      still true e = absurd (true_false (S.fails c t) (l.late_failed_before c f.1 f.0 t h f.3 f.2 p e) q)
+      still true e = absurd (both_ways (S.fails c t) q (l.late_failed_before c f.1 f.0 t h f.3 f.2 p e))
 
   -- and this step can be brought to the front
   pub completed_first : (t n : ℕ) (c : C) → Holds c → place c t ≡ Late → Completed S t n c → First S place t n c ⊎ Fewer S place t n c

@@ -1,5 +1,6 @@
 -- The reduction: where some run ends failing, some block run ends failing or challenged.
 use Rattle.std.proofs.Common.{ℕ, zero, suc, ◌<◌, ◌≡◌, Bool, true, false, List, [], ◌∷◌, ◌++◌, length, Option, None, Some, refl, sym, ap, subst, ◌∙◌, arith, inl, inr, ◌⊎◌}
+use Rattle.std.proofs.lemmas.Bool.{both_ways}
 use Rattle.civl_reduction.specs.interleavings.Systems.{System}
 use Rattle.civl_reduction.specs.interleavings.Runs.{CanFail, MayStep, BlocksFail, Staged, begun}
 use Rattle.civl_reduction.specs.interleavings.Reduction.{Place, Between, Early, Late, is_inside, Within, IsReducible}
@@ -7,9 +8,6 @@ use Rattle.civl_reduction.proofs.interleavings.Doomed.{Doomed, doomed_by}
 use Rattle.civl_reduction.proofs.interleavings.Early.{Turns, Begins, Sorted, sorted}
 use Rattle.civl_reduction.proofs.interleavings.Late.{Rest, First, Fewer, Fronted, fronted, completed, completed_first, rest_of}
 use Rattle.civl_reduction.proofs.interleavings.Staging.{staged_runs, holds_staged, inside_more, ends_more, begins_opens, inside_begun, inside_any}
-
-true_false : (b : Bool) → b ≡ true → b ≡ false → ⊥
-true_false b e f = cc
 
 -- with no open block, from a block run and a rest of n moves
 abbrev pub FromBlocks : {C M : Type 0} → System C M → ℕ → Type 0
@@ -101,7 +99,7 @@ module _ {C M : Type 0} (S : System C M) (place : C → ℕ → Place) (Holds : 
 
       stopped : (t : ℕ) (ms : List M) (x : C) → Begins S place t ms c x → S.fails x t ≡ true → BlocksFail S
       stopped t [] x b e = (ps, c, staged_runs S g, inl (t, subst (λ z. S.fails z t ≡ true) (sym b) e))
-      stopped t (m ∷ ms) x b e = absurd (true_false (S.fails x t) e (l.safe_inside (ps ++ m ∷ ms) t x (inside_begun S ps ms m t c x g (begins_opens S place Holds l t (m ∷ ms) c x b))))
+      stopped t (m ∷ ms) x b e = absurd (both_ways (S.fails x t) (l.safe_inside (ps ++ m ∷ ms) t x (inside_begun S ps ms m t c x g (begins_opens S place Holds l t (m ∷ ms) c x b))) e)
 
       go : Sorted S place Holds l n c → BlocksFail S
       go (inl r) = let x = inside_any S ps r.moves r.thread c r.middle g (begins_opens S place Holds l r.thread r.moves c r.middle r.begins) in turned r x.0 x.1 x.2 (place r.after r.thread) refl

@@ -1,6 +1,7 @@
 -- The simulation: where some block run ends failing or challenged, the other system can fail.
 use Rattle.std.proofs.Common.{ℕ, ◌≡◌, Bool, true, false, List, [], ◌∷◌, ◌++◌, Option, None, Some, refl, sym, ap, subst, ◌∙◌, append_assoc, inl, inr, ◌⊎◌}
 use Rattle.std.proofs.lemmas.List.{append-nil}
+use Rattle.std.proofs.lemmas.Bool.{both_ways}
 use Rattle.civl_reduction.specs.interleavings.Systems.{Stepping, Failing, System}
 use Rattle.civl_reduction.specs.interleavings.Runs.{RunsTo, FailsFrom, CanFail, MayStep, opened, BlocksTo, IsBlockRun, BlocksFail, Staged, begun, Opens}
 use Rattle.civl_reduction.specs.interleavings.Simulation.{Simulates}
@@ -12,9 +13,6 @@ runs_join H (n ∷ ns) os x y z r q = (r.0, r.1, runs_join H ns os r.0 y z r.2 q
 
 pub fails_after : {D N : Type 0} (H : Stepping D N) (ns : List N) (x y : D) → RunsTo H ns x y → FailsFrom H y → FailsFrom H x
 fails_after H ns x y r f = (ns ++ f.0, f.1, runs_join H ns f.0 x y f.1 r f.2, f.3)
-
-true_false : (b : Bool) → b ≡ true → b ≡ false → ⊥
-true_false b e f = cc
 
 some_none : (t : ℕ) → ◌≡◌ {A = Option ℕ} (Some t) None → ⊥
 some_none t e = cc
@@ -38,7 +36,7 @@ module _ {C M D N : Type 0} (S : System C M) (H : Stepping D N) (Meets : List M 
           l.failing_fails ps c x g k (subst (Failing S.steps) (sym (same ∙ b.1)) i)
       go q h (inr i) =
           let all : (ps ++ bs) ++ [] ≡ ps = append-nil (ps ++ bs) ∙ (ap (λ z. ps ++ z) q ∙ append-nil ps) in
-          absurd (true_false (S.challenged ps) (subst (λ z. S.challenged z ≡ true) all i) (unchallenged S ps c g))
+          absurd (both_ways (S.challenged ps) (unchallenged S ps c g) (subst (λ z. S.challenged z ≡ true) all i))
 
   -- a step that leaves the block open
   looked_open : (ms : List M) (m : M) → Looked ms → (o : Option ℕ) (ps bs : List M) (c d e f : C) (x : D)

@@ -1,12 +1,14 @@
 -- A system of threads over a shared store keeps the laws of the reduction.
 use Rattle.std.proofs.Common.{ℕ, zero, suc, ◌≡◌, ◌≢◌, Bool, true, false, not, List, [], ◌∷◌, ◌++◌, Option, None, Some, refl, sym, ap, subst, ◌∙◌, inl, inr}
 use Rattle.std.specs.Prelude.{slice_get, slice_set}
-use Rattle.std.proofs.lemmas.Option.{same_Some}
+use Rattle.std.proofs.lemmas.Option.{same_Some, none-some}
+use Rattle.std.proofs.lemmas.Bool.{not-true, not-false, false_from_ne_true, both_ways}
+use Rattle.civl_tree.proofs.Lists.{get_other}
 use Rattle.civl_reduction.specs.interleavings.Runs.{Staged}
 use Rattle.civl_reduction.specs.interleavings.Reduction.{Place, Between, Early, Late, is_inside, Exchanged, Within, IsReducible}
 use Rattle.civl_reduction.specs.interleavings.Threads.{Doing, Fails, Waits, Goes, Spawns, Calls, Config, Move, Threads, Outcome, outcome, config_with, step_of, doing_fails, fails_in, stands_in, stepping_of, inside_in, place_in, system_of, Movers, IsIn, Phases, Parted}
 use Rattle.civl_reduction.proofs.interleavings.Early.{between_late}
-use Rattle.civl_reduction.proofs.interleavings.Exchanging.{get_other, none_some, true_false, not_true, not_false, untrue, Made, made, makes, called, calls, other_there, same_there, other_was, none_spawned, exchanged}
+use Rattle.civl_reduction.proofs.interleavings.Exchanging.{Made, made, makes, called, calls, other_there, same_there, other_was, none_spawned, exchanged}
 
 false_true : false ≡ true → ⊥
 false_true e = cc
@@ -35,12 +37,12 @@ module _ {G T X K O : Type 0} (P : Threads G T X K O) (stands : T → Place) (Ri
 
   past_stands : (ts ns : List T) (u : ℕ) → slice_get ts u ≡ None → AreBetween ns → stands_in stands (slice_get (ts ++ ns) u) ≡ Between
   past_stands [] ns u e h = new_stands ns u h
-  past_stands (r ∷ ts) ns zero e h = absurd (none_some r (sym e))
+  past_stands (r ∷ ts) ns zero e h = absurd (none-some r (sym e))
   past_stands (r ∷ ts) ns (suc u) e h = past_stands ts ns u e h
 
   spawned_between : (r : T) → IsIn Holds r → (g : G) (k : K) (z : Outcome G T) (D : Doing T X O) → P.doing r ≡ D → outcome P D g k ≡ Some z → AreBetween z.2
-  spawned_between r j g k z Fails q e = absurd (none_some z e)
-  spawned_between r j g k z Waits q e = absurd (none_some z e)
+  spawned_between r j g k z Fails q e = absurd (none-some z e)
+  spawned_between r j g k z Waits q e = absurd (none-some z e)
   spawned_between r j g k z (Goes s) q e = subst (λ (w : Outcome G T). AreBetween w.2) (same_Some (g, s, []) z e) tt
   spawned_between r j g k z (Spawns s n) q e = subst (λ (w : Outcome G T). AreBetween w.2) (same_Some (g, s, n ∷ []) z e) (phases.new_between r s n j q, tt)
   spawned_between r j g k z (Calls x f) q e = subst (λ (w : Outcome G T). AreBetween w.2) (called P x f g k z e).5 tt
@@ -65,8 +67,8 @@ module _ {G T X K O : Type 0} (P : Threads G T X K O) (stands : T → Place) (Ri
   stands_then c d m x = ap (λ (v : Config G T). stands_in stands (slice_get v.threads m.thread)) (sym x.4) ∙ ap (stands_in stands) (same_there P c m.thread x.1 x.0 x.2)
 
   goes_on_late : (r : T) → IsIn Holds r → (g : G) (k : K) (z : Outcome G T) (D : Doing T X O) → P.doing r ≡ D → stands r ≡ Late → outcome P D g k ≡ Some z → stands z.1 ≢ Early
-  goes_on_late r j g k z Fails q h e = absurd (none_some z e)
-  goes_on_late r j g k z Waits q h e = absurd (none_some z e)
+  goes_on_late r j g k z Fails q h e = absurd (none-some z e)
+  goes_on_late r j g k z Waits q h e = absurd (none-some z e)
   goes_on_late r j g k z (Goes s) q h e = subst (λ (w : Outcome G T). stands w.1 ≢ Early) (same_Some (g, s, []) z e) (phases.late_goes r s j q h)
   goes_on_late r j g k z (Spawns s n) q h e = absurd (phases.late_spawn r s n j q h)
   goes_on_late r j g k z (Calls x f) q h e =
@@ -128,8 +130,8 @@ module _ {G T X K O : Type 0} (P : Threads G T X K O) (stands : T → Place) (Ri
   -- a gate behind a step is as before, where it is so behind each call
   gate_stays : (b : Bool) (r : T) (g : G) (k : K) (z : Outcome G T) (y : X) (D : Doing T X O) → P.doing r ≡ D → outcome P D g k ≡ Some z → P.gate y g ≡ b
       → ((u : X) (f : O → T) → P.doing r ≡ Calls u f → (h : G) (o : O) → P.gate u g ≡ true → P.fits u k ≡ true → P.fires u g k ≡ Some (h, o) → P.gate y h ≡ b) → P.gate y z.0 ≡ b
-  gate_stays b r g k z y Fails q e h c = absurd (none_some z e)
-  gate_stays b r g k z y Waits q e h c = absurd (none_some z e)
+  gate_stays b r g k z y Fails q e h c = absurd (none-some z e)
+  gate_stays b r g k z y Waits q e h c = absurd (none-some z e)
   gate_stays b r g k z y (Goes s) q e h c = subst (λ (w : Outcome G T). P.gate y w.0 ≡ b) (same_Some (g, s, []) z e) h
   gate_stays b r g k z y (Spawns s n) q e h c = subst (λ (w : Outcome G T). P.gate y w.0 ≡ b) (same_Some (g, s, n ∷ []) z e) h
   gate_stays b r g k z y (Calls u f) q e h c =
@@ -142,7 +144,7 @@ module _ {G T X K O : Type 0} (P : Threads G T X K O) (stands : T → Place) (Ri
   fails_too q g h Waits i c e = absurd (false_true e)
   fails_too q g h (Goes s) i c e = absurd (false_true e)
   fails_too q g h (Spawns s n) i c e = absurd (false_true e)
-  fails_too q g h (Calls y f) i c e = ap not (c y f i (not_true (P.gate y g) e))
+  fails_too q g h (Calls y f) i c e = ap not (c y f i (not-true (P.gate y g) e))
 
   store_then : (c d : Config G T) (m : Move K) (x : Made P c m d) → d.store ≡ x.1.0
   store_then c d m x = sym (ap (λ (v : Config G T). v.store) x.4)
@@ -154,7 +156,7 @@ module _ {G T X K O : Type 0} (P : Threads G T X K O) (stands : T → Place) (Ri
   failed c d m w q x before behind keeps e =
       let there : doing_fails P (P.doing q) x.1.0 ≡ true = sym (ap (λ (v : G). fails_in P v (slice_get d.threads w)) (store_then c d m x) ∙ ap (fails_in P x.1.0) behind) ∙ e in
       ap (fails_in P c.store) before
-      ∙ fails_too q x.1.0 c.store (P.doing q) refl (λ y f i j. untrue (P.gate y c.store) (λ k. true_false (P.gate y x.1.0) (keeps y f i k) j)) there
+      ∙ fails_too q x.1.0 c.store (P.doing q) refl (λ y f i j. false_from_ne_true (P.gate y c.store) (λ k. both_ways (P.gate y x.1.0) j (keeps y f i k))) there
 
   failed_before : (c d : Config G T) (m : Move K) (w : ℕ) → Holds c → step_of P c m ≡ Some d → m.thread ≢ w → stands_in stands (slice_get d.threads m.thread) ≡ Early → fails_in P d.store (slice_get d.threads w) ≡ true → fails_in P c.store (slice_get c.threads w) ≡ true
   failed_before c d m w h a n early e = go (made P c d m a) (fails_there d.store (slice_get d.threads w) e)
@@ -211,7 +213,7 @@ module _ {G T X K O : Type 0} (P : Threads G T X K O) (stands : T → Place) (Ri
           let m : Move K = record { thread = w; chosen = moves.idle } in
           (m, config_with c w (c.store, s, n ∷ []), refl, makes P c m q (c.store, s, n ∷ []) there (ap (λ (D : Doing T X O). outcome P D c.store moves.idle) i))
       by_doing q there stood (Calls x g) i f =
-          let gate : P.gate x c.store ≡ true = not_false (P.gate x c.store) f in
+          let gate : P.gate x c.store ≡ true = not-false (P.gate x c.store) f in
           let y = moves.left_fires c.store x (phases.late_left q x g (c, w, h, there) i stood) (parted.met c w q x g h there i) gate in
           let m : Move K = record { thread = w; chosen = y.0 } in
           let z : Outcome G T = (y.1, g y.2, []) in

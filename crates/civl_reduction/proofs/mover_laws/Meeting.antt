@@ -1,19 +1,11 @@
 -- Two actions of a layer, at the first step at which both are there.
-use Rattle.std.proofs.Common.{◌≡◌, ℕ, ◌+◌, ◌-◌, ◌<◌, ◌≤◌, Bool, true, false, ◌&&◌, refl, ap, arith, inl, inr, ◌⊎◌}
+use Rattle.std.proofs.Common.{◌≡◌, ℕ, ◌+◌, ◌-◌, ◌<◌, ◌≤◌, Bool, true, refl, ap, arith, inl, inr, ◌⊎◌}
 use Rattle.std.specs.Prelude.{nat_le, nat_lt, if◌then◌else◌}
-use Rattle.std.proofs.lemmas.Bool.{false≢true, cases_lt, lt-ltb, le-ltb, le-leb, leb-true, eq-eqb}
+use Rattle.std.proofs.lemmas.Bool.{cases_lt, lt-ltb, le-ltb, le-leb, leb-true, eq-eqb, and_parts, and_from}
 use Rattle.civl_tree.specs.declared.action.Action.{Action}
 use Rattle.civl_layers.specs.Ranges.{exists_in}
 use Rattle.civl_layers.specs.Names.{action_range}
 use Rattle.civl_conditions.specs.Steps.{meet_below}
-
-pub and_cases : (a b : Bool) → (a && b) ≡ true → (a ≡ true) × (b ≡ true)
-and_cases true b e = (refl, e)
-and_cases false b e = absurd (false≢true e)
-
-pub both_true : (a b : Bool) → a ≡ true → b ≡ true → (a && b) ≡ true
-both_true true b e h = h
-both_true false b e h = absurd (false≢true e)
 
 -- the first layer of both
 abbrev pub meeting : Action → Action → ℕ
@@ -27,10 +19,10 @@ pub met_at : (layer : ℕ) (a b : Action) → exists_in layer (action_range a) �
 met_at layer a b h k = go (meeting a b) refl (cases_lt a.first b.first)
   where
     p : (nat_le a.first layer ≡ true) × (nat_le layer a.last ≡ true)
-    p = and_cases (nat_le a.first layer) (nat_le layer a.last) h
+    p = and_parts (nat_le a.first layer) (nat_le layer a.last) h
 
     q : (nat_le b.first layer ≡ true) × (nat_le layer b.last ≡ true)
-    q = and_cases (nat_le b.first layer) (nat_le layer b.last) k
+    q = and_parts (nat_le b.first layer) (nat_le layer b.last) k
 
     a_first : a.first ≤ layer
     a_first = leb-true a.first layer p.0
@@ -46,9 +38,9 @@ met_at layer a b h k = go (meeting a b) refl (cases_lt a.first b.first)
 
     by_number : (n : ℕ) → meeting a b ≡ n → a.first ≤ n → b.first ≤ n → n ≤ layer → MetAt layer a b
     by_number n e i j l = (
-      both_true _ _ (eq-eqb (meeting a b + 1) (meeting a b + 1) refl) (both_true _ _ (le-leb (meeting a b + 1) (a.last + 1) (omega (arith, e, l, a_last))) (le-leb (meeting a b + 1) (b.last + 1) (omega (arith, e, l, b_last)))),
-      both_true _ _ (le-leb a.first (meeting a b + 1 - 1) (omega (arith, e, i))) (le-leb (meeting a b + 1 - 1) a.last (omega (arith, e, l, a_last))),
-      both_true _ _ (le-leb b.first (meeting a b + 1 - 1) (omega (arith, e, j))) (le-leb (meeting a b + 1 - 1) b.last (omega (arith, e, l, b_last))),
+      and_from _ _ (eq-eqb (meeting a b + 1) (meeting a b + 1) refl) (and_from _ _ (le-leb (meeting a b + 1) (a.last + 1) (omega (arith, e, l, a_last))) (le-leb (meeting a b + 1) (b.last + 1) (omega (arith, e, l, b_last)))),
+      and_from _ _ (le-leb a.first (meeting a b + 1 - 1) (omega (arith, e, i))) (le-leb (meeting a b + 1 - 1) a.last (omega (arith, e, l, a_last))),
+      and_from _ _ (le-leb b.first (meeting a b + 1 - 1) (omega (arith, e, j))) (le-leb (meeting a b + 1 - 1) b.last (omega (arith, e, l, b_last))),
       omega (arith, e, l),
     )
 

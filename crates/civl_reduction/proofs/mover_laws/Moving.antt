@@ -1,13 +1,14 @@
 -- What the conditions on movers say of two actions that meet in a store.
 use Rattle.std.proofs.Common.{rules, ◌≡◌, ℕ, ◌+◌, ◌-◌, Bool, true, false, not, ◌&&◌, ◌||◌, List, [], ◌∷◌, map, refl, sym, ap, ◌∙◌, subst, Option, None, Some, ◌≤◌, arith, nat_le}
 use Rattle.std.specs.Prelude.{if◌then◌else◌, IsTrue, ◌↔◌}
-use Rattle.std.proofs.lemmas.Bool.{false≢true, not-false, eq-eqb, leb-true}
+use Rattle.std.proofs.lemmas.Bool.{false≢true, not-false, eq-eqb, leb-true, and_parts}
 use Rattle.std.proofs.lemmas.Option.{same_Some, none-some}
 use Rattle.civl_bits.specs.Value.{same_value}
 use Rattle.civl_bits.specs.declared.value.Value.{Value}
 use Rattle.civl_firing.specs.values.Values.{HaveSorts}
 use Rattle.civl_tree.specs.declared.program.Global.{Global}
 use Rattle.civl_tree.specs.declared.program.Program.{Program}
+use Rattle.civl_tree.proofs.Bools.{not_second}
 use Rattle.civl_firing.specs.declared.store.Store.{Store}
 use Rattle.civl_firing.specs.Stores.{IsStore}
 use Rattle.civl_firing.specs.Fired.{guard_holds, fires, offers, store_after, outs_after}
@@ -22,33 +23,33 @@ use Rattle.civl_conditions.proofs.footprints.Existing.{uses_what_exists}
 use Rattle.civl_conditions.specs.Values.{Invoked, same_in, same_stores, same_values}
 use Rattle.civl_conditions.specs.Movers.{on_some, gate_of, fires_of, apart, clashes, spoils, reveals}
 use Rattle.civl_reduction.specs.mover_laws.Movers.{IsInvoked, MaySwap, RightMoversMove, LeftMoversMove, LeftMoversFire}
-use Rattle.civl_reduction.proofs.mover_laws.Meeting.{and_cases, meeting, met_at}
+use Rattle.civl_reduction.proofs.mover_laws.Meeting.{meeting, met_at}
 
 -- ---- equality
 
-same_is_equality : (v w : Value) → IsTrue (same_value v w) ↔ (v ≡ w)
+pub same_is_equality : (v w : Value) → IsTrue (same_value v w) ↔ (v ≡ w)
 same_is_equality = search rules
 
 value_is : (v w : Value) → same_value v w ≡ true → v ≡ w
 value_is v w e = (same_is_equality v w).0 e
 
-values_are : (vs ws : List Value) → same_values vs ws ≡ true → vs ≡ ws
+pub values_are : (vs ws : List Value) → same_values vs ws ≡ true → vs ≡ ws
 values_are [] [] e = refl
 values_are [] (w ∷ ws) e = absurd (false≢true e)
 values_are (v ∷ vs) [] e = absurd (false≢true e)
 values_are (v ∷ vs) (w ∷ ws) e =
-    let p = and_cases (same_value v w) (same_values vs ws) e in
+    let p = and_parts (same_value v w) (same_values vs ws) e in
     ap (λ (x : Value). x ∷ vs) (value_is v w p.0) ∙ ap (λ (xs : List Value). w ∷ xs) (values_are vs ws p.1)
 
 -- lists of values of the globals' sorts that are the same on some globals
-agree_in : (test : Global → Bool) (gs : List Global) (vs ws : List Value) → HaveSorts vs (map (λ g. g.sort) gs) → HaveSorts ws (map (λ g. g.sort) gs) → same_in test gs vs ws ≡ true → AgreeOn test gs vs ws
+pub agree_in : (test : Global → Bool) (gs : List Global) (vs ws : List Value) → HaveSorts vs (map (λ g. g.sort) gs) → HaveSorts ws (map (λ g. g.sort) gs) → same_in test gs vs ws ≡ true → AgreeOn test gs vs ws
 agree_in test [] [] [] h k e = tt
 agree_in test [] [] (w ∷ ws) h k e = absurd (false≢true k.are)
 agree_in test [] (v ∷ vs) ws h k e = absurd (false≢true h.are)
 agree_in test (g ∷ gs) [] ws h k e = absurd (false≢true h.are)
 agree_in test (g ∷ gs) (v ∷ vs) [] h k e = absurd (false≢true k.are)
 agree_in test (g ∷ gs) (v ∷ vs) (w ∷ ws) h k e =
-    let p = and_cases (not (test g) || same_value v w) (same_in test gs vs ws) e in
+    let p = and_parts (not (test g) || same_value v w) (same_in test gs vs ws) e in
     (λ t. value_is v w (so (test g) t p.0), agree_in test gs vs ws (rest_sorts v g.sort vs (map (λ g. g.sort) gs) h) (rest_sorts w g.sort ws (map (λ g. g.sort) gs) k) p.1)
   where
     so : (b : Bool) → b ≡ true → (not b || same_value v w) ≡ true → same_value v w ≡ true
@@ -110,8 +111,8 @@ module _ (program : Program) (src : IsLayered program) where
       ended : (c d : Store × List Value) → fires_of program store y ≡ Some c → fires_of program c.0 x ≡ Some d → (same_stores (exists_at (step - 1)) program end d.0 && (same_values outs d.1 && same_values results c.1)) ≡ true
           → (start : Store) × (fires program.globals store y.action y.inputs y.chosen ≡ Some (start, results)) × (fires program.globals start x.action x.inputs x.chosen ≡ Some (end, outs))
       ended c d q r e =
-          let p = and_cases (same_stores (exists_at (step - 1)) program end d.0) _ e in
-          let s = and_cases (same_values outs d.1) (same_values results c.1) p.1 in
+          let p = and_parts (same_stores (exists_at (step - 1)) program end d.0) _ e in
+          let s = and_parts (same_values outs d.1) (same_values results c.1) p.1 in
           let layer = step - 1 in
           let middle_fit = after_fits i store x middle outs fit a first in
           let end_fit = after_fits j middle y end results middle_fit b second in
@@ -137,10 +138,6 @@ module _ (program : Program) (src : IsLayered program) where
 
 -- ---- the laws
 
-so : (g r : Bool) → g ≡ true → (g && r) ≡ false → r ≡ false
-so true r e h = h
-so false r e h = absurd (false≢true e)
-
 on_made : (o : Option (Store × List Value)) (test : Store × List Value → Bool) (after : Store) (outs : List Value) → o ≡ Some (after, outs) → on_some o test ≡ false → test (after, outs) ≡ false
 on_made o test after outs e h = subst (λ (p : Option (Store × List Value)). on_some p test ≡ false) e h
 
@@ -150,11 +147,11 @@ right_movers_move program layer store x y src h m right =
     let step = meeting x.action y.action + 1 in
     let i = m.first.number in
     let j = m.second.number in
-    let clash = so (apart program store x y) (clashes program step store x y) m.disjoint (h.right_swaps step i j store x y met.3 m.sorted m.first.invoked m.second.invoked right met.0) in
-    let spoil = so (apart program store x y) (spoils program store x y) m.disjoint (h.right_keeps step i j store x y met.3 m.sorted m.first.invoked m.second.invoked right met.0) in
+    let clash = not_second (apart program store x y) (clashes program step store x y) m.disjoint (h.right_swaps step i j store x y met.3 m.sorted m.first.invoked m.second.invoked right met.0) in
+    let spoil = not_second (apart program store x y) (spoils program store x y) m.disjoint (h.right_keeps step i j store x y met.3 m.sorted m.first.invoked m.second.invoked right met.0) in
     record {
       swaps = swaps program src step i j store x y m.sorted m.first.invoked m.second.invoked met.1 met.2 clash;
-      keeps = λ after outs gx gy fires_so. not-false (gate_of program after y) (on_made (fires_of program store x) (λ a. not (gate_of program a.0 y)) after outs fires_so (so (gate_of program store y) _ gy (so (gate_of program store x) _ gx spoil)));
+      keeps = λ after outs gx gy fires_so. not-false (gate_of program after y) (on_made (fires_of program store x) (λ a. not (gate_of program a.0 y)) after outs fires_so (not_second (gate_of program store y) _ gy (not_second (gate_of program store x) _ gx spoil)));
     }
 
 pub left_movers_move : LeftMoversMove
@@ -163,13 +160,13 @@ left_movers_move program layer store x y src h m left =
     let step = meeting x.action y.action + 1 in
     let i = m.first.number in
     let j = m.second.number in
-    let clash = so (apart program store x y) (clashes program step store y x) m.disjoint (h.left_swaps step i j store x y met.3 m.sorted m.first.invoked m.second.invoked left met.0) in
-    let spoil = so (apart program store x y) (spoils program store y x) m.disjoint (h.left_kept step i j store x y met.3 m.sorted m.first.invoked m.second.invoked left met.0) in
-    let reveal = so (apart program store x y) (reveals program store x y) m.disjoint (h.left_breaks step i j store x y met.3 m.sorted m.first.invoked m.second.invoked left met.0) in
+    let clash = not_second (apart program store x y) (clashes program step store y x) m.disjoint (h.left_swaps step i j store x y met.3 m.sorted m.first.invoked m.second.invoked left met.0) in
+    let spoil = not_second (apart program store x y) (spoils program store y x) m.disjoint (h.left_kept step i j store x y met.3 m.sorted m.first.invoked m.second.invoked left met.0) in
+    let reveal = not_second (apart program store x y) (reveals program store x y) m.disjoint (h.left_breaks step i j store x y met.3 m.sorted m.first.invoked m.second.invoked left met.0) in
     record {
       swaps = swaps program src step j i store y x m.sorted m.second.invoked m.first.invoked met.2 met.1 clash;
-      kept = λ after outs gy gx fires_so. not-false (gate_of program after x) (on_made (fires_of program store y) (λ a. not (gate_of program a.0 x)) after outs fires_so (so (gate_of program store x) _ gx (so (gate_of program store y) _ gy spoil)));
-      breaks = λ after outs gx gy fires_so. on_made (fires_of program store x) (λ a. gate_of program a.0 y) after outs fires_so (so (not (gate_of program store y)) _ (ap not gy) (so (gate_of program store x) _ gx reveal));
+      kept = λ after outs gy gx fires_so. not-false (gate_of program after x) (on_made (fires_of program store y) (λ a. not (gate_of program a.0 x)) after outs fires_so (not_second (gate_of program store x) _ gx (not_second (gate_of program store y) _ gy spoil)));
+      breaks = λ after outs gx gy fires_so. on_made (fires_of program store x) (λ a. gate_of program a.0 y) after outs fires_so (not_second (not (gate_of program store y)) _ (ap not gy) (not_second (gate_of program store x) _ gx reveal));
     }
 
 pub left_movers_fire : LeftMoversFire
@@ -177,9 +174,9 @@ unfolding fires
 left_movers_fire program layer store x src h fit at left gate =
     let i = at.invoked in
     let number = at.number in
-    let low : x.action.first ≤ layer = leb-true x.action.first layer (and_cases (nat_le x.action.first layer) (nat_le layer x.action.last) at.exists).0 in
+    let low : x.action.first ≤ layer = leb-true x.action.first layer (and_parts (nat_le x.action.first layer) (nat_le layer x.action.last) at.exists).0 in
     let wait = h.left_fires (x.action.first + 1) number store x (omega (arith, low)) fit i left (eq-eqb (x.action.first + 1) (x.action.first + 1) refl) in
-    let open_so : guard_holds program.globals store x.action x.inputs (offers program.globals store x.action x.inputs) ≡ true = not-false _ (so (gate_of program store x) _ gate wait) in
+    let open_so : guard_holds program.globals store x.action x.inputs (offers program.globals store x.action x.inputs) ≡ true = not-false _ (not_second (gate_of program store x) _ gate wait) in
     let sorted = offers_are_sorted program x.action store x.inputs (record { rules = src.rules; place = number; there = i.action; store_fits = fit; inputs_fit = i.inputs }) in (
       sorted.are,
       store_after program.globals store x.action x.inputs (offers program.globals store x.action x.inputs),

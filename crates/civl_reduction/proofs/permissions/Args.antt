@@ -2,7 +2,7 @@
 use Rattle.std.proofs.Common.{◌≡◌, ℕ, zero, suc, ◌+◌, ◌≤◌, Bool, true, false, not, ◌&&◌, List, [], ◌∷◌, ◌++◌, length, refl, sym, ap, ap₂, ◌∙◌, arith, Some, slice_index_or, add-one, inl, inr, ◌⊎◌}
 use Rattle.std.specs.Prelude.{if◌then◌else◌}
 use Rattle.std.specs.List.{list_all, list_any, flat_map}
-use Rattle.std.proofs.lemmas.Bool.{false≢true, or_parts, not-false}
+use Rattle.std.proofs.lemmas.Bool.{false≢true, or_parts, not-false, or_left, or_right, or_cases, and_parts, and_from, both_ways}
 use Rattle.civl_bits.specs.declared.value.Value.{Value}
 use Rattle.civl_firing.specs.values.Operators.{nothing}
 use Rattle.civl_tree.specs.declared.name.Name.{Name}
@@ -17,6 +17,7 @@ use Rattle.civl_tree.specs.declared.program.Proc.{Proc}
 use Rattle.civl_tree.specs.rules.Names.{same_name, has_name, global_names, names_in_proc}
 use Rattle.civl_tree.specs.rules.Width.{is_linear}
 use Rattle.civl_tree.specs.SpellingDomain.{is_param_mode, allows_name, allows_param}
+use Rattle.civl_tree.proofs.Naming.{has_first, has_second}
 use Rattle.civl_firing.specs.declared.scope.Scope.{Scope}
 use Rattle.civl_firing.specs.Truth.{place_of}
 use Rattle.civl_firing.specs.Eval.{look, value_step, value_of, values_of}
@@ -27,7 +28,7 @@ use Rattle.civl_linear.specs.Held.{holds, without_names}
 use Rattle.civl_linear.specs.Places.{may_pass, is_held_name, not_held}
 use Rattle.civl_conditions.specs.Permissions.{of_modes}
 use Rattle.civl_reduction.proofs.permissions.Counting.{carriers}
-use Rattle.civl_reduction.proofs.permissions.Flags.{IsWithin, true_false, or_first, or_second, or_cases, and_cases, both_true, same_back, holds_has, under}
+use Rattle.civl_reduction.proofs.permissions.Flags.{IsWithin, same_back, holds_has, under}
 
 -- ---- the value of a name
 
@@ -42,7 +43,7 @@ look_front (n ∷ ns) more (v ∷ vs) ws x e h = go (same_name n x) refl (look_f
     go true q ih = refl
     go false q ih =
         rw (add-one (place_of (ns ++ more) x), add-one (place_of ns x))
-        (ih (elim (or_cases (same_name x n) (has_name ns x) h) [ inl k ↦ absurd (true_false (same_name n x) (same_back x n k) q) | inr k ↦ k ]))
+        (ih (elim (or_cases (same_name x n) (has_name ns x) h) [ inl k ↦ absurd (both_ways (same_name n x) q (same_back x n k)) | inr k ↦ k ]))
 
 -- an expression that is a plain name
 named_value : (scope : Scope) (e : Expr) (x : Name) (others : List Name) → plain_name e ≡ x ∷ others → (value_of scope e ≡ look scope.names scope.values x) × (others ≡ [])
@@ -89,7 +90,7 @@ held_one proc f e h = go (plain_name e) refl (not-false (is_held_name proc (name
     go [] q k = absurd (false≢true k)
     go (x ∷ others) q k =
         let none = (named_value nowhere e x others q).1 in
-        (x, q ∙ ap (λ (r : List Name). x ∷ r) none, (and_cases (may_pass proc x) (holds (names_in_proc proc) f x) k).1)
+        (x, q ∙ ap (λ (r : List Name). x ∷ r) none, (and_parts (may_pass proc x) (holds (names_in_proc proc) f x) k).1)
 
 module _ (globals : List Global) (proc : Proc) (locals : List Value) (same : length locals ≡ length (names_in_proc proc)) where
   abbrev names : List Name
@@ -138,24 +139,16 @@ args_held proc f (p ∷ ps) (e ∷ es) h = go (is_passed p.mode) h (args_held pr
         let a = or_parts (not_held proc (names_in_proc proc) f e) (list_any (not_held proc (names_in_proc proc) f) (at_modes is_passed ps es)) k in
         let one = held_one proc f e a.0 in
         ap (λ (l : List Name). list_all (holds (names_in_proc proc) f) (l ++ flat_map plain_name (at_modes is_passed ps es))) one.1
-        ∙ both_true (holds (names_in_proc proc) f one.0) _ one.2 (ih a.1)
+        ∙ and_from (holds (names_in_proc proc) f one.0) _ one.2 (ih a.1)
 
 -- ---- what isn't taken out
 
 has_front : (xs ys : List Name) (n : Name) → has_name (xs ++ ys) n ≡ true → (has_name xs n ≡ true) ⊎ (has_name ys n ≡ true)
 has_front [] ys n h = inr h
 has_front (x ∷ xs) ys n h = elim (or_cases (same_name n x) (has_name (xs ++ ys) n) h) [
-  | inl e ↦ inl (or_first (same_name n x) (has_name xs n) e)
-  | inr e ↦ elim (has_front xs ys n e) [ inl q ↦ inl (or_second (same_name n x) (has_name xs n) q) | inr q ↦ inr q ]
+  | inl e ↦ inl (or_left (same_name n x) (has_name xs n) e)
+  | inr e ↦ elim (has_front xs ys n e) [ inl q ↦ inl (or_right (same_name n x) (has_name xs n) q) | inr q ↦ inr q ]
 ]
-
-in_first : (xs ys : List Name) (n : Name) → has_name xs n ≡ true → has_name (xs ++ ys) n ≡ true
-in_first [] ys n h = absurd (false≢true h)
-in_first (x ∷ xs) ys n h = elim (or_cases (same_name n x) (has_name xs n) h) [ inl e ↦ or_first _ _ e | inr e ↦ or_second (same_name n x) _ (in_first xs ys n e) ]
-
-in_second : (xs ys : List Name) (n : Name) → has_name ys n ≡ true → has_name (xs ++ ys) n ≡ true
-in_second [] ys n h = h
-in_second (x ∷ xs) ys n h = or_second (same_name n x) _ (in_second xs ys n h)
 
 abbrev Cases : List Param → Expr → List Expr → Name → Bool → Bool → Type 0
 Cases ps e es n b c = (has_name (flat_map plain_name ((if b then e ∷ [] else []) ++ at_modes is_lent ps es)) n ≡ true) ⊎ (has_name (flat_map plain_name ((if c then e ∷ [] else []) ++ at_modes is_taken ps es)) n ≡ true)
@@ -171,12 +164,12 @@ passed_cases (p ∷ ps) (e ∷ es) n h = go p.mode h (passed_cases ps es n)
     go Val k ih = ih k
     go Give k ih = ih k
     go Lend k ih = elim (has_front (plain_name e) (passed_names is_passed ps es) n k) [
-      | inl q ↦ inl (in_first (plain_name e) (passed_names is_lent ps es) n q)
-      | inr q ↦ elim (ih q) [ inl r ↦ inl (in_second (plain_name e) (passed_names is_lent ps es) n r) | inr r ↦ inr r ]
+      | inl q ↦ inl (has_first (plain_name e) (passed_names is_lent ps es) n q)
+      | inr q ↦ elim (ih q) [ inl r ↦ inl (has_second (plain_name e) (passed_names is_lent ps es) n r) | inr r ↦ inr r ]
     ]
     go Take k ih = elim (has_front (plain_name e) (passed_names is_passed ps es) n k) [
-      | inl q ↦ inr (in_first (plain_name e) (passed_names is_taken ps es) n q)
-      | inr q ↦ elim (ih q) [ inl r ↦ inl r | inr r ↦ inr (in_second (plain_name e) (passed_names is_taken ps es) n r) ]
+      | inl q ↦ inr (has_first (plain_name e) (passed_names is_taken ps es) n q)
+      | inr q ↦ elim (ih q) [ inl r ↦ inl r | inr r ↦ inr (has_second (plain_name e) (passed_names is_taken ps es) n r) ]
     ]
 
 without_two : (one two both names : List Name) (f : List Bool) → ((n : Name) → has_name both n ≡ true → (has_name one n ≡ true) ⊎ (has_name two n ≡ true)) → IsWithin (without_names one names (without_names two names f)) (without_names both names f)
@@ -203,8 +196,8 @@ pub params_passed : (ps : List Param) (vs : List Value) → list_all allows_para
 params_passed [] vs h = refl
 params_passed (p ∷ ps) [] h = refl
 params_passed (p ∷ ps) (v ∷ vs) h =
-    let a = and_cases (allows_param p) (list_all allows_param ps) h in
-    ap₂ (λ (b : Bool) (r : List (List ℕ)). (if b then permissions_of_word v ∷ [] else []) ++ r) (by_mode p.mode (and_cases (is_param_mode p.mode) (allows_name p.name) a.0).0) (params_passed ps vs a.1)
+    let a = and_parts (allows_param p) (list_all allows_param ps) h in
+    ap₂ (λ (b : Bool) (r : List (List ℕ)). (if b then permissions_of_word v ∷ [] else []) ++ r) (by_mode p.mode (and_parts (is_param_mode p.mode) (allows_name p.name) a.0).0) (params_passed ps vs a.1)
   where
     by_mode : (m : Mode) → is_param_mode m ≡ true → is_linear m ≡ is_passed m
     by_mode Val e = refl

@@ -159,7 +159,7 @@ module _ (program : Program) (src : IsLayered program) (layer : ℕ) (within : l
 -- ---- two threads
 
 -- what two threads own
-two_own : (program : Program) (threads : List Running) (t u : ℕ) (one other : Running) → t ≢ u → slice_get threads t ≡ Some one → slice_get threads u ≡ Some other → (p : ℕ) → owns program one one.state p + owns program other other.state p ≤ all_own program threads p
+pub two_own : (program : Program) (threads : List Running) (t u : ℕ) (one other : Running) → t ≢ u → slice_get threads t ≡ Some one → slice_get threads u ≡ Some other → (p : ℕ) → owns program one one.state p + owns program other other.state p ≤ all_own program threads p
 two_own program [] t u one other n e f p = absurd (none-some one e)
 two_own program (r ∷ rs) zero zero one other n e f p = absurd (n refl)
 two_own program (r ∷ rs) zero (suc u) one other n e f p =

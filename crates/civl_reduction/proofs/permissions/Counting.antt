@@ -1,9 +1,9 @@
 -- Carriers of permissions are pairwise disjoint exactly where each permission is in at most one of them; so a step that hands
 -- out no more than it took in keeps them so.
-use Rattle.std.proofs.Common.{◌≡◌, ℕ, zero, suc, ◌+◌, ◌<◌, ◌≤◌, Bool, true, false, not, ◌||◌, List, [], ◌∷◌, ◌++◌, refl, ap, ◌∙◌, arith, inl, inr, ◌⊎◌}
-use Rattle.std.specs.Prelude.{nat_eq, ◌&&◌}
+use Rattle.std.proofs.Common.{◌≡◌, ℕ, zero, suc, ◌+◌, ◌<◌, ◌≤◌, Bool, true, false, not, List, [], ◌∷◌, ◌++◌, refl, ap, ◌∙◌, arith, inl, inr}
+use Rattle.std.specs.Prelude.{nat_eq}
 use Rattle.std.specs.List.{list_all, list_any}
-use Rattle.std.proofs.lemmas.Bool.{eqb-true, eq-eqb}
+use Rattle.std.proofs.lemmas.Bool.{eqb-true, eq-eqb, and_parts, and_from, or_cases, or_right, or_left, both_ways}
 use Rattle.civl_meaning.specs.Permissions.{disjoint, pairwise_disjoint}
 
 abbrev pub has : ℕ → List ℕ → Bool
@@ -18,55 +18,32 @@ abbrev pub carriers : ℕ → List (List ℕ) → ℕ
 carriers p [] = 0
 carriers p (ps ∷ rest) = one_if (has p ps) + carriers p rest
 
-true_false : (b : Bool) → b ≡ true → b ≡ false → ⊥
-true_false b e f = cc
-
-both_true : (a b : Bool) → (a && b) ≡ true → (a ≡ true) × (b ≡ true)
-both_true true b e = (refl, e)
-both_true false b e = absurd cc
-
-and_true : (a b : Bool) → a ≡ true → b ≡ true → (a && b) ≡ true
-and_true true b e f = f
-and_true false b e f = absurd cc
-
-or_cases : (a b : Bool) → (a || b) ≡ true → (a ≡ true) ⊎ (b ≡ true)
-or_cases true b e = inl refl
-or_cases false b e = inr e
-
 pub all_at : (f : ℕ → Bool) (ps : List ℕ) (p : ℕ) → list_all f ps ≡ true → has p ps ≡ true → f p ≡ true
 all_at f [] p e h = absurd cc
 all_at f (q ∷ qs) p e h =
-    let a = both_true (f q) (list_all f qs) e in
+    let a = and_parts (f q) (list_all f qs) e in
     elim (or_cases (nat_eq p q) (has p qs) h) [ inl g ↦ ap f (eqb-true p q g) ∙ a.0 | inr g ↦ all_at f qs p a.1 g ]
-
-or_second : (a b : Bool) → b ≡ true → (a || b) ≡ true
-or_second true b e = refl
-or_second false b e = e
-
-or_first : (a b : Bool) → a ≡ true → (a || b) ≡ true
-or_first true b e = refl
-or_first false b e = absurd cc
 
 all_by : (f : ℕ → Bool) (ps : List ℕ) → ((p : ℕ) → has p ps ≡ true → f p ≡ true) → list_all f ps ≡ true
 all_by f [] h = refl
-all_by f (q ∷ qs) h = and_true (f q) (list_all f qs) (h q (or_first (nat_eq q q) (has q qs) (eq-eqb q q refl))) (all_by f qs (λ p g. h p (or_second (nat_eq p q) (has p qs) g)))
+all_by f (q ∷ qs) h = and_from (f q) (list_all f qs) (h q (or_left (nat_eq q q) (has q qs) (eq-eqb q q refl))) (all_by f qs (λ p g. h p (or_right (nat_eq p q) (has p qs) g)))
 
 -- ---- one carrier and others
 
 apart_one : (p : ℕ) (ps : List ℕ) (rest : List (List ℕ)) → list_all (disjoint ps) rest ≡ true → has p ps ≡ true → carriers p rest ≡ 0
 apart_one p ps [] e h = refl
 apart_one p ps (qs ∷ rest) e h =
-    let a = both_true (disjoint ps qs) (list_all (disjoint ps) rest) e in
+    let a = and_parts (disjoint ps qs) (list_all (disjoint ps) rest) e in
     let n : not (has p qs) ≡ true = all_at (λ q. not (has q qs)) ps p a.0 h in
     go (has p qs) refl n (apart_one p ps rest a.1 h)
   where
     go : (b : Bool) → has p qs ≡ b → not (has p qs) ≡ true → carriers p rest ≡ 0 → one_if (has p qs) + carriers p rest ≡ 0
-    go true i n k = absurd (true_false (not (has p qs)) n (ap not i))
+    go true i n k = absurd (both_ways (not (has p qs)) (ap not i) n)
     go false i n k = let z = ap one_if i in omega (arith, z, k)
 
 one_apart : (ps : List ℕ) (rest : List (List ℕ)) → ((p : ℕ) → has p ps ≡ true → carriers p rest ≡ 0) → list_all (disjoint ps) rest ≡ true
 one_apart ps [] h = refl
-one_apart ps (qs ∷ rest) h = and_true (disjoint ps qs) (list_all (disjoint ps) rest) (all_by (λ q. not (has q qs)) ps (λ p g. first p (has p qs) refl (h p g))) (one_apart ps rest (λ p g. let z = h p g in omega (arith, z)))
+one_apart ps (qs ∷ rest) h = and_from (disjoint ps qs) (list_all (disjoint ps) rest) (all_by (λ q. not (has q qs)) ps (λ p g. first p (has p qs) refl (h p g))) (one_apart ps rest (λ p g. let z = h p g in omega (arith, z)))
   where
     first : (p : ℕ) (b : Bool) → has p qs ≡ b → one_if (has p qs) + carriers p rest ≡ 0 → not (has p qs) ≡ true
     first p true i z = let w = ap one_if i in absurd (omega (arith, w, z))
@@ -79,7 +56,7 @@ counts_of [] e p = omega arith
 counts_of (ps ∷ rest) e p = go (has p ps) refl (counts_of rest a.1 p)
   where
     a : (list_all (disjoint ps) rest ≡ true) × (pairwise_disjoint rest ≡ true)
-    a = both_true (list_all (disjoint ps) rest) (pairwise_disjoint rest) e
+    a = and_parts (list_all (disjoint ps) rest) (pairwise_disjoint rest) e
 
     go : (b : Bool) → has p ps ≡ b → carriers p rest ≤ 1 → one_if (has p ps) + carriers p rest ≤ 1
     go true i k = let z = apart_one p ps rest a.0 i in let w = ap one_if i in omega (arith, z, w)
@@ -88,7 +65,7 @@ counts_of (ps ∷ rest) e p = go (has p ps) refl (counts_of rest a.1 p)
 pub disjoint_by : (items : List (List ℕ)) → ((p : ℕ) → carriers p items ≤ 1) → pairwise_disjoint items ≡ true
 disjoint_by [] h = refl
 disjoint_by (ps ∷ rest) h =
-    and_true (list_all (disjoint ps) rest) (pairwise_disjoint rest)
+    and_from (list_all (disjoint ps) rest) (pairwise_disjoint rest)
     (one_apart ps rest (λ p g. let w = ap one_if g in let z = h p in omega (arith, w, z)))
     (disjoint_by rest (λ p. let z = h p in omega (arith, z)))
 

@@ -1,14 +1,14 @@
 -- Flags for the names of a procedure: the permissions of the values that have them, when names are taken out of them and
 -- put in.
-use Rattle.std.proofs.Common.{◌≡◌, ℕ, zero, suc, ◌+◌, ◌≤◌, Bool, true, false, not, ◌&&◌, ◌||◌, List, [], ◌∷◌, length, map, refl, sym, ap, ◌∙◌, subst, arith, Some, slice_get, slice_index_or, add-one, inl, inr, ◌⊎◌}
+use Rattle.std.proofs.Common.{◌≡◌, ℕ, zero, suc, ◌+◌, ◌≤◌, Bool, true, false, not, ◌&&◌, ◌||◌, List, [], ◌∷◌, length, map, refl, sym, ◌∙◌, subst, arith, Some, slice_get, slice_index_or, add-one, inl, inr, ◌⊎◌}
 use Rattle.std.specs.Prelude.{if◌then◌else◌}
 use Rattle.std.specs.List.{list_all}
-use Rattle.std.proofs.lemmas.Bool.{false≢true, or_parts}
-use Rattle.std.proofs.lemmas.Slice.Eq.{bytes_eq-Decides}
+use Rattle.std.proofs.lemmas.Bool.{false≢true, or_parts, or_left, or_right, or_cases, and_parts, and_from, false_from_ne_true, both_ways}
 use Rattle.civl_bits.specs.declared.value.Value.{Value}
 use Rattle.civl_firing.specs.values.Operators.{nothing}
 use Rattle.civl_tree.specs.declared.name.Name.{Name}
 use Rattle.civl_tree.specs.rules.Names.{same_name, has_name, any_twice}
+use Rattle.civl_tree.proofs.Naming.{same_is, is_same}
 use Rattle.civl_firing.specs.Truth.{place_of}
 use Rattle.civl_firing.specs.Eval.{look}
 use Rattle.civl_meaning.specs.Permissions.{permissions_of_word}
@@ -86,42 +86,6 @@ within_less p (b ∷ f) (c ∷ g) (v ∷ vs) h = go b c h (within_less p f g vs 
 
 -- ---- names
 
-abbrev named : List ℕ → Name
-named bytes = record { bytes = bytes }
-
-pub same_is : (a b : Name) → same_name a b ≡ true → a ≡ b
-same_is a b e = ap named ((bytes_eq-Decides a.bytes b.bytes).0 e)
-
-pub is_same : (a b : Name) → a ≡ b → same_name a b ≡ true
-is_same a b e = (bytes_eq-Decides a.bytes b.bytes).1 (ap (λ (n : Name). n.bytes) e)
-
-pub or_first : (a b : Bool) → a ≡ true → (a || b) ≡ true
-or_first true b e = refl
-or_first false b e = absurd (false≢true e)
-
-pub or_second : (a b : Bool) → b ≡ true → (a || b) ≡ true
-or_second true b e = refl
-or_second false b e = e
-
-pub or_cases : (a b : Bool) → (a || b) ≡ true → (a ≡ true) ⊎ (b ≡ true)
-or_cases true b e = inl refl
-or_cases false b e = inr e
-
-pub and_cases : (a b : Bool) → (a && b) ≡ true → (a ≡ true) × (b ≡ true)
-and_cases true b e = (refl, e)
-and_cases false b e = absurd (false≢true e)
-
-pub both_true : (a b : Bool) → a ≡ true → b ≡ true → (a && b) ≡ true
-both_true true b e h = h
-both_true false b e h = absurd (false≢true e)
-
-pub true_false : (b : Bool) → b ≡ true → b ≡ false → ⊥
-true_false b e f = false≢true (sym f ∙ e)
-
-pub untrue : (b : Bool) → (b ≡ true → ⊥) → b ≡ false
-untrue true f = absurd (f refl)
-untrue false f = refl
-
 -- a name that is one of these, by any name that is the same
 pub has_same : (names : List Name) (a b : Name) → same_name a b ≡ true → has_name names a ≡ true → has_name names b ≡ true
 has_same names a b e h = subst (λ (n : Name). has_name names n ≡ true) (same_is a b e) h
@@ -136,8 +100,8 @@ holds_has (n ∷ ns) [] x h = absurd (false≢true h)
 holds_has (n ∷ ns) (b ∷ f) x h = go (holds_has ns f x) (or_cases (b && same_name n x) (holds ns f x) h)
   where
     go : (holds ns f x ≡ true → has_name ns x ≡ true) → ((b && same_name n x) ≡ true) ⊎ (holds ns f x ≡ true) → (same_name x n || has_name ns x) ≡ true
-    go ih (inl e) = or_first (same_name x n) (has_name ns x) (same_back n x (and_cases b (same_name n x) e).1)
-    go ih (inr e) = or_second (same_name x n) (has_name ns x) (ih e)
+    go ih (inl e) = or_left (same_name x n) (has_name ns x) (same_back n x (and_parts b (same_name n x) e).1)
+    go ih (inr e) = or_right (same_name x n) (has_name ns x) (ih e)
 
 pub holds_within : (names : List Name) (f g : List Bool) (x : Name) → IsWithin f g → holds names f x ≡ true → holds names g x ≡ true
 holds_within [] f g x w h = absurd (false≢true h)
@@ -154,9 +118,9 @@ holds_within (n ∷ ns) (b ∷ f) [] x w h = go b w (holds_within ns f [] x (λ 
 holds_within (n ∷ ns) (b ∷ f) (c ∷ g) x w h = go b c w (holds_within ns f g x (λ i e. w (suc i) e)) h
   where
     go : (b c : Bool) → IsWithin (b ∷ f) (c ∷ g) → (holds ns f x ≡ true → holds ns g x ≡ true) → ((b && same_name n x) || holds ns f x) ≡ true → ((c && same_name n x) || holds ns g x) ≡ true
-    go true true k ih e = elim (or_cases (same_name n x) (holds ns f x) e) [ inl q ↦ or_first _ _ q | inr q ↦ or_second (same_name n x) _ (ih q) ]
+    go true true k ih e = elim (or_cases (same_name n x) (holds ns f x) e) [ inl q ↦ or_left _ _ q | inr q ↦ or_right (same_name n x) _ (ih q) ]
     go true false k ih e = absurd (let q = k 0 refl in cc)
-    go false c k ih e = or_second (c && same_name n x) (holds ns g x) (ih e)
+    go false c k ih e = or_right (c && same_name n x) (holds ns g x) (ih e)
 
 -- ---- taking names out
 
@@ -179,7 +143,7 @@ without_more gone more (n ∷ ns) (b ∷ f) (c ∷ g) h w zero e = go b (has_nam
   where
     go : (b x y : Bool) → has_name gone n ≡ x → has_name more n ≡ y → IsWithin (b ∷ f) (c ∷ g) → ◌≡◌ {A = _} (Some (b && not y)) (Some true) → ◌≡◌ {A = _} (Some (c && not x)) (Some true)
     go true false false p q k j = let r = k 0 refl in cc
-    go true true false p q k j = absurd (true_false (has_name more n) (h n p) q)
+    go true true false p q k j = absurd (both_ways (has_name more n) q (h n p))
     go true x true p q k j = absurd cc
     go false x y p q k j = absurd cc
 without_more gone more (n ∷ ns) (b ∷ f) (c ∷ g) h w (suc i) e = without_more gone more ns f g h (λ j k. w (suc j) k) i e
@@ -204,10 +168,10 @@ holds_still x y (n ∷ ns) [] d h = absurd (false≢true h)
 holds_still x y (n ∷ ns) (b ∷ f) d h = go b (same_name n y) refl (same_name n x) refl (holds_still x y ns f d) h
   where
     go : (b c : Bool) → same_name n y ≡ c → (e : Bool) → same_name n x ≡ e → (holds ns f y ≡ true → holds ns (without_names (x ∷ []) ns f) y ≡ true) → ((b && c) || holds ns f y) ≡ true → (((b && not (e || false)) && c) || holds ns (without_names (x ∷ []) ns f) y) ≡ true
-    go true true p true q ih k = absurd (true_false (same_name y x) (is_same y x (sym (same_is n y p) ∙ same_is n x q)) d)
+    go true true p true q ih k = absurd (both_ways (same_name y x) d (is_same y x (sym (same_is n y p) ∙ same_is n x q)))
     go true true p false q ih k = refl
-    go true false p e q ih k = or_second ((true && not (e || false)) && false) _ (ih k)
-    go false c p e q ih k = or_second ((false && not (e || false)) && c) _ (ih k)
+    go true false p e q ih k = or_right ((true && not (e || false)) && false) _ (ih k)
+    go false c p e q ih k = or_right ((false && not (e || false)) && c) _ (ih k)
 
 -- what one name takes with it
 one_out : (p : ℕ) (names : List Name) (x : Name) (f : List Bool) (vs : List Value) → any_twice names ≡ false → holds names f x ≡ true
@@ -225,7 +189,7 @@ one_out p (n ∷ ns) x (b ∷ f) (v ∷ vs) t h = go b (same_name n x) refl (one
         → ((b && c) || holds ns f x) ≡ true
         → amount p ((b && not (c || false)) ∷ without_names (x ∷ []) ns f) (v ∷ vs) + one_if (has p (permissions_of_word (slice_index_or (v ∷ vs) (if c then 0 else place + 1) nothing))) ≤ amount p (b ∷ f) (v ∷ vs)
     go true true e ih k = let r = within_less p (without_names (x ∷ []) ns f) f vs (without_within (x ∷ []) ns f) in omega (arith, r)
-    go false true e ih k = absurd (true_false (has_name ns n) (has_same ns x n (same_back n x e) (holds_has ns f x k)) (or_parts (has_name ns n) (any_twice ns) t).0)
+    go false true e ih k = absurd (both_ways (has_name ns n) (or_parts (has_name ns n) (any_twice ns) t).0 (has_same ns x n (same_back n x e) (holds_has ns f x k)))
     go true false e ih k = rw (add-one place) (let r = ih k in omega (arith, r))
     go false false e ih k = rw (add-one place) (let r = ih k in omega (arith, r))
 
@@ -237,15 +201,15 @@ still_all : (x : Name) (xs names : List Name) (f : List Bool) → has_name xs x 
 still_all x [] names f n h = refl
 still_all x (y ∷ xs) names f n h =
     let a = or_parts (same_name x y) (has_name xs x) n in
-    let b = and_cases (holds names f y) (list_all (holds names f) xs) h in
-    both_true _ _ (holds_still x y names f (untrue (same_name y x) (λ e. true_false (same_name x y) (same_back y x e) a.0)) b.0) (still_all x xs names f a.1 b.1)
+    let b = and_parts (holds names f y) (list_all (holds names f) xs) h in
+    and_from _ _ (holds_still x y names f (false_from_ne_true (same_name y x) (λ e. both_ways (same_name x y) a.0 (same_back y x e))) b.0) (still_all x xs names f a.1 b.1)
 
 -- what names that are held, none twice, take with them
 pub all_out : (p : ℕ) (names : List Name) (vs : List Value) → any_twice names ≡ false → (xs : List Name) (f : List Bool) → any_twice xs ≡ false → list_all (holds names f) xs ≡ true
     → amount p (without_names xs names f) vs + carriers p (under names vs xs) ≤ amount p f vs
 all_out p names vs t [] f u h = let r = within_less p (without_names [] names f) f vs (without_within [] names f) in omega (arith, r)
 all_out p names vs t (x ∷ xs) f u h =
-    let a = and_cases (holds names f x) (list_all (holds names f) xs) h in
+    let a = and_parts (holds names f x) (list_all (holds names f) xs) h in
     let b = or_parts (has_name xs x) (any_twice xs) u in
     let rest = all_out p names vs t xs (without_names (x ∷ []) names f) b.1 (still_all x xs names f b.0 a.1) in
     let one = one_out p names x f vs t a.0 in

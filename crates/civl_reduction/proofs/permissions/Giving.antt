@@ -2,7 +2,7 @@
 use Rattle.std.proofs.Common.{◌≡◌, ℕ, ◌<◌, Bool, true, false, not, ◌&&◌, ◌||◌, List, [], ◌∷◌, ◌++◌, length, map, refl, sym, ap, ◌∙◌, subst, arith, Option, None, Some, inl, inr}
 use Rattle.std.specs.Prelude.{nat_eq, flat_map, slice_set, if◌then◌else◌}
 use Rattle.std.specs.List.{list_any}
-use Rattle.std.proofs.lemmas.Bool.{false≢true, not-false}
+use Rattle.std.proofs.lemmas.Bool.{false≢true, not-false, or_cases, and_parts}
 use Rattle.std.proofs.lemmas.List.{length-set, length-map}
 use Rattle.std.proofs.lemmas.List.Folds.{list_any-append}
 use Rattle.std.proofs.lemmas.Option.{same_Some}
@@ -25,7 +25,6 @@ use Rattle.civl_conditions.specs.Permissions.{of_modes, included}
 use Rattle.civl_conditions.specs.Movers.{on_some}
 use Rattle.civl_reduction.specs.permissions.Stay.{KeepsPermissions}
 use Rattle.civl_reduction.proofs.permissions.Counting.{has, one_if, carriers, all_at}
-use Rattle.civl_reduction.proofs.permissions.Flags.{and_cases, or_cases}
 
 -- ---- what carries a permission, and the list of all permissions
 
@@ -74,7 +73,7 @@ gives program action store after inputs chosen outs keeps fit ins ch gate fired 
     let none = not_lost _ _ _ apart gate all in
     let kept : not (pairwise_disjoint (outgoing program after action inputs outs) && included (outgoing program after action inputs outs) (incoming program store action inputs)) ≡ false =
     subst (λ (o : Option (Store × List Value)). on_some o (λ a. not (pairwise_disjoint (outgoing program a.0 action inputs a.1) && included (outgoing program a.0 action inputs a.1) (incoming program store action inputs))) ≡ false) fired none in
-    let parts = and_cases (pairwise_disjoint (outgoing program after action inputs outs)) _ (not-false _ kept) in
+    let parts = and_parts (pairwise_disjoint (outgoing program after action inputs outs)) _ (not-false _ kept) in
     (parts.0, included_carries (outgoing program after action inputs outs) (incoming program store action inputs) parts.1)
 
 -- ---- how many outputs there are

@@ -1,9 +1,9 @@
 -- The actions before whose calls threads stand exist in the layer of their program.
-use Rattle.std.proofs.Common.{◌≡◌, ℕ, zero, suc, ◌≤◌, Bool, true, false, ◌&&◌, ◌||◌, List, [], ◌∷◌, map, refl, sym, ap, ◌∙◌, subst, arith, Option, None, Some, slice_get, inl, inr, ◌⊎◌}
+use Rattle.std.proofs.Common.{◌≡◌, ℕ, ◌≤◌, true, false, ◌&&◌, List, refl, sym, ap, ◌∙◌, subst, arith, Option, None, Some, slice_get, inl, inr, ◌⊎◌}
 use Rattle.std.specs.Prelude.{nat_eq, nat_le, nat_lt, IsTrue}
 use Rattle.std.specs.List.{list_any}
-use Rattle.std.proofs.lemmas.Bool.{false≢true, not-false, leb-true, le-leb, ltb-true, ltb-false, eqb-true}
-use Rattle.std.proofs.lemmas.Option.{same_Some, none-some}
+use Rattle.std.proofs.lemmas.Bool.{false≢true, not-false, leb-true, le-leb, ltb-true, ltb-false, eqb-true, or_cases, and_parts, and_from}
+use Rattle.std.proofs.lemmas.Option.{same_Some}
 use Rattle.civl_tree.specs.declared.name.Name.{Name}
 use Rattle.civl_tree.specs.declared.expr.Expr.{Expr}
 use Rattle.civl_tree.specs.declared.action.Action.{Action}
@@ -16,18 +16,19 @@ use Rattle.civl_tree.specs.declared.program.Thread.{Thread}
 use Rattle.civl_tree.specs.Numbering.{statement_at, statements_of}
 use Rattle.civl_tree.specs.rules.Names.{action_named, proc_named}
 use Rattle.civl_tree.proofs.Kept.{statement_kept, thread_kept}
+use Rattle.civl_tree.proofs.Lists.{any_place}
 use Rattle.civl_meaning.specs.declared.config.Plain.{Plain}
 use Rattle.civl_meaning.specs.Meaning.{Does, proc_number, meaning_of, meaning_else, called}
 use Rattle.civl_meaning.specs.Layers.{means_body, program_at}
 use Rattle.civl_meaning.specs.Config.{begins_threads, spawns, layer_spawns}
 use Rattle.civl_meaning.proofs.Begun.{proc_is}
+use Rattle.civl_meaning.proofs.Bodies.{bodies_at}
 use Rattle.civl_layers.specs.Ranges.{exists_in, exists_through, life_end}
 use Rattle.civl_layers.specs.Names.{action_range}
 use Rattle.civl_layers.specs.NotThere.{action_missing, refined_missing, run_missing, call_missing, form_missing, stmt_missing, thread_missing}
 use Rattle.civl_layers.specs.LayerRules.{layer_rules, not_there_rule}
 use Rattle.civl_layers.specs.Layered.{IsLayered}
 use Rattle.civl_reduction.specs.permissions.Apart.{SpawnsStandInRoots}
-use Rattle.civl_reduction.proofs.permissions.Flags.{and_cases, or_cases, both_true}
 use Rattle.civl_reduction.proofs.permissions.Meant.{does_by, does_refined}
 
 -- an action that exists from one layer to another exists in those between
@@ -37,27 +38,14 @@ exists_between from to layer action h k e = go (or_cases (nat_lt to from) (nat_l
     go : (nat_lt to from ≡ true) ⊎ ((nat_le action.first from && nat_le to action.last) ≡ true) → exists_in layer (action_range action) ≡ true
     go (inl q) = let l = ltb-true to from q in absurd (omega (arith, h, k, l))
     go (inr q) =
-        let p = and_cases (nat_le action.first from) (nat_le to action.last) q in
+        let p = and_parts (nat_le action.first from) (nat_le to action.last) q in
         let low = leb-true action.first from p.0 in
         let high = leb-true to action.last p.1 in
-        both_true _ _ (le-leb action.first layer (omega (arith, h, low))) (le-leb layer action.last (omega (arith, k, high)))
-
-any_at : {A : Type 0} (p : A → Bool) (xs : List A) → list_any p xs ≡ true → (i : ℕ) × (x : A) × (slice_get xs i ≡ Some x) × (p x ≡ true)
-any_at p [] e = absurd (false≢true e)
-any_at {A = A} p (x ∷ xs) e = go (p x) refl e (λ h. any_at p xs h)
-  where
-    go : (b : Bool) → p x ≡ b → (b || list_any p xs) ≡ true → (list_any p xs ≡ true → (i : ℕ) × (y : A) × (slice_get xs i ≡ Some y) × (p y ≡ true)) → (i : ℕ) × (y : A) × (slice_get (x ∷ xs) i ≡ Some y) × (p y ≡ true)
-    go true h f ih = (0, x, refl, h)
-    go false h f ih = let r = ih f in (suc r.0, r.1, r.2, r.3)
+        and_from _ _ (le-leb action.first layer (omega (arith, h, low))) (le-leb layer action.last (omega (arith, k, high)))
 
 module _ (program : Program) (src : IsLayered program) (layer : ℕ) (within : layer ≤ program.layers) where
   abbrev plain : Plain
   plain = program_at program layer
-
-  bodies_at : (procs : List Proc) (j : ℕ) (proc : Proc) → slice_get procs j ≡ Some proc → slice_get (map (λ p. means_body layer p.refines) procs) j ≡ Some (means_body layer proc.refines)
-  bodies_at [] j proc at = absurd (none-some proc at)
-  bodies_at (p ∷ ps) zero proc at = ap (λ (q : Proc). Some (means_body layer q.refines)) (same_Some p proc at)
-  bodies_at (p ∷ ps) (suc j) proc at = bodies_at ps j proc at
 
   -- ---- the action that a procedure stands for
 
@@ -65,7 +53,7 @@ module _ (program : Program) (src : IsLayered program) (layer : ℕ) (within : l
   stands_for k action e =
       let d = does_by program (slice_get plain.bodies k) k (slice_get program.procs k) action e in
       let r = does_refined program d.0 d.0.refines action d.3 in
-      let body : means_body layer d.0.refines ≡ false = same_Some (means_body layer d.0.refines) false (sym (bodies_at program.procs k d.0 d.1) ∙ d.2) in
+      let body : means_body layer d.0.refines ≡ false = same_Some (means_body layer d.0.refines) false (sym (bodies_at layer program.procs k d.0 d.1) ∙ d.2) in
       let low : nat_lt layer r.0.layer ≡ false = subst (λ (o : Option Refines). means_body layer o ≡ false) r.1 body in
       (d.0, d.1, r.0, r.1, r.2, ltb-false layer r.0.layer low)
 
@@ -82,7 +70,7 @@ module _ (program : Program) (src : IsLayered program) (layer : ℕ) (within : l
 
   -- the body of a procedure that is run in this program lives up to this layer
   body_lives : (n : ℕ) (proc : Proc) → slice_get program.procs n ≡ Some proc → slice_get plain.bodies n ≡ Some true → layer ≤ life_end program proc.refines
-  body_lives n proc at body = go proc.refines (same_Some (means_body layer proc.refines) true (sym (bodies_at program.procs n proc at) ∙ body))
+  body_lives n proc at body = go proc.refines (same_Some (means_body layer proc.refines) true (sym (bodies_at layer program.procs n proc at) ∙ body))
     where
       go : (o : Option Refines) → means_body layer o ≡ true → layer ≤ life_end program o
       go None e = within
@@ -115,13 +103,13 @@ module _ (program : Program) (src : IsLayered program) (layer : ℕ) (within : l
   pub first_exists : SpawnsStandInRoots program → (k : ℕ) (action : Action) → meaning_of plain k ≡ Does action → IsTrue (begins_threads program k) → exists_in layer (action_range action) ≡ true
   first_exists roots k action e begins = elim (or_cases (list_any (λ (t : Thread). nat_eq (proc_number program t.callee) k) program.threads) (list_any (λ (p : Proc). list_any (spawns program k) (statements_of p.body)) program.procs) begins) [
     | inl h ↦
-        let t = any_at (λ (t : Thread). nat_eq (proc_number program t.callee) k) program.threads h in
+        let t = any_place (λ (t : Thread). nat_eq (proc_number program t.callee) k) program.threads h in
         let number : proc_number program t.1.callee ≡ k = eqb-true (proc_number program t.1.callee) k t.3 in
         let missing : thread_missing program t.1 ≡ false = thread_kept layer_rules program src.layers not_there_rule (3, omega arith, refl) t.0 t.1 t.2 in
         run_exists k action e program.layers within (proc_named program t.1.callee) (sym (proc_is program t.1.callee) ∙ ap (slice_get program.procs) number) missing
     | inr h ↦
-        let p = any_at (λ (p : Proc). list_any (spawns program k) (statements_of p.body)) program.procs h in
-        let s = any_at (spawns program k) (statements_of p.1.body) p.3 in
+        let p = any_place (λ (p : Proc). list_any (spawns program k) (statements_of p.body)) program.procs h in
+        let s = any_place (spawns program k) (statements_of p.1.body) p.3 in
         by_form p.0 p.1 p.2 s.0 s.1 s.2 (out-Stmt s.1) refl s.3
   ]
     where

@@ -1,6 +1,5 @@
 -- The parameters of a frame have the values of the arguments of the call in which the frame below it waits.
-use Rattle.std.proofs.Common.{◌≡◌, ℕ, suc, ◌-◌, List, [], ◌∷◌, ◌++◌, take, length, refl, sym, ap, ◌∙◌, subst, arith, Some, slice_get}
-use Rattle.std.proofs.lemmas.Option.{same_Some}
+use Rattle.std.proofs.Common.{◌≡◌, List, [], ◌∷◌, ◌++◌, take, length, refl, sym, ap, ◌∙◌, subst, Some, slice_get}
 use Rattle.civl_tree.specs.declared.name.Name.{Name}
 use Rattle.civl_tree.specs.declared.expr.Expr.{Expr}
 use Rattle.civl_tree.specs.declared.stmt.Stmt.{Stmt, out-Stmt}
@@ -63,12 +62,3 @@ lent_front program (g ∷ gs) f top h =
 pub lent_more : (program : Program) (frames : List Activation) (f top : Activation) → AreLent program frames f → Lends program f top → AreLent program (frames ++ f ∷ []) top
 lent_more program [] f top h l = (l, tt)
 lent_more program (g ∷ gs) f top h l = (subst (Lends program g) (sym (next_front gs f top)) h.0, lent_more program gs f top h.1 l)
-
--- the last of these frames
-pub split_last : (below : List Activation) (f : Activation) → slice_get below (length below - 1) ≡ Some f → take (length below - 1) below ++ f ∷ [] ≡ below
-split_last [] f e = absurd cc
-split_last (g ∷ []) f e = ap (λ (x : Activation). x ∷ []) (sym (same_Some g f e))
-split_last (g ∷ (h ∷ fs)) f e =
-    let n : length (g ∷ (h ∷ fs)) - 1 ≡ suc (length (h ∷ fs) - 1) = omega arith in
-    let q : slice_get (h ∷ fs) (length (h ∷ fs) - 1) ≡ Some f = ap (slice_get (g ∷ (h ∷ fs))) (sym n) ∙ e in
-    ap (λ (k : ℕ). take k (g ∷ (h ∷ fs)) ++ f ∷ []) n ∙ ap (λ (r : List Activation). g ∷ r) (split_last (h ∷ fs) f q)

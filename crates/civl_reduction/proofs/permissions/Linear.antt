@@ -1,7 +1,7 @@
 -- What is held is linear: a lend or take parameter, a give output or a linear local.
 use Rattle.std.proofs.Common.{◌≡◌, ℕ, zero, suc, ◌+◌, Bool, true, false, not, ◌||◌, ◌&&◌, List, [], ◌∷◌, ◌++◌, map, refl, sym, ap, ◌∙◌, subst, None, Some, slice_get, inl, inr}
 use Rattle.std.specs.Prelude.{Option, if◌then◌else◌}
-use Rattle.std.proofs.lemmas.Bool.{false≢true, or_parts, not-false}
+use Rattle.std.proofs.lemmas.Bool.{false≢true, or_parts, not-false, or_left, or_right, or_cases}
 use Rattle.std.proofs.lemmas.Option.{none-some}
 use Rattle.civl_tree.specs.declared.name.Name.{Name}
 use Rattle.civl_tree.specs.declared.expr.Expr.{Expr}
@@ -14,12 +14,13 @@ use Rattle.civl_tree.specs.declared.program.Program.{Program}
 use Rattle.civl_tree.specs.Numbering.{size_of, sizes_of, inner_of, statements_of}
 use Rattle.civl_tree.specs.rules.Names.{Signature, same_name, has_name, param_names, names_in_proc, callee_signature, proc_named, proc_signature_of}
 use Rattle.civl_tree.proofs.Preorder.{inner_layer, inner_is}
+use Rattle.civl_tree.proofs.Naming.{same_is}
 use Rattle.civl_linear.specs.Modes.{is_passed, is_given, is_taken, passed_names, given_names}
 use Rattle.civl_linear.specs.Held.{Traced, traced, traced_all, holds, entry_held, without_names, call_held, spawn_held}
 use Rattle.civl_linear.specs.Places.{passes_in, may_get, misgiven, any_misgiven, call_misgiven, form_assigned, stmt_assigned}
 use Rattle.civl_linear.proofs.Examples.{traced_form, traced_is}
 use Rattle.civl_conditions.proofs.paths.Each.{Each, each_first, each_others, each_branch, each_else, each_own, each_of_layer}
-use Rattle.civl_reduction.proofs.permissions.Flags.{IsWithin, holds_within, both_first, without_within, same_is, or_first, or_second, or_cases}
+use Rattle.civl_reduction.proofs.permissions.Flags.{IsWithin, holds_within, both_first, without_within}
 use Rattle.civl_reduction.proofs.permissions.Putting.{holds_with}
 
 -- what may be held
@@ -54,7 +55,7 @@ call_linear proc None args results held m h x e = h x e
 call_linear proc (Some signature) args results held m h x e =
     elim (holds_with (given_names signature.outs results) (names_in_proc proc) (without_names (passed_names is_taken signature.params args) (names_in_proc proc) held) x e) [
       | inl q ↦ linear_within proc _ held (without_within (passed_names is_taken signature.params args) (names_in_proc proc) held) h x q
-      | inr q ↦ or_second (passes_in proc.params x) (may_get proc x) (given_may proc signature.outs results x m q)
+      | inr q ↦ or_right (passes_in proc.params x) (may_get proc x) (given_may proc signature.outs results x m q)
     ]
 
 pub spawn_linear : (proc : Proc) (signature : Option Signature) (args : List Expr) (held : List Bool) → IsLinear proc held → IsLinear proc (spawn_held (names_in_proc proc) signature args held)
@@ -66,8 +67,8 @@ spawn_linear proc (Some signature) args held h = linear_within proc _ held (with
 entry_params : (params : List Param) (names : List Name) (flags : List Bool) (x : Name) → (holds names flags x ≡ true → ⊥) → holds (param_names params ++ names) (map (λ param. is_passed param.mode) params ++ flags) x ≡ true → passes_in params x ≡ true
 entry_params [] names flags x none h = absurd (none h)
 entry_params (p ∷ ps) names flags x none h = elim (or_cases (is_passed p.mode && same_name p.name x) _ h) [
-  | inl q ↦ or_first (is_passed p.mode && same_name p.name x) (passes_in ps x) q
-  | inr q ↦ or_second (is_passed p.mode && same_name p.name x) (passes_in ps x) (entry_params ps names flags x none q)
+  | inl q ↦ or_left (is_passed p.mode && same_name p.name x) (passes_in ps x) q
+  | inr q ↦ or_right (is_passed p.mode && same_name p.name x) (passes_in ps x) (entry_params ps names flags x none q)
 ]
 
 none_held : {A : Type 0} (xs : List A) (name : A → Name) (names : List Name) (flags : List Bool) (x : Name) → (holds names flags x ≡ true → ⊥) → holds (map name xs ++ names) (map (λ a. false) xs ++ flags) x ≡ true → ⊥
@@ -81,7 +82,7 @@ nothing_held (a ∷ xs) name x h = nothing_held xs name x h
 pub entry_linear : (proc : Proc) → IsLinear proc (entry_held proc)
 entry_linear proc x h =
     let locals = nothing_held proc.locals (λ l. l.name) x in
-    or_first (passes_in proc.params x) (may_get proc x)
+    or_left (passes_in proc.params x) (may_get proc x)
     (entry_params proc.params _ _ x (none_held proc.outs (λ o. o.name) _ _ x locals) h)
 
 -- ---- going over statements

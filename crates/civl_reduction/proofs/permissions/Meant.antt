@@ -1,7 +1,7 @@
 -- What a call means takes and gives linear values as its callee's signature says.
 use Rattle.std.proofs.Common.{◌≡◌, ℕ, suc, Bool, true, false, ◌&&◌, List, [], ◌∷◌, ◌++◌, length, map, refl, sym, ap, ap₂, ◌∙◌, subst, Option, Some, None, slice_get}
 use Rattle.std.specs.Prelude.{if◌then◌else◌}
-use Rattle.std.proofs.lemmas.Bool.{false≢true, not-false}
+use Rattle.std.proofs.lemmas.Bool.{false≢true, not-false, and_parts}
 use Rattle.std.proofs.lemmas.Option.{none-some, same_Some}
 use Rattle.civl_bits.specs.declared.value.Value.{Value}
 use Rattle.civl_tree.specs.declared.name.Name.{Name}
@@ -27,7 +27,6 @@ use Rattle.civl_meaning.specs.Meaning.{Does, Runs, proc_number, meaning_of_actio
 use Rattle.civl_meaning.specs.Config.{IsPlain}
 use Rattle.civl_meaning.proofs.Begun.{proc_is}
 use Rattle.civl_conditions.specs.Permissions.{of_modes}
-use Rattle.civl_reduction.proofs.permissions.Flags.{and_cases}
 
 -- these parameters stand for linear values as those do
 pub record SameModes (ps qs : List Param) : Type 0 where
@@ -60,8 +59,8 @@ params_modes [] [] e = record { count = refl; carry = λ test vs. refl }
 params_modes [] (q ∷ qs) e = absurd (false≢true e)
 params_modes (p ∷ ps) [] e = absurd (false≢true e)
 params_modes (p ∷ ps) (q ∷ qs) e =
-    let a = and_cases (same_mode p.mode q.mode) (same_sort p.sort q.sort && same_params ps qs) e in
-    let rest = params_modes ps qs (and_cases (same_sort p.sort q.sort) (same_params ps qs) a.1).1 in
+    let a = and_parts (same_mode p.mode q.mode) (same_sort p.sort q.sort && same_params ps qs) e in
+    let rest = params_modes ps qs (and_parts (same_sort p.sort q.sort) (same_params ps qs) a.1).1 in
     record { count = ap suc rest.count; carry = carry (mode_is p.mode q.mode a.0) rest.carry }
   where
     carry : p.mode ≡ q.mode → ((test : Mode → Bool) (vs : List Value) → of_modes test ps vs ≡ of_modes test qs vs) → (test : Mode → Bool) (vs : List Value) → of_modes test (p ∷ ps) vs ≡ of_modes test (q ∷ qs) vs
@@ -103,7 +102,7 @@ module _ (program : Program) (signatures : Keeps (signature_rule ∷ []) program
       go x =
           let differs : signature_differs proc (action_named program x.0.action) ≡ false = subst (λ (o : Option Refines). refined_differs program proc o ≡ false) x.1 kept in
           let same : (same_params proc.params action.params && same_params proc.outs action.outs) ≡ true = not-false _ (subst (λ (o : Option Action). signature_differs proc o ≡ false) x.2 differs) in
-          let parts = and_cases (same_params proc.params action.params) (same_params proc.outs action.outs) same in
+          let parts = and_parts (same_params proc.params action.params) (same_params proc.outs action.outs) same in
           record {
             place = place_of (map (λ a. a.name) program.actions) x.0.action;
             there = found_at (λ (a : Action). a.name) program.actions x.0.action ∙ x.2;

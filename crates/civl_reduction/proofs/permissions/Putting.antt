@@ -1,7 +1,7 @@
 -- Flags for the names of a procedure: names that were taken out are put back, and values are set under names that weren't held.
 use Rattle.std.proofs.Common.{◌≡◌, ℕ, zero, suc, ◌+◌, ◌≤◌, Bool, true, false, not, ◌&&◌, ◌||◌, List, [], ◌∷◌, refl, sym, ap, ◌∙◌, arith, Some, slice_set, slice_index_or, add-one, inl, inr, ◌⊎◌}
 use Rattle.std.specs.Prelude.{if◌then◌else◌}
-use Rattle.std.proofs.lemmas.Bool.{false≢true, or_parts}
+use Rattle.std.proofs.lemmas.Bool.{false≢true, or_parts, or_left, or_right, or_cases, and_parts, false_from_ne_true, both_ways}
 use Rattle.civl_bits.specs.declared.value.Value.{Value}
 use Rattle.civl_firing.specs.values.Operators.{nothing}
 use Rattle.civl_tree.specs.declared.name.Name.{Name}
@@ -13,7 +13,7 @@ use Rattle.civl_linear.specs.Held.{holds, without_names, with_names}
 use Rattle.civl_linear.specs.Lengths.{OneEach}
 use Rattle.civl_linear.proofs.Beside.{without_names_each}
 use Rattle.civl_reduction.proofs.permissions.Counting.{has, one_if, carriers}
-use Rattle.civl_reduction.proofs.permissions.Flags.{IsWithin, amount, within_less, or_first, or_second, or_cases, and_cases, true_false, untrue, same_back, has_same, under}
+use Rattle.civl_reduction.proofs.permissions.Flags.{IsWithin, amount, within_less, same_back, has_same, under}
 
 -- ---- names that were taken out
 
@@ -25,7 +25,7 @@ without_absent x (m ∷ ns) [] e n i h = absurd cc
 without_absent x (m ∷ ns) (b ∷ f) e n zero h = go b (same_name m x) refl h
   where
     go : (b c : Bool) → same_name m x ≡ c → ◌≡◌ {A = _} (Some b) (Some true) → ◌≡◌ {A = _} (Some (b && not (c || false))) (Some true)
-    go true true p k = absurd (true_false (same_name x m) (same_back m x p) (or_parts (same_name x m) (has_name ns x) n).0)
+    go true true p k = absurd (both_ways (same_name x m) (or_parts (same_name x m) (has_name ns x) n).0 (same_back m x p))
     go true false p k = refl
     go false c p k = absurd cc
 without_absent x (m ∷ ns) (b ∷ f) e n (suc i) h = without_absent x ns f (omega (arith, e)) (or_parts (same_name x m) (has_name ns x) n).1 i h
@@ -44,7 +44,7 @@ one_back p (n ∷ ns) x (b ∷ f) (v ∷ vs) t e = go b (same_name n x) refl (on
 
     absent : same_name n x ≡ true → amount p f vs ≤ amount p (without_names (x ∷ []) ns f) vs
     absent q =
-        let none = untrue (has_name ns x) (λ k. true_false (has_name ns n) (has_same ns x n (same_back n x q) k) (or_parts (has_name ns n) (any_twice ns) t).0) in
+        let none = false_from_ne_true (has_name ns x) (λ k. both_ways (has_name ns n) (or_parts (has_name ns n) (any_twice ns) t).0 (has_same ns x n (same_back n x q) k)) in
         within_less p f (without_names (x ∷ []) ns f) vs (without_absent x ns f (omega (arith, e)) none)
 
     go : (b c : Bool) → same_name n x ≡ c
@@ -111,7 +111,7 @@ with_absent x (m ∷ ns) (b ∷ f) n zero h = go b (same_name m x) refl h
   where
     go : (b c : Bool) → same_name m x ≡ c → ◌≡◌ {A = _} (Some (b || (c || false))) (Some true) → ◌≡◌ {A = _} (Some b) (Some true)
     go true c p k = refl
-    go false true p k = absurd (true_false (same_name x m) (same_back m x p) (or_parts (same_name x m) (has_name ns x) n).0)
+    go false true p k = absurd (both_ways (same_name x m) (or_parts (same_name x m) (has_name ns x) n).0 (same_back m x p))
     go false false p k = absurd cc
 with_absent x (m ∷ ns) (b ∷ f) n (suc i) h = with_absent x ns f (or_parts (same_name x m) (has_name ns x) n).1 i h
 
@@ -129,7 +129,7 @@ set_held p (n ∷ ns) x (b ∷ f) (w ∷ vs) v t h =
 
     absent : same_name n x ≡ true → amount p (with_names (x ∷ []) ns f) vs ≤ amount p f vs
     absent q =
-        let none = untrue (has_name ns x) (λ k. true_false (has_name ns n) (has_same ns x n (same_back n x q) k) (or_parts (has_name ns n) (any_twice ns) t).0) in
+        let none = false_from_ne_true (has_name ns x) (λ k. both_ways (has_name ns n) (or_parts (has_name ns n) (any_twice ns) t).0 (has_same ns x n (same_back n x q) k)) in
         within_less p (with_names (x ∷ []) ns f) f vs (with_absent x ns f none)
 
     go : (b c : Bool) → same_name n x ≡ c → (b && c) ≡ false
@@ -153,11 +153,11 @@ holds_with new (n ∷ ns) (b ∷ f) x h = go b (same_name n x) refl (has_name ne
     go true true p d q ih k = inl refl
     go false true p true q ih k = inr (has_same new n x p q)
     go b c p d q ih k = elim (or_cases ((b || d) && c) _ k) [
-      | inl r ↦ elim (or_cases b d (and_cases (b || d) c r).0) [
-        | inl u ↦ inl (or_first (b && c) (holds ns f x) (both u (and_cases (b || d) c r).1))
-        | inr u ↦ inr (has_same new n x (p ∙ (and_cases (b || d) c r).1) (q ∙ u))
+      | inl r ↦ elim (or_cases b d (and_parts (b || d) c r).0) [
+        | inl u ↦ inl (or_left (b && c) (holds ns f x) (both u (and_parts (b || d) c r).1))
+        | inr u ↦ inr (has_same new n x (p ∙ (and_parts (b || d) c r).1) (q ∙ u))
       ]
-      | inr r ↦ elim (ih r) [ inl u ↦ inl (or_second (b && c) (holds ns f x) u) | inr u ↦ inr u ]
+      | inr r ↦ elim (ih r) [ inl u ↦ inl (or_right (b && c) (holds ns f x) u) | inr u ↦ inr u ]
     ]
       where
         both : b ≡ true → c ≡ true → (b && c) ≡ true

@@ -1,9 +1,9 @@
 -- Every configuration that a run of a layer's program reaches from an initial store is parted.
-use Rattle.std.proofs.Common.{◌≡◌, ℕ, zero, suc, ◌≤◌, Bool, true, false, ◌&&◌, List, [], ◌∷◌, ◌++◌, map, refl, sym, ap, ◌∙◌, subst, arith, Option, None, Some, slice_get, inl, inr, ◌⊎◌}
+use Rattle.std.proofs.Common.{◌≡◌, ℕ, ◌≤◌, true, false, ◌&&◌, List, [], ◌∷◌, ◌++◌, map, refl, sym, ap, ◌∙◌, subst, arith, Option, None, Some, slice_get, inl, inr, ◌⊎◌}
 use Rattle.std.specs.Prelude.{All, flat_map, nat_le, nat_lt, ◌==◌}
 use Rattle.std.specs.List.{list_all}
-use Rattle.std.proofs.lemmas.Bool.{not-false, leb-true, ltb-true, ltb-false}
-use Rattle.std.proofs.lemmas.Option.{same_Some, none-some}
+use Rattle.std.proofs.lemmas.Bool.{not-false, leb-true, ltb-true, ltb-false, or_cases, and_parts}
+use Rattle.std.proofs.lemmas.Option.{same_Some}
 use Rattle.std.proofs.lemmas.List.Elements.{All-nil, All-cons}
 use Rattle.civl_tree.specs.declared.action.Action.{Action}
 use Rattle.civl_tree.specs.declared.stmt.Stmt.{Stmt}
@@ -15,6 +15,7 @@ use Rattle.civl_tree.specs.declared.program.Thread.{Thread}
 use Rattle.civl_tree.specs.SpellingDomain.{allows_global, allows_invariant, allows_name, allows_expr, allows_param, allows_action, allows_proc, allows_program}
 use Rattle.civl_tree.specs.rules.Names.{action_named, proc_named}
 use Rattle.civl_tree.proofs.Kept.{statement_kept, proc_kept}
+use Rattle.civl_tree.proofs.Lists.{all_get}
 use Rattle.civl_firing.specs.declared.store.Store.{Store}
 use Rattle.civl_firing.specs.Truth.{place_of}
 use Rattle.civl_firing.proofs.Finding.{found_at}
@@ -26,6 +27,7 @@ use Rattle.civl_meaning.specs.Meaning.{Does, proc_number, meaning_of, meaning_el
 use Rattle.civl_meaning.specs.Layers.{means_body, program_at}
 use Rattle.civl_meaning.specs.Step.{begun, start}
 use Rattle.civl_meaning.proofs.Begun.{start_is_of}
+use Rattle.civl_meaning.proofs.Bodies.{bodies_at}
 use Rattle.civl_layers.specs.Ranges.{exists_through, life_end}
 use Rattle.civl_layers.specs.Names.{action_range}
 use Rattle.civl_layers.specs.NotThere.{action_missing, call_missing, form_missing, stmt_missing, refines_missing}
@@ -34,7 +36,6 @@ use Rattle.civl_layers.specs.Layered.{IsLayered}
 use Rattle.civl_layers.proofs.PlainPrograms.{layered_is_plain}
 use Rattle.civl_reduction.specs.permissions.Owned.{owned}
 use Rattle.civl_reduction.specs.permissions.Stay.{PermissionsStay}
-use Rattle.civl_reduction.proofs.permissions.Flags.{and_cases, or_cases}
 use Rattle.civl_reduction.proofs.permissions.Meant.{does_by, does_refined}
 use Rattle.civl_reduction.proofs.permissions.Lending.{StateIsLent}
 use Rattle.civl_reduction.proofs.permissions.Changing.{Meant, AreWritable}
@@ -42,27 +43,22 @@ use Rattle.civl_reduction.proofs.permissions.Staying.{IsKept, run_kept}
 
 -- ---- what the grammar can write
 
-all_get : {A : Type 0} (p : A → Bool) (xs : List A) (i : ℕ) (x : A) → list_all p xs ≡ true → slice_get xs i ≡ Some x → p x ≡ true
-all_get p [] i x h e = absurd (none-some x e)
-all_get p (y ∷ ys) zero x h e = ap p (sym (same_Some y x e)) ∙ (and_cases (p y) (list_all p ys) h).0
-all_get p (y ∷ ys) (suc i) x h e = all_get p ys i x (and_cases (p y) (list_all p ys) h).1 e
-
 pub are_writable : (program : Program) → allows_program program ≡ true → AreWritable program
 are_writable program h = (actions, procs)
   where
     parts : (list_all (allows_action (program.version == 2)) program.actions ≡ true) × (list_all (allows_proc (program.version == 2)) program.procs ≡ true)
     parts =
-        let a = and_cases (list_all allows_global program.globals) _ h in
-        let b = and_cases (allows_expr (program.version == 2) program.init) _ a.1 in
-        let c = and_cases (list_all (allows_invariant (program.version == 2)) program.invariants) _ b.1 in
-        let d = and_cases (list_all (allows_action (program.version == 2)) program.actions) _ c.1 in
-        (d.0, (and_cases (list_all (allows_proc (program.version == 2)) program.procs) _ d.1).0)
+        let a = and_parts (list_all allows_global program.globals) _ h in
+        let b = and_parts (allows_expr (program.version == 2) program.init) _ a.1 in
+        let c = and_parts (list_all (allows_invariant (program.version == 2)) program.invariants) _ b.1 in
+        let d = and_parts (list_all (allows_action (program.version == 2)) program.actions) _ c.1 in
+        (d.0, (and_parts (list_all (allows_proc (program.version == 2)) program.procs) _ d.1).0)
 
     actions : (place : ℕ) (action : Action) → slice_get program.actions place ≡ Some action → list_all allows_param action.params ≡ true
-    actions place action at = (and_cases (list_all allows_param action.params) _ (and_cases (allows_name action.name) _ (all_get (allows_action (program.version == 2)) program.actions place action parts.0 at)).1).0
+    actions place action at = (and_parts (list_all allows_param action.params) _ (and_parts (allows_name action.name) _ (all_get (allows_action (program.version == 2)) program.actions place action parts.0 at)).1).0
 
     procs : (place : ℕ) (proc : Proc) → slice_get program.procs place ≡ Some proc → list_all allows_param proc.params ≡ true
-    procs place proc at = (and_cases (list_all allows_param proc.params) _ (and_cases (allows_name proc.name) _ (all_get (allows_proc (program.version == 2)) program.procs place proc parts.1 at)).1).0
+    procs place proc at = (and_parts (list_all allows_param proc.params) _ (and_parts (allows_name proc.name) _ (all_get (allows_proc (program.version == 2)) program.procs place proc parts.1 at)).1).0
 
 -- ---- which actions are called
 
@@ -72,7 +68,7 @@ begun_by from to action h e = go (or_cases (nat_lt to from) (nat_le action.first
   where
     go : (nat_lt to from ≡ true) ⊎ ((nat_le action.first from && nat_le to action.last) ≡ true) → action.first ≤ from
     go (inl q) = let l = ltb-true to from q in absurd (omega (arith, h, l))
-    go (inr q) = leb-true action.first from (and_cases (nat_le action.first from) (nat_le to action.last) q).0
+    go (inr q) = leb-true action.first from (and_parts (nat_le action.first from) (nat_le to action.last) q).0
 
 module _ (program : Program) (src : IsLayered program) (layer : ℕ) where
   abbrev plain : Plain
@@ -81,15 +77,10 @@ module _ (program : Program) (src : IsLayered program) (layer : ℕ) where
   number_begins : (k : ℕ) (action : Action) → meaning_of plain k ≡ Does action → (number : ℕ) × (slice_get program.actions number ≡ Some action) × (action.first ≤ layer)
   number_begins k action e = by_proc (does_by program (slice_get plain.bodies k) k (slice_get program.procs k) action e)
     where
-      bodies_at : (procs : List Proc) (j : ℕ) (proc : Proc) → slice_get procs j ≡ Some proc → slice_get (map (λ p. means_body layer p.refines) procs) j ≡ Some (means_body layer proc.refines)
-      bodies_at [] j proc at = absurd (none-some proc at)
-      bodies_at (p ∷ ps) zero proc at = ap (λ (q : Proc). Some (means_body layer q.refines)) (same_Some p proc at)
-      bodies_at (p ∷ ps) (suc j) proc at = bodies_at ps j proc at
-
       by_proc : (proc : Proc) × (slice_get program.procs k ≡ Some proc) × (slice_get plain.bodies k ≡ Some false) × (refined program proc.refines ≡ Does action) → (number : ℕ) × (slice_get program.actions number ≡ Some action) × (action.first ≤ layer)
       by_proc d =
           let r = does_refined program d.0 d.0.refines action d.3 in
-          let body : means_body layer d.0.refines ≡ false = same_Some (means_body layer d.0.refines) false (sym (bodies_at program.procs k d.0 d.1) ∙ d.2) in
+          let body : means_body layer d.0.refines ≡ false = same_Some (means_body layer d.0.refines) false (sym (bodies_at layer program.procs k d.0 d.1) ∙ d.2) in
           let low : nat_lt layer r.0.layer ≡ false = subst (λ (o : Option Refines). means_body layer o ≡ false) r.1 body in
           let kept : refines_missing program d.0.refines ≡ false = proc_kept layer_rules program src.layers not_there_rule (3, omega arith, refl) k d.0 d.1 in
           let there : action_missing r.0.layer r.0.layer (Some action) ≡ false = subst (λ (o : Option Action). action_missing r.0.layer r.0.layer o ≡ false) r.2 (subst (λ (o : Option Refines). refines_missing program o ≡ false) r.1 kept) in

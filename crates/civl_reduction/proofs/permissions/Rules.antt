@@ -2,7 +2,7 @@
 use Rattle.std.proofs.Common.{◌≡◌, ℕ, zero, suc, ◌+◌, Bool, true, false, ◌||◌, List, [], ◌∷◌, ◌++◌, length, refl, subst, arith, Some, slice_get}
 use Rattle.std.specs.Prelude.{if◌then◌else◌}
 use Rattle.std.specs.List.{Contains, list_any}
-use Rattle.std.proofs.lemmas.Bool.{or_parts}
+use Rattle.std.proofs.lemmas.Bool.{or_parts, false_from_ne_true}
 use Rattle.std.proofs.lemmas.List.Elements.{Contains-append_left, Contains-append_right}
 use Rattle.civl_tree.specs.declared.stmt.Stmt.{Stmt}
 use Rattle.civl_tree.specs.declared.program.Proc.{Proc}
@@ -20,7 +20,6 @@ use Rattle.civl_names.specs.walks.Walks.{numbers_with}
 use Rattle.civl_linear.specs.Held.{traced_proc}
 use Rattle.civl_linear.specs.Places.{stmt_not_held, stmt_held_twice, stmt_assigned, not_returned}
 use Rattle.civl_linear.specs.LinearRules.{not_held_rule, held_twice_rule, lost_rule, assigned_rule, linear_rules, is_lost, lost_numbers}
-use Rattle.civl_reduction.proofs.permissions.Flags.{untrue}
 
 -- a statement that doesn't pass, with its note, is among those that are told
 with_told : {A : Type 0} (breaks : Stmt → A → Bool) (from : ℕ) (stmts : List Stmt) (notes : List A) (k : ℕ) (stmt : Stmt) (note : A) (n : ℕ) → n ≡ from + k → slice_get stmts k ≡ Some stmt → slice_get notes k ≡ Some note → breaks stmt note ≡ true → Contains (numbers_with breaks from stmts notes) n
@@ -36,7 +35,7 @@ with_told breaks from (s ∷ stmts) (a ∷ notes) (suc k) stmt note n e g h t =
 
 -- what isn't told of any passes
 none_told : {A : Type 0} (breaks : Stmt → A → Bool) (stmts : List Stmt) (notes : List A) → ((n : ℕ) → Contains (numbers_with breaks 0 stmts notes) n → ⊥) → (k : ℕ) (stmt : Stmt) (note : A) → slice_get stmts k ≡ Some stmt → slice_get notes k ≡ Some note → breaks stmt note ≡ false
-none_told breaks stmts notes none k stmt note g h = untrue (breaks stmt note) (λ t. none k (with_told breaks 0 stmts notes k stmt note k (omega arith) g h t))
+none_told breaks stmts notes none k stmt note g h = false_from_ne_true (breaks stmt note) (λ t. none k (with_told breaks 0 stmts notes k stmt note k (omega arith) g h t))
 
 there : {A : Type 0} (xs : List A) (n : ℕ) → suc n ≡ length xs → (x : A) × (slice_get xs 0 ≡ Some x)
 there [] n e = absurd (omega (arith, e))
@@ -88,7 +87,7 @@ module _ (program : Program) (typed : Keeps typing_rules program) (linear : Keep
 
   -- nothing is owed at the exit
   pub returned_all : not_returned proc (traced_proc program proc).after ≡ false
-  returned_all = untrue (not_returned proc (traced_proc program proc).after) (λ e. lost_none (exit_number proc.body) (told e))
+  returned_all = false_from_ne_true (not_returned proc (traced_proc program proc).after) (λ e. lost_none (exit_number proc.body) (told e))
     where
       told : not_returned proc (traced_proc program proc).after ≡ true → Contains (lost_numbers program proc) (exit_number proc.body)
       told e =

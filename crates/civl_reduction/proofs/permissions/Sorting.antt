@@ -1,8 +1,8 @@
 -- The values of a call's arguments have the sorts of its callee's parameters.
-use Rattle.std.proofs.Common.{◌≡◌, ℕ, Bool, false, List, length, refl, sym, ◌∙◌, subst, Option, Some, None, slice_get}
+use Rattle.std.proofs.Common.{◌≡◌, ℕ, Bool, false, List, length, refl, sym, ◌∙◌, subst, Option, Some, slice_get}
 use Rattle.std.specs.Prelude.{is_none}
 use Rattle.std.specs.List.{list_any}
-use Rattle.std.proofs.lemmas.Bool.{false≢true, or_parts}
+use Rattle.std.proofs.lemmas.Bool.{or_parts}
 use Rattle.std.proofs.lemmas.List.{length-map}
 use Rattle.civl_bits.specs.declared.value.Value.{Value}
 use Rattle.civl_firing.specs.values.Values.{HaveSorts}
@@ -23,15 +23,12 @@ use Rattle.civl_tree.specs.rules.Unknown.{any_unknown, place_unknown, form_unkno
 use Rattle.civl_tree.specs.rules.Rules.{Keeps}
 use Rattle.civl_tree.specs.rules.Typing.{typing_rules, unknown_rule, width_rule, sort_rule, index_rule}
 use Rattle.civl_tree.proofs.Kept.{statement_kept, unknown_among, width_among, sort_among, index_among}
+use Rattle.civl_tree.proofs.Options.{some_of}
 use Rattle.civl_firing.specs.Eval.{values_of}
 use Rattle.civl_firing.specs.Scope.{frame_values}
 use Rattle.civl_firing.proofs.Having.{args_have_sorts}
 use Rattle.civl_meaning.specs.Config.{frame_sorts}
 use Rattle.civl_soundness.proofs.Firing.{body_is_sorted}
-
-some_of : {A : Type 0} (o : Option A) → is_none o ≡ false → (x : A) × (o ≡ Some x)
-some_of None e = absurd (false≢true (sym e))
-some_of (Some x) e = (x, refl)
 
 module _ (program : Program) (typed : Keeps typing_rules program) (i : ℕ) (proc : Proc) (at : slice_get program.procs i ≡ Some proc) (n : ℕ) (s : Stmt) (here : statement_at proc.body n ≡ Some s) where
   known : form_unknown program proc (out-Stmt s) ≡ false

@@ -13,6 +13,7 @@ use Rattle.civl_tree.specs.rules.Names.{names_in_proc}
 use Rattle.civl_tree.specs.rules.Rules.{Keeps}
 use Rattle.civl_tree.specs.rules.Typing.{typing_rules}
 use Rattle.civl_tree.proofs.Numbers.{sizes_are_counts}
+use Rattle.civl_tree.proofs.Lists.{get_there}
 use Rattle.civl_meaning.specs.Places.{Spot, is_skipped, skip_layer}
 use Rattle.civl_meaning.specs.Rest.{Rest, rest_at, place_in, head_of}
 use Rattle.civl_linear.specs.Held.{Traced, traced, traced_proc, entry_held, exit_owed, covers}
@@ -39,11 +40,6 @@ at_last [] last d zero e = refl
 at_last [] last d (suc n) e = absurd (omega (arith, e))
 at_last (x ∷ xs) last d zero e = absurd (omega (arith, e))
 at_last (x ∷ xs) last d (suc n) e = at_last xs last d n (omega (arith, e))
-
-get_there : {A : Type 0} (xs : List A) (n : ℕ) → n < length xs → (a : A) × (slice_get xs n ≡ Some a)
-get_there [] n h = absurd (omega (arith, h))
-get_there (x ∷ xs) zero h = (x, refl)
-get_there (x ∷ xs) (suc n) h = get_there xs n (omega (arith, h))
 
 module _ (program : Program) (typed : Keeps typing_rules program) (linear : Keeps linear_rules program) (i : ℕ) (proc : Proc) (at : slice_get program.procs i ≡ Some proc) where
   abbrev names : List Name

@@ -1,13 +1,11 @@
 -- What a step of a thread does to what the thread owns.
-use Rattle.std.proofs.Common.{◌≡◌, ℕ, suc, ◌+◌, ◌-◌, ◌≤◌, Bool, true, false, List, [], ◌∷◌, ◌++◌, take, length, map, refl, sym, ap, ap₂, ◌∙◌, subst, arith, Option, None, Some, slice_get, inr}
+use Rattle.std.proofs.Common.{◌≡◌, ℕ, ◌+◌, ◌-◌, ◌≤◌, Bool, true, false, List, [], ◌∷◌, ◌++◌, take, length, map, refl, sym, ap, ap₂, ◌∙◌, subst, arith, Option, None, Some, slice_get, inr}
 use Rattle.std.specs.Prelude.{All, if◌then◌else◌}
-use Rattle.std.proofs.lemmas.Bool.{false≢true}
-use Rattle.std.proofs.lemmas.Option.{same_Some, none-some}
+use Rattle.std.proofs.lemmas.Option.{same_Some}
 use Rattle.std.proofs.lemmas.List.{length-append, length-map}
 use Rattle.civl_bits.specs.Value.{IsValue}
 use Rattle.civl_bits.specs.declared.value.Value.{Value}
 use Rattle.civl_firing.specs.values.Values.{HaveSorts}
-use Rattle.civl_tree.specs.declared.expr.Sort.{Sort}
 use Rattle.civl_tree.specs.declared.action.Action.{Action}
 use Rattle.civl_tree.specs.declared.stmt.Stmt.{out-Stmt}
 use Rattle.civl_tree.specs.declared.program.Proc.{Proc}
@@ -22,7 +20,7 @@ use Rattle.civl_firing.specs.declared.firing.Fired.TheVariants as fire
 use Rattle.civl_firing.specs.Stores.{IsStore}
 use Rattle.civl_firing.specs.Scope.{zeros_of_params, zeros_of_locals}
 use Rattle.civl_firing.specs.Fired.{gate_holds, choices_fit, fires, fired}
-use Rattle.civl_firing.proofs.Having.{rest_sorts}
+use Rattle.civl_firing.proofs.Having.{have_length}
 use Rattle.civl_meaning.specs.declared.config.Plain.{Plain}
 use Rattle.civl_meaning.specs.declared.config.Activation.{Activation}
 use Rattle.civl_meaning.specs.declared.config.State.{State}
@@ -35,7 +33,8 @@ use Rattle.civl_meaning.specs.Permissions.{of_params}
 use Rattle.civl_meaning.specs.Places.{Spot, spot_at}
 use Rattle.civl_meaning.specs.Meaning.{Meaning, Does, Runs, Missing, meaning_of}
 use Rattle.civl_meaning.specs.Change.{new_frame, acted, action_change, call_change, outs_in, leaves, spot_change, proc_change, caller_of, state_change, change_of}
-use Rattle.civl_meaning.specs.Config.{IsPlain, IsPlaced, IsBegun, HasLocals, IsStack, Waits, AreWaiting, StateIsSorted, StateIsStacked, ThreadIsSorted, IsStacked, frame_sorts}
+use Rattle.civl_meaning.specs.Config.{IsPlain, IsPlaced, IsBegun, HasLocals, IsStack, StateIsSorted, StateIsStacked, ThreadIsSorted, IsStacked, frame_sorts}
+use Rattle.civl_meaning.proofs.Stacking.{split_last, last_waits}
 use Rattle.civl_linear.specs.Modes.{is_passed, is_lent}
 use Rattle.civl_linear.specs.Held.{entry_held}
 use Rattle.civl_linear.specs.LinearRules.{linear_rules}
@@ -52,20 +51,14 @@ use Rattle.civl_reduction.proofs.permissions.Next.{steps}
 use Rattle.civl_reduction.proofs.permissions.Standing.{entry_within}
 use Rattle.civl_reduction.proofs.permissions.Meant.{Serves, number_serves, number_runs}
 use Rattle.civl_reduction.proofs.permissions.Giving.{gives}
-use Rattle.civl_reduction.proofs.permissions.Lending.{AreLent, StateIsLent, split_last}
+use Rattle.civl_reduction.proofs.permissions.Lending.{AreLent, StateIsLent}
 use Rattle.civl_reduction.proofs.permissions.Changing.{Meant, AreWritable, Kept, inside_owns, moved_is, layer_kept}
 use Rattle.civl_reduction.proofs.permissions.Leaving.{returned_kept}
 
 -- ---- lists
 
-sorts_count : (vs : List Value) (ss : List Sort) → HaveSorts vs ss → length vs ≡ length ss
-sorts_count [] [] h = refl
-sorts_count [] (s ∷ ss) h = absurd (false≢true h.are)
-sorts_count (v ∷ vs) [] h = absurd (false≢true h.are)
-sorts_count (v ∷ vs) (s ∷ ss) h = ap suc (sorts_count vs ss (rest_sorts v s vs ss h))
-
 pub locals_count : (proc : Proc) (locals : List Value) → HaveSorts locals (frame_sorts proc) → length locals ≡ length (names_in_proc proc)
-locals_count proc locals h = sorts_count locals (frame_sorts proc) h ∙ (sorts_are ∙ sym names_are)
+locals_count proc locals h = have_length locals (frame_sorts proc) h ∙ (sorts_are ∙ sym names_are)
   where
     all : ℕ
     all = length proc.params + (length proc.outs + length proc.locals)
@@ -79,13 +72,6 @@ locals_count proc locals h = sorts_count locals (frame_sorts proc) h ∙ (sorts_
     names_are =
         length-append (param_names proc.params) (param_names proc.outs ++ map (λ l. l.name) proc.locals)
         ∙ ap₂ (λ (m n : ℕ). m + n) (length-map proc.params (λ p. p.name)) (length-append (param_names proc.outs) (map (λ l. l.name) proc.locals) ∙ ap₂ (λ (m n : ℕ). m + n) (length-map proc.outs (λ p. p.name)) (length-map proc.locals (λ l. l.name)))
-
-last_waits : (plain : Plain) (below : List Activation) (top frame : Activation) → caller_of below ≡ Some frame → AreWaiting plain below top → Waits plain top.procedure frame
-last_waits plain [] top frame e w = absurd (none-some frame e)
-last_waits plain (g ∷ []) top frame e w = subst (Waits plain top.procedure) (same_Some g frame e) w.0
-last_waits plain (g ∷ (f ∷ fs)) top frame e w =
-    let n : length (g ∷ (f ∷ fs)) - 1 ≡ suc (length (f ∷ fs) - 1) = omega arith in
-    last_waits plain (f ∷ fs) top frame (ap (slice_get (g ∷ (f ∷ fs))) (sym n) ∙ e) w.1
 
 -- ---- a thread
 
@@ -141,7 +127,7 @@ module _ (plain : Plain) (ok : IsPlain plain) (linear : Keeps linear_rules plain
       let r = number_runs plain ok thread.callee number proc runs in
       let there : slice_get program.procs number ≡ Some proc = ap (slice_get program.procs) (sym r.0) ∙ r.1 in
       let is : b.proc ≡ proc = same_Some b.proc proc (sym b.there ∙ r.1) in
-      let count : length thread.args ≡ length proc.params = sorts_count thread.args (param_sorts b.proc.params) b.args ∙ (length-map b.proc.params (λ p. p.sort) ∙ ap (λ (q : Proc). length q.params) is) in (
+      let count : length thread.args ≡ length proc.params = have_length thread.args (param_sorts b.proc.params) b.args ∙ (length-map b.proc.params (λ p. p.sort) ∙ ap (λ (q : Proc). length q.params) is) in (
         (λ p.
             let one = begun_owns b p in
             let two = inside_owns program thread [] (new_frame number proc thread.args) proc there p in

@@ -1,11 +1,10 @@
 -- What is held along the rests of a body: each step from a place comes to one before which no more is held than behind it.
-use Rattle.std.proofs.Common.{◌≡◌, ℕ, zero, suc, ◌+◌, Bool, true, false, not, ◌||◌, List, [], ◌∷◌, ◌++◌, length, map, refl, sym, ap, ◌∙◌, subst, arith, Some, slice_get}
-use Rattle.std.specs.Prelude.{nat_lt, nat_eq, if◌then◌else◌}
+use Rattle.std.proofs.Common.{◌≡◌, ℕ, suc, ◌+◌, Bool, true, false, not, ◌||◌, List, [], ◌∷◌, ◌++◌, length, map, refl, sym, ap, ◌∙◌, subst, arith, Some, slice_get, map-id}
+use Rattle.std.specs.Prelude.{nat_lt, nat_eq}
 use Rattle.std.specs.List.{list_any}
 use Rattle.std.proofs.lemmas.Bool.{false≢true, or_parts}
 use Rattle.std.proofs.lemmas.List.{length-append}
 use Rattle.std.proofs.lemmas.List.Folds.{list_any-append}
-use Rattle.std.proofs.lemmas.Option.{none-some}
 use Rattle.civl_tree.specs.declared.name.Name.{Name}
 use Rattle.civl_tree.specs.declared.stmt.Stmt.{Stmt, out-Stmt, roll-Stmt, out-roll-Stmt, map-Stmt}
 use Rattle.civl_tree.specs.declared.stmt.Stmt.TheOpen.{Stmt-F, If, While, YieldLoop, RankLoop}
@@ -13,27 +12,19 @@ use Rattle.civl_tree.specs.declared.stmt.Stmt.TheFolds.{ind-Stmt}
 use Rattle.civl_tree.specs.declared.program.Program.{Program}
 use Rattle.civl_tree.specs.Numbering.{size_of, sizes_of, numbered}
 use Rattle.civl_tree.proofs.Numbers.{sizes_more, sizes_are_counts}
+use Rattle.civl_tree.proofs.Lists.{get_front}
+use Rattle.civl_tree.proofs.Bools.{either}
 use Rattle.civl_meaning.specs.Rest.{Rest, rest_inside, rest_among, rest_at, place_in}
 use Rattle.civl_meaning.proofs.Rests.{rest_layer, rest_is, among_rest, rest_none}
 use Rattle.civl_linear.specs.Held.{Traced, traced, traced_all, both_held, covers}
 use Rattle.civl_linear.specs.Lengths.{OneEach}
 use Rattle.civl_linear.proofs.Examples.{traced_form, traced_is}
 use Rattle.civl_linear.proofs.Beside.{body_beside}
-use Rattle.civl_conditions.proofs.paths.Belonging.{map_same}
 use Rattle.civl_reduction.proofs.permissions.Flags.{IsWithin, within_then, covers_within, both_first, both_second}
-
-left_at : {A : Type 0} (xs ys : List A) (j : ℕ) (a : A) → slice_get xs j ≡ Some a → slice_get (xs ++ ys) j ≡ Some a
-left_at [] ys j a e = absurd (none-some a e)
-left_at (x ∷ xs) ys zero a e = e
-left_at (x ∷ xs) ys (suc j) a e = left_at xs ys j a e
 
 right_at : {A : Type 0} (xs ys : List A) (j : ℕ) (a : A) → slice_get ys j ≡ Some a → (i : ℕ) × (i ≡ length xs + j) × (slice_get (xs ++ ys) i ≡ Some a)
 right_at [] ys j a e = (j, omega arith, e)
 right_at (x ∷ xs) ys j a e = let r = right_at xs ys j a e in let place = r.1 in (suc r.0, omega arith, r.2)
-
-either : (P : Rest → Type 0) (b : Bool) (x y : Rest) → P x → P y → P (if b then x else y)
-either P true x y p q = p
-either P false x y p q = q
 
 -- none of these loops loses what was held at its head
 abbrev pub NoLoss : Traced → Type 0
@@ -54,7 +45,7 @@ module _ (program : Program) (names : List Name) (H : ℕ → List Bool) (end : 
   Tells at befores = (j n : ℕ) (held : List Bool) → n ≡ at + j → slice_get befores j ≡ Some held → H n ≡ held
 
   pub tells_left : (at : ℕ) (xs ys : List (List Bool)) → Tells at (xs ++ ys) → Tells at xs
-  tells_left at xs ys h j n held e g = h j n held e (left_at xs ys j held g)
+  tells_left at xs ys h j n held e g = h j n held e (get_front xs ys j held g)
 
   pub tells_right : (at next : ℕ) (xs ys : List (List Bool)) → next ≡ at + length xs → Tells at (xs ++ ys) → Tells next ys
   tells_right at next xs ys f h j n held e g = let r = right_at xs ys j held g in let place = r.1 in h r.0 n held (omega arith) r.2
@@ -205,5 +196,5 @@ module _ (program : Program) (names : List Name) (H : ℕ → List Bool) (end : 
   pub rest_holds : (body : List Stmt) (held : List Bool) → OneEach names held → Tells 0 (traced_all program names body held).befores → NoLoss (traced_all program names body held) → IsWithin (H end) (traced_all program names body held).after
       → (w : ℕ) → Some_held (rest_at body w)
   rest_holds body held each tells kept h w =
-      subst (λ (ss : List Stmt). Tells 0 (traced_all program names ss held).befores → NoLoss (traced_all program names ss held) → IsWithin (H end) (traced_all program names ss held).after → Some_held (rest_among ss 0 [] w)) (map_same body)
+      subst (λ (ss : List Stmt). Tells 0 (traced_all program names ss held).befores → NoLoss (traced_all program names ss held) → IsWithin (H end) (traced_all program names ss held).after → Some_held (rest_among ss 0 [] w)) (map-id body)
       (λ t n g. among_finds body (λ (s : Stmt). s) finds 0 [] w held each t n g) tells kept h

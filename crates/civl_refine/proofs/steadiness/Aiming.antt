@@ -1,9 +1,10 @@
 -- What has to be kept, and the target of a condition.
 use Rattle.std.specs.Prelude.{not, map, get_or, slice_get, All}
 use Rattle.std.specs.Option.{option_map_or}
-use Rattle.std.proofs.Common.{◌≡◌, ◌∙◌, ℕ, Bool, true, false, ◌&&◌, List, [], length, refl, sym, ap, Option, Some, None}
+use Rattle.std.proofs.Common.{◌≡◌, ◌∙◌, ℕ, true, false, ◌&&◌, List, [], length, refl, sym, ap, Option, Some, None}
 use Rattle.std.proofs.lemmas.List.{length-map}
 use Rattle.std.proofs.lemmas.List.Elements.{All-nil}
+use Rattle.std.proofs.Math.Bool.{not-not}
 use Rattle.civl_bits.specs.declared.value.Value.{Value}
 use Rattle.civl_tree.specs.declared.expr.Expr.{Expr}
 use Rattle.civl_tree.specs.declared.expr.Sort.TheVariants.{Bool as Truth, Word}
@@ -35,14 +36,10 @@ use Rattle.civl_refine.specs.declared.steadiness.kept.Kept.{Kept}
 use Rattle.civl_refine.specs.declared.steadiness.kept.Kept.TheVariants.{Invariant, Yield}
 use Rattle.civl_refine.specs.steadiness.Kept.{IsTarget, CanKeep, SaysOther, WordsWithin, other_at, is_lost, words_of, word_ids, words_count, kept_weight}
 
-not_not : (a : Bool) → a ≡ not (not a)
-not_not true = refl
-not_not false = refl
-
 -- ---- the target of a condition
 
 pub lost_same : (program : Program) (step : ℕ) (t : Target) (k : Kept) → IsTarget program t k → (values : List Value) (at : ℕ) (g h : Store) → is_lost program step k (other_at k values at) g h ≡ target_lost program step t values at g h
-lost_same program step (target.Invariant i) (Invariant j) e values at g h = sym (not_not (invariant_lost program step j h)) ∙ ap (λ (n : ℕ). invariant_lost program step n h) e
+lost_same program step (target.Invariant i) (Invariant j) e values at g h = sym (sym (not-not (invariant_lost program step j h))) ∙ ap (λ (n : ℕ). invariant_lost program step n h) e
 lost_same program step (target.Invariant i) (Yield place frame) e values at g h = absurd e
 lost_same program step (target.Yield r y) (Invariant j) e values at g h = absurd e
 lost_same program step (target.Yield r y) (Yield place frame) e values at g h =
@@ -73,7 +70,7 @@ items_same program (target.Yield r y) (Yield place frame) e =
 -- ---- an invariant of the step
 
 pub kept_there : (program : Program) (step place : ℕ) (g : Store) (e : Expr) → invariant_at program step place ≡ Some e → holds_of_globals program g e ≡ not (invariant_lost program step place g)
-kept_there program step place g e at = not_not (holds_of_globals program g e) ∙ sym (ap (λ (o : Option Expr). not (option_map_or (λ d. not (holds_of_globals program g d)) o false)) at)
+kept_there program step place g e at = sym (not-not (holds_of_globals program g e)) ∙ sym (ap (λ (o : Option Expr). not (option_map_or (λ d. not (holds_of_globals program g d)) o false)) at)
 
 pub none_lost : (program : Program) (step place : ℕ) (g : Store) → invariant_at program step place ≡ None → true ≡ not (invariant_lost program step place g)
 none_lost program step place g at = sym (ap (λ (o : Option Expr). not (option_map_or (λ d. not (holds_of_globals program g d)) o false)) at)

@@ -2,6 +2,8 @@
 use Rattle.std.specs.Prelude.{not, map, filter, length, if◌then◌else◌, ◌||◌}
 use Rattle.std.specs.List.{list_all}
 use Rattle.std.proofs.Common.{◌≡◌, ◌∙◌, ℕ, ◌+◌, ◌*◌, ◌≤◌, Bool, true, false, ◌&&◌, List, [], ◌∷◌, ◌++◌, append_assoc, refl, sym, ap, ap₂, arith, Option, Some, None}
+use Rattle.std.proofs.lemmas.List.{append-nil}
+use Rattle.std.proofs.Math.Bool.{and-true, not-not, and-false}
 use Rattle.civl_bits.specs.declared.value.Value.{Value}
 use Rattle.civl_tree.specs.declared.action.Action.{Action}
 use Rattle.civl_tree.specs.declared.program.Proc.{Proc}
@@ -33,14 +35,6 @@ use Rattle.civl_refine.specs.steadiness.Kept.{IsTarget, other_at, is_lost, words
 use Rattle.civl_refine.specs.steadiness.Losing.{act_loses, block_loses, block_lost, kept_at_end, end_weight, apart_too}
 use Rattle.civl_refine.proofs.steadiness.Aiming.{lost_same, owned_same}
 
-true_last : (a : Bool) → (a && true) ≡ a
-true_last true = refl
-true_last false = refl
-
-append_end : {A : Type 0} (xs : List A) → xs ++ [] ≡ xs
-append_end [] = refl
-append_end (x ∷ xs) = ap (λ ys. x ∷ ys) (append_end xs)
-
 -- ---- actions
 
 pub act_tests : (program : Program) (step : ℕ) (k : Kept) (o : Other) (g : Store) (a : Action) (i c : List Value)
@@ -50,7 +44,7 @@ act_tests program step k o g a i c =
     let gs = program.globals in
     ap (λ (b : Bool). invariants_hold program step g && (gate_holds gs g a i && b))
     (ap₂ (λ (ps : List (List ℕ)) (b : Bool). pairwise_disjoint ps && b) (append_assoc (in_store program g) (of_params a.params i) (words_of k o))
-    (ap (λ (b : Bool). guard_holds gs g a i c && b) (true_last (is_lost program step k o g (store_after gs g a i c))) ∙ sym (fires_is program g a i c (λ s. is_lost program step k o g s.0))))
+    (ap (λ (b : Bool). guard_holds gs g a i c && b) (and-true (is_lost program step k o g (store_after gs g a i c))) ∙ sym (fires_is program g a i c (λ s. is_lost program step k o g s.0))))
 
 on_same : {A : Type 0} (o : Option A) (f h : A → Bool) → ((a : A) → f a ≡ h a) → on_some o f ≡ on_some o h
 on_same None f h e = refl
@@ -65,11 +59,7 @@ act_is program step t k e values at g x =
 -- ---- the end of a block
 
 pub kept_same : (g b x y : Bool) → (g ≡ true → x ≡ y) → (not g || (not b || x)) ≡ not (g && (b && not y))
-kept_same true true x y e = e refl ∙ not_not y
-  where
-    not_not : (a : Bool) → a ≡ not (not a)
-    not_not true = refl
-    not_not false = refl
+kept_same true true x y e = e refl ∙ sym (not-not y)
 kept_same true false x y e = refl
 kept_same false b x y e = refl
 
@@ -79,15 +69,7 @@ end_counts false g l e = absurd (cc)
 
 pub end_passes : (b g l f : Bool) → b ≡ false → f ≡ (f && not (g && (b && l)))
 end_passes true g l f e = absurd (cc)
-end_passes false g l f e = sym (true_last f) ∙ ap (λ (x : Bool). f && not x) (sym (never g))
-  where
-    never : (a : Bool) → (a && false) ≡ false
-    never true = refl
-    never false = refl
-
-not_twice : (a : Bool) → not (not a) ≡ a
-not_twice true = refl
-not_twice false = refl
+end_passes false g l f e = sym (and-true f) ∙ ap (λ (x : Bool). f && not x) (sym (and-false g))
 
 -- it is lost where it isn't kept at one of the ends
 pub lost_as : (start : Start) (k : Kept) (b : Begun) (o : Other) (ends : List ℕ) → ArrivesAmong start.proc.now ends (outcome_from start b)
@@ -95,7 +77,7 @@ pub lost_as : (start : Start) (k : Kept) (b : Begun) (o : Other) (ends : List �
 lost_as start k b o ends among =
     let out = outcome_from start b in
     let t : ℕ → Bool = λ end. ends_block start.proc.now end && is_lost start.program.now start.step k o b.old (progress_of out).store in
-    ap not (kept_at_all t ends (arrived start.proc.now out) among) ∙ not_twice (on_some (arrived start.proc.now out) t)
+    ap not (kept_at_all t ends (arrived start.proc.now out) among) ∙ not-not (on_some (arrived start.proc.now out) t)
 
 pub ends_weigh : (start : Start) (w : ℕ) (ends : List ℕ) → summed (map (end_weight start w) ends) ≡ length (filter (ends_block start.proc.now) ends) * (w + 1)
 ends_weigh start w [] = omega arith
@@ -123,7 +105,7 @@ apart_is start (Invariant i) b o =
     (note_holds (note_values start.program.now.globals start.proc.now b.store b.locals b.done b.old b.old_outs b.old_done) (cut_invariant start.proc.now start.cut))
     (b.old_done || refined_gate start.program.now start.proc.now b) (not b.old_done || b.done)
     (pairwise_disjoint (owned start.program.now start.proc.now start.number b)) (block_lost start (Invariant i) b o)
-    ∙ ap (λ (ps : List (List ℕ)). assumed start.program.now start.step start.proc.now start.number start.cut b && (pairwise_disjoint ps && block_lost start (Invariant i) b o)) (sym (append_end (owned start.program.now start.proc.now start.number b)))
+    ∙ ap (λ (ps : List (List ℕ)). assumed start.program.now start.step start.proc.now start.number start.cut b && (pairwise_disjoint ps && block_lost start (Invariant i) b o)) (sym (append-nil (owned start.program.now start.proc.now start.number b)))
 
 end_same : (proc : Proc) (out : Outcome) (f h : Progress → Bool) → f (progress_of out) ≡ h (progress_of out) → at_block_end proc out f ≡ at_block_end proc out h
 end_same proc out f h e = on_same (arrived proc out) (λ end. ends_block proc end && f (progress_of out)) (λ end. ends_block proc end && h (progress_of out)) (λ end. ap (λ (x : Bool). ends_block proc end && x) e)

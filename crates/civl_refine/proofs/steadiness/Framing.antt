@@ -1,7 +1,7 @@
 -- The variables of another thread's frame.
 use Rattle.std.specs.Prelude.{map, slice_get, IsTrue}
 use Rattle.std.proofs.Common.{◌≡◌, ◌∙◌, ℕ, ◌+◌, ◌≤◌, Bool, true, false, List, [], ◌∷◌, ◌++◌, length, append_assoc, refl, sym, ap, ap₂, subst, arith, Some}
-use Rattle.std.proofs.lemmas.List.{length-map, length-append, map-append}
+use Rattle.std.proofs.lemmas.List.{length-map, length-append, map-append, append-nil}
 use Rattle.std.proofs.lemmas.List.Elements.{All-nil, All-cons}
 use Rattle.civl_bits.specs.declared.value.Value.{Value}
 use Rattle.civl_firing.specs.values.Values.{is_sort, is_true}
@@ -102,13 +102,9 @@ others_weigh program r y proc at = bits_same (other_variables program (target.Yi
 
 -- ---- where they stand
 
-append_end : {A : Type 0} (xs : List A) → xs ++ [] ≡ xs
-append_end [] = refl
-append_end (x ∷ xs) = ap (λ ys. x ∷ ys) (append_end xs)
-
 pub last_stand : (sorts front group : List Sort) → sorts ≡ front ++ group → StandFrom sorts (length front) group
 last_stand sorts front group e =
-    let whole : StandFrom sorts 0 (front ++ group) = record { rest = []; within = omega arith; is = e ∙ sym (append_end (front ++ group)) } in
+    let whole : StandFrom sorts 0 (front ++ group) = record { rest = []; within = omega arith; is = e ∙ sym (append-nil (front ++ group)) } in
     let here : 0 + length front ≡ length front = omega arith in
     subst (λ (n : ℕ). StandFrom sorts n group) here (stand_past sorts 0 front group (length front) refl whole)
 

@@ -1,16 +1,19 @@
 -- What lists of terms say stays true while the graph grows, and lists of values are the same one by one.
 use Rattle.std.specs.Prelude.{map, take, slice_index_or, IsSome, if◌then◌else◌}
 use Rattle.std.proofs.lemmas.List.{map-append}
-use Rattle.std.proofs.Common.{◌≡◌, ◌∙◌, ℕ, zero, suc, ◌+◌, ◌<◌, Bool, true, false, ◌&&◌, List, [], ◌∷◌, ◌++◌, length, refl, sym, ap, ap₂, subst, arith, Option, Some, None}
+use Rattle.std.proofs.Common.{◌≡◌, ◌∙◌, ℕ, zero, suc, ◌+◌, ◌<◌, Bool, ◌&&◌, List, [], ◌∷◌, ◌++◌, length, refl, sym, ap, ap₂, subst, arith, Option, Some, None}
 use Rattle.civl_bits.specs.declared.value.Value.{Value}
 use Rattle.civl_bits.specs.Value.{same_value}
-use Rattle.std.proofs.lemmas.Bool.{false≢true, eq-eqb}
+use Rattle.std.proofs.lemmas.Bool.{false≢true}
+use Rattle.std.proofs.Math.Bool.{and_assoc, and-true}
 use Rattle.civl_tree.specs.declared.expr.Sort.{Sort}
-use Rattle.civl_tree.specs.declared.expr.Sort.TheVariants.{Bool as Truth, Word, Row}
+use Rattle.civl_tree.specs.declared.expr.Sort.TheVariants.{Bool as Truth}
 use Rattle.civl_tree.specs.declared.expr.Two.TheVariants.{Eq}
-use Rattle.civl_tree.specs.rules.Sorts.{same_sort, two_sort, truth_over}
+use Rattle.civl_tree.specs.rules.Sorts.{two_sort, truth_over}
+use Rattle.civl_tree.proofs.Lists.{heads}
 use Rattle.civl_firing.specs.values.Operators.{two_value}
 use Rattle.civl_firing.specs.values.Weights.{bits_in, two_weight}
+use Rattle.civl_firing.proofs.SortLimits.{same_self}
 use Rattle.civl_terms.specs.declared.node.Node.{Node}
 use Rattle.civl_terms.specs.Graphs.{value_at, sort_at}
 use Rattle.civl_terms.specs.Building.{Lengthens, Grows, Built}
@@ -23,9 +26,6 @@ use Rattle.civl_conditions.specs.Values.{same_values}
 use Rattle.civl_actions.proofs.Staying.{sorted_within}
 
 -- ---- while the graph gets longer
-
-heads : (a b : Option Sort) (os ps : List (Option Sort)) → a ∷ os ≡ b ∷ ps → (a ≡ b) × (os ≡ ps)
-heads a b os ps e = (cc, cc)
 
 sort_after : (old new : List Node) (i : ℕ) (s : Sort) → Lengthens old new → sort_at old i ≡ Some s → sort_at new i ≡ Some s
 sort_after old new i s g e = g.sorts i (sorted_within old i s e) ∙ e
@@ -110,20 +110,12 @@ alike_long ns (a ∷ xs) (b ∷ ys) (s ∷ ss) p q =
     let i = heads (sort_at ns b) (Some s) (map (sort_at ns) ys) (map (λ (t : Sort). Some t) ss) q in
     ap (λ (n : ℕ). suc n) (alike_long ns xs ys ss h.1 i.1)
 
-and_assoc : (a b c : Bool) → ((a && b) && c) ≡ (a && (b && c))
-and_assoc true b c = refl
-and_assoc false b c = refl
-
 -- one more place is compared
 same_next : (f : ℕ → Value) (xs ys : List ℕ) (k : ℕ) → length xs ≡ length ys → k < length xs
     → (same_values (map f (take k xs)) (map f (take k ys)) && same_value (f (slice_index_or xs k 0)) (f (slice_index_or ys k 0))) ≡ same_values (map f (take (suc k) xs)) (map f (take (suc k) ys))
 same_next f [] ys k e l = absurd (omega arith)
 same_next f (a ∷ xs) [] k e l = absurd (omega (arith, e))
-same_next f (a ∷ xs) (b ∷ ys) zero e l = sym (and_true (same_value (f a) (f b)))
-  where
-    and_true : (x : Bool) → (x && true) ≡ x
-    and_true true = refl
-    and_true false = refl
+same_next f (a ∷ xs) (b ∷ ys) zero e l = sym (and-true (same_value (f a) (f b)))
 same_next f (a ∷ xs) (b ∷ ys) (suc k) e l =
     and_assoc (same_value (f a) (f b)) (same_values (map f (take k xs)) (map f (take k ys))) (same_value (f (slice_index_or xs k 0)) (f (slice_index_or ys k 0)))
     ∙ ap (λ (x : Bool). same_value (f a) (f b) && x) (same_next f xs ys k (omega (arith, e)) (omega (arith, l)))
@@ -145,11 +137,6 @@ bits_next ns xs k l =
     subst (λ (n : ℕ). bits_at ns (take n xs) ≡ bits_at ns (take k xs) + bits_in (sort_at ns (slice_index_or xs k 0))) one (bits_suc ns xs k l)
 
 -- ---- equality of two terms
-
-same_self : (s : Sort) → same_sort s s ≡ true
-same_self Truth = refl
-same_self (Word w) = eq-eqb w w refl
-same_self (Row i w) = ap₂ (λ (a b : Bool). a && b) (eq-eqb i i refl) (eq-eqb w w refl)
 
 pub eq_sort : (o p : Option Sort) → IsSome o → p ≡ o → two_sort Eq o p ≡ Some Truth
 eq_sort None p h e = absurd (false≢true h)

@@ -11,6 +11,7 @@ use Rattle.std.proofs.lemmas.Nat.Bits.{bit_at-lt, bit_at-zero, bit_at-pow_same, 
 use Rattle.std.proofs.lemmas.List.Elements.{All-nil, All-cons, All-head, All-tail, All-append, All-weaker}
 use Rattle.std.proofs.lemmas.List.Folds.{list_all-append, list_any-append}
 use Rattle.std.proofs.lemmas.List.Concat.{flat_map-append}
+use Rattle.std.proofs.Math.Bool.{or-false}
 use Rattle.civl_bits.specs.declared.value.Value.{Value}
 use Rattle.civl_bits.specs.declared.value.Value.TheVariants as value
 use Rattle.civl_bits.specs.Word.{bitwise_and_at, bitwise_or_at, left_shift_at}
@@ -18,19 +19,12 @@ use Rattle.civl_bits.proofs.Bits.{bitwise_and-lt, bitwise_or-lt, bit_at-bitwise_
 use Rattle.civl_tree.specs.declared.expr.Sort.TheVariants.{Word}
 use Rattle.civl_tree.specs.declared.expr.Two.TheVariants.{BitAnd, BitOr, Shl, Eq}
 use Rattle.civl_tree.specs.rules.Sorts.{widen_fits}
+use Rattle.civl_tree.proofs.Bools.{same_truth}
 use Rattle.civl_firing.specs.values.Operators.{nothing, two_value, widen_value}
 use Rattle.civl_firing.specs.values.Values.{HasSort}
 use Rattle.civl_firing.proofs.values.Sorting.{word_of, words_are}
 use Rattle.civl_meaning.specs.Permissions.{set_bits, permissions_of_word, permissions_of_global, disjoint, pairwise_disjoint}
 use Rattle.civl_states.specs.formula_parts.Masks.{IsMask}
-
--- ---- tests
-
--- two tests are one where each follows from the other
-same_tests : (a b : Bool) → (a ≡ true → b ≡ true) → (b ≡ true → a ≡ true) → a ≡ b
-same_tests true b f g = sym (f refl)
-same_tests false true f g = g refl
-same_tests false false f g = refl
 
 -- ---- permissions in a list
 
@@ -61,11 +55,7 @@ each_below n (p ∷ ps) h q e = elim (or_cases (nat_eq q p) (list_any (nat_eq q)
 
 -- so many bits, and one more
 one_bit : (t : Bool) (w q : ℕ) → list_any (nat_eq q) (if t then w ∷ [] else []) ≡ (t && nat_eq q w)
-one_bit true w q = or_none (nat_eq q w)
-  where
-    or_none : (a : Bool) → (a || false) ≡ a
-    or_none true = refl
-    or_none false = refl
+one_bit true w q = or-false (nat_eq q w)
 one_bit false w q = refl
 
 bits_more : (w a q : ℕ) → list_any (nat_eq q) (set_bits (suc w) a) ≡ (list_any (nat_eq q) (set_bits w a) || (nat_eq (bit_at a w) 1 && nat_eq q w))
@@ -179,7 +169,7 @@ module _ (w a b : ℕ) (ps qs : List ℕ) (first : IsAt w a ps) (second : IsAt w
   both_at q l = bit_at-bitwise_and w a b q l
 
   none_shared : nat_eq (bitwise_and_at w a b) 0 ≡ disjoint ps qs
-  none_shared = same_tests (nat_eq (bitwise_and_at w a b) 0) (disjoint ps qs)
+  none_shared = same_truth (nat_eq (bitwise_and_at w a b) 0) (disjoint ps qs)
       (λ e. all_pass (λ p. not (list_any (nat_eq p) qs)) ps (λ q at.
       let l : q < w = each_below w ps within q at in
       let none : min (bit_at a q) (bit_at b q) ≡ 0 = sym (both_at q l) ∙ ap (λ n. bit_at n q) (eqb-true (bitwise_and_at w a b) 0 e) ∙ bit_at-zero q in
@@ -197,7 +187,7 @@ module _ (w a b : ℕ) (ps qs : List ℕ) (first : IsAt w a ps) (second : IsAt w
       ]
 
   all_shared : nat_eq (bitwise_and_at w a b) a ≡ list_all (λ p. list_any (nat_eq p) qs) ps
-  all_shared = same_tests (nat_eq (bitwise_and_at w a b) a) (list_all (λ p. list_any (nat_eq p) qs) ps)
+  all_shared = same_truth (nat_eq (bitwise_and_at w a b) a) (list_all (λ p. list_any (nat_eq p) qs) ps)
       (λ e. all_pass (λ p. list_any (nat_eq p) qs) ps (λ q at.
       let l : q < w = each_below w ps within q at in
       let same : min (bit_at a q) (bit_at b q) ≡ bit_at a q = sym (both_at q l) ∙ ap (λ n. bit_at n q) (eqb-true (bitwise_and_at w a b) a e) in

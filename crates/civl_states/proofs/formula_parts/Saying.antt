@@ -3,6 +3,7 @@ use Rattle.std.specs.Prelude.{All}
 use Rattle.civl_firing.specs.values.Values.{sort_of_value}
 use Rattle.std.proofs.Common.{◌≡◌, ◌∙◌, ℕ, Bool, true, false, ◌&&◌, ◌||◌, not, List, [], ◌∷◌, ◌++◌, refl, sym, ap, ap₂, subst, Some}
 use Rattle.std.proofs.lemmas.List.Elements.{All-nil, All-cons}
+use Rattle.std.proofs.Math.Bool.{and_assoc, and-true, or_assoc, or-false}
 use Rattle.civl_bits.specs.declared.value.Value.{Value}
 use Rattle.civl_bits.specs.declared.value.Value.TheVariants as value
 use Rattle.civl_tree.specs.declared.expr.Sort.{Sort}
@@ -58,16 +59,8 @@ tests_split ns (x ∷ xs) t (f ∷ fs) h =
     let r = tests_split ns xs t fs h.1 in
     (f ∷ r.0, r.1, ap (λ (gs : List (Env → Bool)). f ∷ gs) r.2, (h.0, r.3), r.4)
 
-and_assoc : (a b c : Bool) → ((a && b) && c) ≡ (a && (b && c))
-and_assoc true b c = refl
-and_assoc false b c = refl
-
-and_true : (a : Bool) → (a && true) ≡ a
-and_true true = refl
-and_true false = refl
-
 all_more : (fs : List (Env → Bool)) (g : Env → Bool) (env : Env) → (all_true fs env && g env) ≡ all_true (fs ++ g ∷ []) env
-all_more [] g env = sym (and_true (g env))
+all_more [] g env = sym (and-true (g env))
 all_more (f ∷ fs) g env = and_assoc (f env) (all_true fs env) (g env) ∙ ap (λ (b : Bool). f env && b) (all_more fs g env)
 
 pub all_next : (a : Bool) (fs : List (Env → Bool)) (g : Env → Bool) (env : Env) → ((a && all_true fs env) && g env) ≡ (a && all_true (fs ++ g ∷ []) env)
@@ -85,19 +78,11 @@ all_step old now later first id next t xs so_far grows step f fs h hs =
     (test_as later next (λ env. (f env && all_true r.0 env) && r.1 env) (λ env. f env && all_true (r.0 ++ r.1 ∷ []) env) (λ env. all_next (f env) r.0 r.1 env) both)
 
 pub all_begins : (ns : List Node) (first : ℕ) (f : Env → Bool) (fs : List (Env → Bool)) → IsTest ns first f → AreTests ns [] fs → IsTest ns first (λ env. f env && all_true fs env)
-all_begins ns first f [] h hs = test_as ns first f (λ env. f env && true) (λ env. sym (and_true (f env))) h
+all_begins ns first f [] h hs = test_as ns first f (λ env. f env && true) (λ env. sym (and-true (f env))) h
 all_begins ns first f (g ∷ fs) h hs = absurd hs
 
-or_assoc : (a b c : Bool) → ((a || b) || c) ≡ (a || (b || c))
-or_assoc true b c = refl
-or_assoc false b c = refl
-
-or_false : (a : Bool) → (a || false) ≡ a
-or_false true = refl
-or_false false = refl
-
 any_more : (fs : List (Env → Bool)) (g : Env → Bool) (env : Env) → (some_true fs env || g env) ≡ some_true (fs ++ g ∷ []) env
-any_more [] g env = sym (or_false (g env))
+any_more [] g env = sym (or-false (g env))
 any_more (f ∷ fs) g env = or_assoc (f env) (some_true fs env) (g env) ∙ ap (λ (b : Bool). f env || b) (any_more fs g env)
 
 any_next : (a : Bool) (fs : List (Env → Bool)) (g : Env → Bool) (env : Env) → ((a || some_true fs env) || g env) ≡ (a || some_true (fs ++ g ∷ []) env)
@@ -114,7 +99,7 @@ any_step old now later first id next t xs so_far grows step f fs h hs =
     (test_as later next (λ env. (f env || some_true r.0 env) || r.1 env) (λ env. f env || some_true (r.0 ++ r.1 ∷ []) env) (λ env. any_next (f env) r.0 r.1 env) either)
 
 pub any_begins : (ns : List Node) (first : ℕ) (f : Env → Bool) (fs : List (Env → Bool)) → IsTest ns first f → AreTests ns [] fs → IsTest ns first (λ env. f env || some_true fs env)
-any_begins ns first f [] h hs = test_as ns first f (λ env. f env || false) (λ env. sym (or_false (f env))) h
+any_begins ns first f [] h hs = test_as ns first f (λ env. f env || false) (λ env. sym (or-false (f env))) h
 any_begins ns first f (g ∷ fs) h hs = absurd hs
 
 -- a constant

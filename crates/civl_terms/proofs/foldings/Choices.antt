@@ -1,7 +1,7 @@
 -- Foldings of choices keep values.
 use Rattle.std.specs.Prelude.{◌&&◌, if◌then◌else◌}
 use Rattle.std.proofs.Common.{◌≡◌, ◌∙◌, Bool, true, false, refl, sym, ap, subst, Option, Some, None}
-use Rattle.std.proofs.lemmas.Bool.{false≢true}
+use Rattle.std.proofs.lemmas.Bool.{false≢true, and_parts}
 use Rattle.civl_bits.specs.Value.{same_value}
 use Rattle.civl_bits.specs.declared.value.Value.{Value}
 use Rattle.civl_bits.specs.declared.value.Value.TheVariants as value
@@ -10,7 +10,7 @@ use Rattle.civl_tree.specs.declared.expr.Sort.TheVariants.{Bool as Truth, Word, 
 use Rattle.civl_tree.specs.rules.Sorts.{pick_sort, is_truth}
 use Rattle.civl_firing.specs.values.Operators.{pick_value}
 use Rattle.civl_firing.specs.values.Values.{is_true}
-use Rattle.civl_firing.proofs.values.Sorting.{both, bool_of, a_truth}
+use Rattle.civl_firing.proofs.values.Sorting.{bool_of, a_truth}
 use Rattle.civl_terms.specs.declared.foldings.folded.Folded.TheVariants.{Constant, First, Second, Third}
 use Rattle.civl_terms.specs.foldings.Folding.{when, folded_choice, known_where, folded_pick, IsFolded, IsKnown, AreSame}
 use Rattle.civl_terms.specs.foldings.Laws.{PicksKeepValues}
@@ -47,7 +47,7 @@ choice b x y (Some k) (Some l) f g =
     if_is (same_value k l) (Constant k) (when (is_true k && same_value l (value.Bool false)) First) (if b then x else y) (value.Bool b) x y
     (λ e. both_known b x y k l f g e)
     (when_is (is_true k && same_value l (value.Bool false)) First (if b then x else y) (value.Bool b) x y
-    (λ e. let h = both (is_true k) (same_value l (value.Bool false)) e in bools b x y k l f g (true_is k h.0) ((same_is_equality l (value.Bool false)).0 h.1)))
+    (λ e. let h = and_parts (is_true k) (same_value l (value.Bool false)) e in bools b x y k l f g (true_is k h.0) ((same_is_equality l (value.Bool false)).0 h.1)))
 
 known : (b test is_test : Bool) (o : Option Value) (x : Value) → IsKnown o x → AreSame is_test x (value.Bool b) → Where test b (known_where test is_test o) x
 known b test true o x k h e = h refl ∙ ap (λ (c : Bool). value.Bool c) e

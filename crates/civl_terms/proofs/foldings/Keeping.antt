@@ -1,7 +1,8 @@
 -- Foldings of operations with two operands keep values.
 use Rattle.std.specs.Prelude.{not, ◌&&◌, ◌||◌, if◌then◌else◌}
 use Rattle.std.proofs.Common.{rules, ◌≡◌, ◌∙◌, ◌≤◌, ℕ, ◌^◌, ◌<◌, Bool, true, false, refl, sym, ap, ap₂, subst, Option, Some, None}
-use Rattle.std.proofs.lemmas.Bool.{false≢true, le-leb}
+use Rattle.std.proofs.lemmas.Bool.{false≢true, le-leb, and_parts}
+use Rattle.std.proofs.lemmas.Option.{same_Some}
 use Rattle.civl_bits.specs.Word.{IsWord, sum_at, difference_at, product_at, quotient_at, remainder_at, bitwise_and_at, bitwise_or_at, bitwise_xor_at, left_shift_at, right_shift_at, arithmetic_right_shift_at}
 use Rattle.civl_bits.specs.ValueLaws.{SameValueIsEquality}
 use Rattle.civl_bits.specs.declared.value.Value.{Value}
@@ -14,7 +15,7 @@ use Rattle.civl_tree.specs.rules.Sorts.{two_sort, words_sort, truths_sort, truth
 use Rattle.civl_firing.specs.values.Operators.{on_words, test_words, on_bools, two_value, is_less, is_less_or_same, is_signed_less, is_signed_less_or_same, implies}
 use Rattle.civl_tree.specs.rules.Exprs.{is_width}
 use Rattle.civl_firing.specs.values.Values.{HasSort}
-use Rattle.civl_firing.proofs.values.Sorting.{both, Given, if_some, common, a_word, a_truth, over, bool_of, word_of, two_words, words_are, tests_are}
+use Rattle.civl_firing.proofs.values.Sorting.{Given, if_some, common, a_word, a_truth, over, bool_of, word_of, two_words, words_are, tests_are}
 use Rattle.civl_terms.specs.declared.foldings.folded.Folded.{Folded}
 use Rattle.civl_terms.specs.foldings.Folding.{when, with_itself, after_constant, before_constant, IsFolded, AreSame}
 use Rattle.civl_terms.specs.foldings.Laws.{TwosKeepValues}
@@ -54,12 +55,9 @@ module _ (third : Value) where
   alike s t u e =
       let o = over (common_sort (Some s) (Some t)) u e in
       let c = common (Some s) (Some t) o.0 o.1 in
-      let p : s ≡ o.0 = some s o.0 c.0 in
-      let q : t ≡ o.0 = some t o.0 c.1 in
+      let p : s ≡ o.0 = same_Some s o.0 c.0 in
+      let q : t ≡ o.0 = same_Some t o.0 c.1 in
       p ∙ sym q
-    where
-      some : (a b : Sort) → Some a ≡ Some b → a ≡ b
-      some a b e = cc
 
   -- operands of a connective are bools
   bools : (g : Value → Value → Folded) (f : Bool → Bool → Bool) (s t u : Sort) (x y : Value)
@@ -68,7 +66,7 @@ module _ (third : Value) where
       → IsFolded (g x y) (on_bools f x y) x y third
   bools g f s t u x y e hx hy h =
       let i = if_some (is_truth (Some s) && is_truth (Some t)) sort.Bool u e in
-      let j = both (is_truth (Some s)) (is_truth (Some t)) i.0 in
+      let j = and_parts (is_truth (Some s)) (is_truth (Some t)) i.0 in
       let a = bool_of x (given s x hx sort.Bool (a_truth (Some s) j.0)) in
       let b = bool_of y (given t y hy sort.Bool (a_truth (Some t) j.1)) in
       subst (λ (v : Value). IsFolded (g v y) (on_bools f v y) v y third) (sym a.1)
@@ -246,7 +244,7 @@ module _ (third : Value) where
   truth : (s t u : Sort) (x : Value) → truths_sort (Some s) (Some t) ≡ Some u → HasSort x s → (b : Bool) × (x ≡ value.Bool b)
   truth s t u x e hx =
       let i = if_some (is_truth (Some s) && is_truth (Some t)) sort.Bool u e in
-      let j = both (is_truth (Some s)) (is_truth (Some t)) i.0 in
+      let j = and_parts (is_truth (Some s)) (is_truth (Some t)) i.0 in
       bool_of x (given s x hx sort.Bool (a_truth (Some s) j.0))
 
   itself_is : (op : Two) (s t u : Sort) (x : Value) → two_sort op (Some s) (Some t) ≡ Some u → HasSort x s → IsFolded (with_itself op (Some s)) (two_value op x x) x x third

@@ -1,7 +1,7 @@
 -- Foldings of reads and writes keep values.
 use Rattle.std.specs.Prelude.{nat_eq, ◌&&◌, if◌then◌else◌}
 use Rattle.std.proofs.Common.{rules, ◌≡◌, ◌∙◌, ℕ, zero, suc, ◌+◌, ◌^◌, ◌<◌, Bool, true, List, [], ◌∷◌, length, get_or, set, refl, sym, ap, ap₂, subst, arith, Option, Some, None}
-use Rattle.std.proofs.lemmas.Bool.{eqb-true, eq-eqb}
+use Rattle.std.proofs.lemmas.Bool.{eqb-true, eq-eqb, and_parts}
 use Rattle.std.proofs.lemmas.List.{get_or-replicate, set-get_or}
 use Rattle.civl_bits.specs.Row.{Cells, IsRow, filled_row, cell_at, row_with}
 use Rattle.civl_bits.specs.Value.{same_value}
@@ -13,7 +13,7 @@ use Rattle.civl_tree.specs.declared.expr.Sort.TheVariants.{Bool as Truth, Word, 
 use Rattle.civl_tree.specs.rules.Sorts.{get_sort, set_sort, is_word}
 use Rattle.civl_firing.specs.values.Operators.{one_value, get_value, set_value, fill_value, slice_value, widen_value, join_value}
 use Rattle.civl_firing.specs.values.Values.{HasSort}
-use Rattle.civl_firing.proofs.values.Sorting.{both, if_some, of_width, word_of, row_of}
+use Rattle.civl_firing.proofs.values.Sorting.{if_some, of_width, word_of, row_of}
 use Rattle.civl_terms.specs.declared.foldings.folded.Folded.TheVariants.{Constant, First, Second}
 use Rattle.civl_terms.specs.foldings.Constants.{is_filled, first_cell, is_identity, counts_from}
 use Rattle.civl_terms.specs.foldings.Folding.{when, folded_get, folded_fill, folded_slice, folded_widen, folded_join, IsFolded, IsKnown, AreSame}
@@ -27,9 +27,9 @@ same_row_is_equality = search rules
 -- numbers that count from one on
 counted : (k : ℕ) (cs : List ℕ) → counts_from k cs ≡ true → (j : ℕ) → j < length cs → get_or cs j 0 ≡ k + j
 counted k [] e j l = absurd (omega arith)
-counted k (c ∷ cs) e zero l = let b = both (nat_eq c k) (counts_from (k + 1) cs) e in omega (arith, eqb-true c k b.0)
+counted k (c ∷ cs) e zero l = let b = and_parts (nat_eq c k) (counts_from (k + 1) cs) e in omega (arith, eqb-true c k b.0)
 counted k (c ∷ cs) e (suc j) l =
-    let b = both (nat_eq c k) (counts_from (k + 1) cs) e in
+    let b = and_parts (nat_eq c k) (counts_from (k + 1) cs) e in
     omega (arith, counted (k + 1) cs b.1 j (omega arith))
 
 filled_cell : (r : Cells) (n : ℕ) → is_filled (value.Row r) ≡ true → n < 2 ^ r.index → cell_at r n ≡ cell_at r 0
@@ -39,7 +39,7 @@ filled_cell r n e l =
 
 identity_cell : (r : Cells) (n : ℕ) → IsRow r → is_identity (value.Row r) ≡ true → n < 2 ^ r.index → (cell_at r n ≡ n) × (r.index ≡ r.width)
 identity_cell r n h e l =
-    let b = both (nat_eq r.index r.width) (counts_from 0 r.cells) e in
+    let b = and_parts (nat_eq r.index r.width) (counts_from 0 r.cells) e in
     let c : get_or r.cells n 0 ≡ 0 + n = counted 0 r.cells b.1 n (omega (arith, h.size)) in
     let z : 0 + n ≡ n = omega arith in
     (c ∙ z, eqb-true r.index r.width b.0)
@@ -110,7 +110,7 @@ record Write (i w : ℕ) (x y z : Value) : Type 0 where
 write : (i w : ℕ) (t u v : Sort) (x y z : Value) → set_sort (Some (Row i w)) (Some t) (Some u) ≡ Some v → HasSort x (Row i w) → HasSort y t → HasSort z u → Write i w x y z
 write i w t u v x y z e hx hy hz =
     let k = if_some (is_word i (Some t) && is_word w (Some u)) (Row i w) v e in
-    let j = both (is_word i (Some t)) (is_word w (Some u)) k.0 in
+    let j = and_parts (is_word i (Some t)) (is_word w (Some u)) k.0 in
     let r = row_of x i w hx in
     let n = word_of y i (given t y hy (Word i) (of_width i (Some t) j.0)) in
     let m = word_of z w (given u z hz (Word w) (of_width w (Some u) j.1)) in
@@ -123,7 +123,7 @@ write_is i w x y z h e =
 
 filled_write : (i w : ℕ) (x y z : Value) (h : Write i w x y z) → (is_filled x && same_value (first_cell x) z) ≡ true → set_value x y z ≡ x
 filled_write i w x y z h e =
-    let b = both (is_filled x) (same_value (first_cell x) z) e in
+    let b = and_parts (is_filled x) (same_value (first_cell x) z) e in
     let f : is_filled (value.Row h.array) ≡ true = subst (λ (v : Value). is_filled v ≡ true) h.is_row b.0 in
     let c : first_cell (value.Row h.array) ≡ value.Word (w, h.cell) = ap first_cell (sym h.is_row) ∙ (same_is_equality (first_cell x) z).0 b.1 ∙ h.is_cell in
     let d : cell_at h.array 0 ≡ h.cell = number c in
@@ -138,7 +138,7 @@ filled_write i w x y z h e =
 
 identity_write : (i w : ℕ) (x y z : Value) (h : Write i w x y z) (same : Bool) → AreSame same y z → (is_identity x && same) ≡ true → set_value x y z ≡ x
 identity_write i w x y z h same s e =
-    let b = both (is_identity x) same e in
+    let b = and_parts (is_identity x) same e in
     let f : is_identity (value.Row h.array) ≡ true = subst (λ (v : Value). is_identity v ≡ true) h.is_row b.0 in
     let k = identity_cell h.array h.at h.fits f h.within in
     let c : value.Word (i, h.at) ≡ value.Word (w, h.cell) = sym h.is_at ∙ s b.1 ∙ h.is_cell in

@@ -6,7 +6,7 @@ use Rattle.std.proofs.lemmas.Int.{ints}
 use Rattle.std.proofs.lemmas.Nat.{pow_pos}
 use Rattle.std.proofs.Math.Nat.{pow-suc}
 use Rattle.civl_bits.specs.Word.{signed_at}
-use Rattle.civl_bits.proofs.SignedOrder.{signed_at-clear, signed_at-set}
+use Rattle.civl_bits.proofs.SignedOrder.{signed_at-clear, signed_at-set, above_negative}
 
 pub doubled : (w : ℕ) → 1 ≤ w → 2 ^ w ≡ 2 ^ (w - 1) * 2
 doubled w h = let e : w ≡ (w - 1) + 1 = omega arith in ap (λ k. 2 ^ k) e ∙ grow (w - 1)
@@ -16,9 +16,6 @@ doubled w h = let e : w ≡ (w - 1) + 1 = omega arith in ap (λ k. 2 ^ k) e ∙ 
 
 clear_clear : (a b : ℕ) → b ≤ a → int_lt (pos a) (pos b) ≡ false
 clear_clear a b h = grind (arith, ints)
-
-clear_set : (a b p : ℕ) → b < p → int_lt (pos a) (pos b -ℤ pos p) ≡ false
-clear_set a b p h = grind (arith, ints)
 
 set_set : (a b p : ℕ) → a < p → b < p → b ≤ a → int_lt (pos a -ℤ pos p) (pos b -ℤ pos p) ≡ false
 set_set a b p h k l = grind (arith, ints)
@@ -38,7 +35,7 @@ greatest_first w m n e h =
     let c : m < 2 ^ (w - 1) = omega (arith, e, pow_pos (w - 1)) in
     elim (cases_lt n (2 ^ (w - 1))) [
       | inl l ↦ ap₂ int_lt (signed_at-clear w m c) (signed_at-clear w n l) ∙ clear_clear m n (omega (arith, e, l))
-      | inr g ↦ ap₂ int_lt (signed_at-clear w m c) (signed_at-set w n g) ∙ clear_set m n (2 ^ w) h
+      | inr g ↦ ap₂ int_lt (signed_at-clear w m c) (signed_at-set w n g) ∙ above_negative m n (2 ^ w) h
     ]
 
 pub greatest_second : (w m n : ℕ) → n ≡ 2 ^ (w - 1) - 1 → m < 2 ^ w → int_le (signed_at w m) (signed_at w n) ≡ true
@@ -54,7 +51,7 @@ pub least_second : (w m n : ℕ) → n ≡ 2 ^ (w - 1) → m < 2 ^ w → n < 2 ^
 least_second w m n e h k =
     let c : 2 ^ (w - 1) ≤ n = omega (arith, e) in
     elim (cases_lt m (2 ^ (w - 1))) [
-      | inl l ↦ ap₂ int_lt (signed_at-clear w m l) (signed_at-set w n c) ∙ clear_set m n (2 ^ w) k
+      | inl l ↦ ap₂ int_lt (signed_at-clear w m l) (signed_at-set w n c) ∙ above_negative m n (2 ^ w) k
       | inr g ↦ ap₂ int_lt (signed_at-set w m g) (signed_at-set w n c) ∙ set_set m n (2 ^ w) h k (omega (arith, e, g))
     ]
 

@@ -1,7 +1,7 @@
 -- What a folding of an operation on two words says, operator by operator.
-use Rattle.std.specs.Prelude.{nat_eq, ◌||◌, if◌then◌else◌}
-use Rattle.std.proofs.Common.{◌≡◌, ◌∙◌, ◌⊎◌, ℕ, ◌-◌, ◌^◌, ◌<◌, ◌≤◌, Bool, true, false, refl, ap, Some, inl, inr}
-use Rattle.std.proofs.lemmas.Bool.{eqb-true, leb-true}
+use Rattle.std.specs.Prelude.{nat_eq, if◌then◌else◌}
+use Rattle.std.proofs.Common.{◌≡◌, ◌∙◌, ℕ, ◌-◌, ◌^◌, ◌<◌, ◌≤◌, Bool, true, false, refl, ap, Some, inl, inr}
+use Rattle.std.proofs.lemmas.Bool.{eqb-true, leb-true, and_parts, or_cases}
 use Rattle.civl_bits.specs.Word.{sum_at, difference_at, product_at, quotient_at, remainder_at, bitwise_and_at, bitwise_or_at, bitwise_xor_at, left_shift_at, right_shift_at, arithmetic_right_shift_at}
 use Rattle.civl_bits.specs.declared.value.Value.{Value}
 use Rattle.civl_bits.specs.declared.value.Value.TheVariants as value
@@ -11,7 +11,6 @@ use Rattle.civl_tree.specs.declared.expr.Sort.TheVariants as sort
 use Rattle.civl_firing.specs.values.Operators.{is_less, is_less_or_same, is_signed_less, is_signed_less_or_same}
 use Rattle.civl_tree.specs.rules.Exprs.{is_width}
 use Rattle.civl_firing.specs.values.Values.{zero_of}
-use Rattle.civl_firing.proofs.values.Sorting.{both}
 use Rattle.civl_terms.specs.declared.foldings.folded.Folded.{Folded}
 use Rattle.civl_terms.specs.foldings.Folding.{when, with_itself, after_constant, before_constant, IsFolded}
 use Rattle.civl_terms.proofs.foldings.Numbers.{zero_plus, plus_zero, minus_zero, minus_itself, plus_itself, zero_minus, zero_times, times_zero, one_times, times_one, times_itself, zero_left, left_zero, left_past, left_itself, zero_right, right_zero, right_past, right_itself, by_zero, by_one, one_by, by_itself, left_of_zero, left_by_zero, left_by_one, left_by_itself, none_below_zero, none_above_ones, zero_least, ones_greatest, not_below_itself, at_most_itself}
@@ -27,10 +26,6 @@ when_is false f r x y z h = tt
 pub if_is : (b : Bool) (f g : Folded) (r x y z : Value) → (b ≡ true → IsFolded f r x y z) → IsFolded g r x y z → IsFolded (if b then f else g) r x y z
 if_is true f g r x y z h k = h refl
 if_is false f g r x y z h k = k
-
-pub either : (a b : Bool) → (a || b) ≡ true → (a ≡ true) ⊎ (b ≡ true)
-either true b e = inl refl
-either false b e = inr e
 
 word : (w a b : ℕ) → a ≡ b → value.Word (w, a) ≡ value.Word (w, b)
 word w a b e = ap (λ (k : ℕ). value.Word (w, k)) e
@@ -55,7 +50,7 @@ module _ (third : Value) where
   add_after w m n p h l = when_is _ _ _ _ _ _ (λ e. word w _ _ (zero_plus w m n (eqb-true m 0 e) l))
 
   pub sub_after : After Sub (OnWords difference_at)
-  sub_after w m n p h l = when_is _ _ _ _ _ _ (λ e. let b = both (nat_eq m 0) (nat_eq w 1) e in word w _ _ (zero_minus w m n (eqb-true m 0 b.0) (eqb-true w 1 b.1) l))
+  sub_after w m n p h l = when_is _ _ _ _ _ _ (λ e. let b = and_parts (nat_eq m 0) (nat_eq w 1) e in word w _ _ (zero_minus w m n (eqb-true m 0 b.0) (eqb-true w 1 b.1) l))
 
   pub mul_after : After Mul (OnWords product_at)
   mul_after w m n p h l =
@@ -82,13 +77,13 @@ module _ (third : Value) where
   shr_after w m n p h l = when_is _ _ _ _ _ _ (λ e. word w _ _ (zero_right w m n (eqb-true m 0 e)))
 
   pub udiv_after : After Udiv (OnWords quotient_at)
-  udiv_after w m n p h l = when_is _ _ _ _ _ _ (λ e. let b = both (nat_eq m 1) (nat_eq w 1) e in word w _ _ (one_by w m n (eqb-true m 1 b.0) (eqb-true w 1 b.1) l))
+  udiv_after w m n p h l = when_is _ _ _ _ _ _ (λ e. let b = and_parts (nat_eq m 1) (nat_eq w 1) e in word w _ _ (one_by w m n (eqb-true m 1 b.0) (eqb-true w 1 b.1) l))
 
   pub urem_after : After Urem (OnWords remainder_at)
   urem_after w m n p h l = when_is _ _ _ _ _ _ (λ e. word w _ _ (left_of_zero w m n (eqb-true m 0 e)))
 
   pub sar_after : After Sar (OnWords arithmetic_right_shift_at)
-  sar_after w m n p h l = when_is _ _ _ _ _ _ (λ e. word w _ _ (elim (either (nat_eq m 0) (nat_eq m (2 ^ w - 1)) e) [
+  sar_after w m n p h l = when_is _ _ _ _ _ _ (λ e. word w _ _ (elim (or_cases (nat_eq m 0) (nat_eq m (2 ^ w - 1)) e) [
     | inl z ↦ zero_sar w m n (eqb-true m 0 z) h
     | inr o ↦ ones_sar w m n (eqb-true m (2 ^ w - 1) o) h
   ]))
@@ -155,7 +150,7 @@ module _ (third : Value) where
       (when_is _ _ _ _ _ _ (λ e. word w _ _ (left_by_one w m n (eqb-true n 1 e))))
 
   pub sar_before : Before Sar (OnWords arithmetic_right_shift_at)
-  sar_before w m n p h l = when_is _ _ _ _ _ _ (λ e. word w _ _ (elim (either (nat_eq n 0) (nat_eq w 1) e) [
+  sar_before w m n p h l = when_is _ _ _ _ _ _ (λ e. word w _ _ (elim (or_cases (nat_eq n 0) (nat_eq w 1) e) [
     | inl z ↦ sar_zero w m n (eqb-true n 0 z) h
     | inr o ↦ sar_narrow w m n (eqb-true w 1 o) h
   ]))

@@ -1,8 +1,9 @@
 -- What the clauses that stand for a term tell of the formula whose term it is.
 use Rattle.std.specs.Prelude.{slice_get, All, IsTrue}
-use Rattle.std.proofs.Common.{◌≡◌, ◌∙◌, ℕ, ◌+◌, ◌*◌, ◌<◌, ◌≤◌, ◌^◌, Bool, true, false, List, length, refl, sym, ap, subst, arith, Some}
+use Rattle.std.proofs.Common.{◌≡◌, ◌∙◌, ℕ, ◌+◌, ◌*◌, ◌<◌, ◌≤◌, ◌^◌, Bool, false, List, length, sym, ap, subst, arith, Some}
 use Rattle.std.proofs.lemmas.List.Elements.{All-from_get_or}
-use Rattle.std.proofs.lemmas.Option.{slice_get-get_or}
+use Rattle.std.proofs.lemmas.Option.{slice_get-get_or, same_Some}
+use Rattle.std.proofs.lemmas.Bool.{false_from_ne_true}
 use Rattle.civl_bits.specs.declared.value.Value.{Value}
 use Rattle.civl_tree.specs.declared.expr.Sort.{Sort}
 use Rattle.civl_firing.specs.values.Values.{HasSort, HaveSorts, is_sort, is_true}
@@ -29,14 +30,6 @@ use Rattle.civl_verdicts.specs.decisions.Answered.{IsAnswered}
 use Rattle.civl_verdicts.specs.declared.decisions.decision.Decision.{Decision}
 use Rattle.civl_verdicts.specs.declared.decisions.decision.Decision.TheVariants.{Never, At, Spent}
 
-same_some : (s t : Sort) → Some s ≡ Some t → s ≡ t
-same_some s t e = cc
-
--- a bool that isn't true
-untrue : (b : Bool) → (b ≡ true → ⊥) → b ≡ false
-untrue true h = absurd (h refl)
-untrue false h = refl
-
 module _ (ns : List Node) (id : ℕ) (sorts : List Sort) (v_is : AreVariablesOf ns sorts) where
   pub fits_listed : (values : List Value) → HaveSorts values sorts → Fits (listed values) ns
   fits_listed values h i k s e = sort_of_place values sorts k s h (v_is i k s e)
@@ -44,7 +37,7 @@ module _ (ns : List Node) (id : ℕ) (sorts : List Sort) (v_is : AreVariablesOf 
   module _ (set : ClauseSet) (places : List Place) (stands : StandsFor ns id set places) (gives : GivesValues ns places) where
     -- refuted clauses: the term is never true
     pub never_true : IsUnsatisfiable set.clauses → (values : List Value) → HaveSorts values sorts → is_true (value_at (listed values) ns id) ≡ false
-    never_true none values h = untrue _ (λ t. let found = (satisfiable_where_true ns id set places gives stands).1 (listed values, fits_listed values h, t) in none found.0 found.1)
+    never_true none values h = false_from_ne_true _ (λ t. let found = (satisfiable_where_true ns id set places gives stands).1 (listed values, fits_listed values h, t) in none found.0 found.1)
 
     module _ (names : NamesCells ns id set.variables places) where
       -- each place is that of a cell of one of the variables
@@ -58,7 +51,7 @@ module _ (ns : List Node) (id : ℕ) (sorts : List Sort) (v_is : AreVariablesOf 
       fit_at env fits = All-from_get_or (λ p. (s : Sort) → slice_get sorts p.variable ≡ Some s → HasSort (env p.variable) s) places (record { variable = 0; cell = 0; first = 0 }) (λ p k s e.
           let d : Place = record { variable = 0; cell = 0; first = 0 } in
           let here = names.only p _ (slice_get-get_or places p d k) in
-          subst (HasSort _) (same_some here.1 s (sym (v_is here.0 _ here.1 here.3) ∙ e)) (fits here.0 _ here.1 here.3))
+          subst (HasSort _) (same_Some here.1 s (sym (v_is here.0 _ here.1 here.3) ∙ e)) (fits here.0 _ here.1 here.3))
 
       -- values that are read from bits that make the clauses true make the term true
       pub true_where_read : (v : ℕ → Bool) (values : List Value) → Satisfies v set.clauses → AreRead sorts places v values → IsTrue (is_true (value_at (listed values) ns id))

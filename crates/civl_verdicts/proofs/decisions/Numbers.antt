@@ -4,7 +4,7 @@ use Rattle.std.proofs.Common.{◌≡◌, ◌∙◌, append_assoc, ℕ, zero, suc
 use Rattle.std.proofs.Math.Seq.{drop-cons}
 use Rattle.std.proofs.Math.Nat.{mul_assoc, mod-lt}
 use Rattle.std.proofs.lemmas.Nat.{mul-add-lt, div-mul-add, mod-mul-add, pow_pos, pow-add}
-use Rattle.std.proofs.lemmas.Bool.{false≢true, leb-true}
+use Rattle.std.proofs.lemmas.Bool.{false≢true, leb-true, and_parts}
 use Rattle.std.proofs.lemmas.List.Elements.{All-head, All-tail}
 use Rattle.std.proofs.lemmas.List.{take_more_set}
 use Rattle.civl_bits.specs.Row.{IsRow}
@@ -15,7 +15,7 @@ use Rattle.civl_tree.specs.declared.expr.Sort.TheVariants as sort
 use Rattle.civl_tree.specs.rules.StoreSize.{bits_of}
 use Rattle.civl_tree.specs.rules.Exprs.{is_width, is_index}
 use Rattle.civl_firing.specs.values.Values.{HasSort, HaveSorts, is_sort}
-use Rattle.civl_firing.proofs.values.Sorting.{both, bool_of, word_of, row_of, is_bool, is_a_word, is_a_row}
+use Rattle.civl_firing.proofs.values.Sorting.{bool_of, word_of, row_of, is_bool, is_a_word, is_a_row}
 use Rattle.civl_symbolic.proofs.Widths.{narrow, wide}
 use Rattle.civl_verdicts.specs.decisions.Numbered.{cells_numbered, value_numbered, values_numbered, bits_together, EachIsNumbered}
 use Rattle.civl_firing.proofs.Having.{no_sorts, more_sorts, first_sort, rest_sorts}
@@ -110,8 +110,8 @@ value_has_sort : (s : Sort) (n : ℕ) → IsTrue (is_sort s) → n < 2 ^ bits_of
 value_has_sort sort.Bool n h l = is_bool (nat_eq n 1)
 value_has_sort (sort.Word w) n h l = is_a_word w n (record { narrow = narrow w h; wide = wide w h; fits = l })
 value_has_sort (sort.Row i w) n h l =
-    let b = both (is_index i) (is_width w) h in
-    let d = both (nat_le 1 i) (nat_le i 6) b.0 in
+    let b = and_parts (is_index i) (is_width w) h in
+    let d = and_parts (nat_le 1 i) (nat_le i 6) b.0 in
     is_a_row (record { index = i; width = w; cells = cells_numbered (2 ^ i) w n }) i w
     (record { low = leb-true 1 i d.0; high = leb-true i 6 d.1; narrow = narrow w b.1; wide = wide w b.1; size = cells_long (2 ^ i) w n; fits = λ j k. cells_fit (2 ^ i) w n j k }) refl refl
 

@@ -14,18 +14,18 @@ use Rattle.civl_states.proofs.Limits.{AreSorts, global_sorts_are, param_sorts_ar
 use Rattle.civl_verdicts.specs.findings.Laws.{VariablesHaveSorts}
 use Rattle.civl_verdicts.proofs.findings.Each.{HoldsOfAll, each_variable}
 
-abbrev IsGood : Variable → Type 0
+abbrev pub IsGood : Variable → Type 0
 IsGood v = IsTrue (is_sort v.sort)
 
 -- from the sorts of declarations to their variables
-of_sorts : {A : Type 0} (name : A → Name) (sort : A → Sort) (front : List ℕ) (xs : List A) → AreSorts (map sort xs) → All IsGood (map (λ x. variable front (name x) (sort x)) xs)
+pub of_sorts : {A : Type 0} (name : A → Name) (sort : A → Sort) (front : List ℕ) (xs : List A) → AreSorts (map sort xs) → All IsGood (map (λ x. variable front (name x) (sort x)) xs)
 of_sorts name sort front [] p = All-nil IsGood
 of_sorts name sort front (x ∷ xs) p =
     let In : Sort → Type 0 = λ s. IsTrue (is_sort s) in
     All-cons IsGood (variable front (name x) (sort x)) _ (All-head In (sort x) (map sort xs) p) (of_sorts name sort front xs (All-tail In (sort x) (map sort xs) p))
 
 -- and to the declarations themselves
-each_of : {A : Type 0} (sort : A → Sort) (xs : List A) → AreSorts (map sort xs) → All (λ x. IsTrue (is_sort (sort x))) xs
+pub each_of : {A : Type 0} (sort : A → Sort) (xs : List A) → AreSorts (map sort xs) → All (λ x. IsTrue (is_sort (sort x))) xs
 each_of sort [] p = All-nil (λ x. IsTrue (is_sort (sort x)))
 each_of sort (x ∷ xs) p =
     let In : Sort → Type 0 = λ s. IsTrue (is_sort s) in

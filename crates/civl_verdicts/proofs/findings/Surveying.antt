@@ -1,14 +1,13 @@
 -- Each program has a survey, and its surveys agree.
-use Rattle.std.specs.Prelude.{map, ◌&&◌}
+use Rattle.std.specs.Prelude.{map}
 use Rattle.std.proofs.Common.{◌≡◌, ◌∙◌, ℕ, zero, suc, ◌^◌, ◌<◌, ◌⊎◌, inl, inr, Bool, true, false, List, [], ◌∷◌, refl, sym, ap, subst, arith, None, Some}
-use Rattle.std.proofs.lemmas.Bool.{false≢true, cases_lt}
+use Rattle.std.proofs.lemmas.Bool.{false≢true, cases_lt, and_parts, and_from}
 use Rattle.civl_bits.specs.declared.value.Value.{Value}
 use Rattle.civl_tree.specs.declared.expr.Sort.{Sort}
 use Rattle.civl_tree.specs.declared.program.Program.{Program}
 use Rattle.civl_tree.specs.rules.Rules.{Keeps}
 use Rattle.civl_tree.specs.rules.Typing.{typing_rules}
 use Rattle.civl_firing.specs.values.Values.{HaveSorts}
-use Rattle.civl_firing.proofs.values.Sorting.{both}
 use Rattle.civl_firing.specs.declared.store.Store.{Store}
 use Rattle.civl_conditions.specs.declared.condition.Condition.{Condition}
 use Rattle.civl_conditions.specs.Listed.{conditions}
@@ -42,13 +41,13 @@ below test (suc bound) = by (test bound) refl (below test bound)
       | inr high ↦ let same : bound ≡ n = omega arith in subst (λ (k : ℕ). test k ≡ false) same e
     ])
 
-abbrev Some_ : List Sort → (List Value → Bool) → Type 0
+abbrev pub Some_ : List Sort → (List Value → Bool) → Type 0
 Some_ sorts truth = (values : List Value) × HaveSorts values sorts × (truth values ≡ true)
 
-abbrev None_ : List Sort → (List Value → Bool) → Type 0
+abbrev pub None_ : List Sort → (List Value → Bool) → Type 0
 None_ sorts truth = (values : List Value) → HaveSorts values sorts → truth values ≡ false
 
-some_or_none : (sorts : List Sort) (truth : List Value → Bool) → AreSorts sorts → Some_ sorts truth ⊎ None_ sorts truth
+pub some_or_none : (sorts : List Sort) (truth : List Value → Bool) → AreSorts sorts → Some_ sorts truth ⊎ None_ sorts truth
 some_or_none sorts truth limits = by (below (λ n. truth (values_numbered sorts n)) (2 ^ bits_together sorts))
   where
     by : ((n : ℕ) × (truth (values_numbered sorts n) ≡ true)) ⊎ ((n : ℕ) → n < 2 ^ bits_together sorts → truth (values_numbered sorts n) ≡ false) → Some_ sorts truth ⊎ None_ sorts truth
@@ -78,14 +77,10 @@ module _ (program : Program) (budget : ℕ) (keeps : Keeps typing_rules program)
       by : Some_ (map (λ g. g.sort) program.globals) (λ values. is_initial program (record { values = values })) ⊎ None_ (map (λ g. g.sort) program.globals) (λ values. is_initial program (record { values = values }))
           → (survey : Survey) × IsSurvey program budget survey
       by (inl some) =
-          let b = both _ _ some.2 in
+          let b = and_parts _ _ some.2 in
           let all = found_all (conditions program) in
           (Findings None all.0, ((record { values = some.0 }, record { store_fits = some.1; init_holds = b.0; disjoint = b.1 }), all.1))
-      by (inr none) = (NoInitial, λ store initial. false≢true (sym (none store.values initial.store_fits) ∙ both_true _ _ initial.init_holds initial.disjoint))
-        where
-          both_true : (a b : Bool) → a ≡ true → b ≡ true → (a && b) ≡ true
-          both_true true b p q = q
-          both_true false b p q = absurd (false≢true p)
+      by (inr none) = (NoInitial, λ store initial. false≢true (sym (none store.values initial.store_fits) ∙ and_from _ _ initial.init_holds initial.disjoint))
 
 pub each_program_has_a_survey : EachProgramHasASurvey
 each_program_has_a_survey program budget keeps = survey_of program budget keeps

@@ -1,21 +1,17 @@
 -- The term that was made is the formula's, and a formula that isn't heavy has few variables.
-use Rattle.std.specs.Prelude.{nat_le, IsTrue, All, map}
-use Rattle.std.proofs.Common.{◌≡◌, ◌∙◌, ℕ, zero, suc, ◌+◌, ◌*◌, ◌^◌, ◌<◌, ◌≤◌, List, [], ◌∷◌, length, refl, sym, ap, arith}
-use Rattle.std.proofs.lemmas.Bool.{leb-true}
+use Rattle.std.specs.Prelude.{IsTrue, All, map}
+use Rattle.std.proofs.Common.{◌≡◌, ◌∙◌, ℕ, ◌+◌, ◌^◌, ◌<◌, ◌≤◌, List, [], ◌∷◌, length, refl, sym, ap, arith}
 use Rattle.std.proofs.lemmas.List.Elements.{All-head, All-tail}
-use Rattle.std.proofs.lemmas.Nat.{pow_pos}
 use Rattle.civl_tree.specs.declared.expr.Sort.{Sort}
-use Rattle.civl_tree.specs.declared.expr.Sort.TheVariants as sort
 use Rattle.civl_tree.specs.declared.program.Global.{Global}
 use Rattle.civl_tree.specs.declared.program.Program.{Program}
-use Rattle.civl_tree.specs.rules.Exprs.{is_width, is_index}
 use Rattle.civl_tree.specs.rules.StoreSize.{bits_of}
 use Rattle.civl_firing.specs.values.Values.{is_sort}
-use Rattle.civl_firing.proofs.values.Sorting.{both}
 use Rattle.civl_conditions.specs.declared.condition.Condition.{Condition}
 use Rattle.civl_conditions.specs.declared.condition.Variable.{Variable}
 use Rattle.civl_conditions.specs.Variables.{variables, of_globals}
 use Rattle.civl_conditions.specs.Weights.{summed, bits_of_variables, weight, initial_weight, weight_limit}
+use Rattle.civl_states.proofs.Weighing.{bits_some}
 use Rattle.civl_verdicts.specs.Formulas.{Formula, initial_formula, violation_formula}
 use Rattle.civl_verdicts.specs.decisions.Decided.{IsTermOf}
 use Rattle.civl_verdicts.specs.declared.judging.formula.Made.{Made}
@@ -24,25 +20,14 @@ use Rattle.civl_verdicts.specs.judging.Made.{IsMade}
 pub made_term : (formula : Formula) (made : Made) (sorts : List Sort) → IsMade formula made → sorts ≡ made.sorts → IsTermOf made.terms made.id sorts formula
 made_term formula made sorts h e = record { same = sym (e ∙ h.sorts); term = h.term; weighs = h.weighs }
 
-one_bit : (s : Sort) → IsTrue (is_sort s) → 1 ≤ bits_of s
-one_bit sort.Bool h = omega arith
-one_bit (sort.Word w) h = leb-true 1 w (both (nat_le 1 w) (nat_le w 32) h).0
-one_bit (sort.Row i w) h =
-    let width = leb-true 1 w (both (nat_le 1 w) (nat_le w 32) (both (is_index i) (is_width w) h).1).0 in
-    by w (2 ^ i) width (pow_pos i)
-  where
-    by : (w p : ℕ) → 1 ≤ w → 0 < p → 1 ≤ w * p
-    by zero p a b = absurd (omega arith)
-    by (suc w) p a b = omega (arith, b)
-
 -- there are no more variables than bits
-few_sorts : (ss : List Sort) → All (λ s. IsTrue (is_sort s)) ss → length ss ≤ summed (map bits_of ss)
+pub few_sorts : (ss : List Sort) → All (λ s. IsTrue (is_sort s)) ss → length ss ≤ summed (map bits_of ss)
 few_sorts [] h = omega arith
 few_sorts (s ∷ ss) h =
     let In : Sort → Type 0 = λ t. IsTrue (is_sort t) in
-    omega (arith, one_bit s (All-head In s ss h), few_sorts ss (All-tail In s ss h))
+    omega (arith, bits_some s (All-head In s ss h), few_sorts ss (All-tail In s ss h))
 
-bits_are : (vs : List Variable) → summed (map bits_of (map (λ v. v.sort) vs)) ≡ bits_of_variables vs
+pub bits_are : (vs : List Variable) → summed (map bits_of (map (λ v. v.sort) vs)) ≡ bits_of_variables vs
 bits_are [] = refl
 bits_are (v ∷ vs) = ap (λ (n : ℕ). bits_of v.sort + n) (bits_are vs)
 

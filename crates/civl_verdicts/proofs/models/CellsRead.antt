@@ -16,16 +16,13 @@ use Rattle.civl_tree.specs.declared.expr.Sort.TheVariants as sort
 use Rattle.civl_firing.specs.values.Values.{HasSort}
 use Rattle.civl_firing.proofs.values.Sorting.{bool_of, word_of, row_of, is_bool, is_a_word, is_a_row}
 use Rattle.civl_cnf.specs.Gates.{bit}
-use Rattle.civl_circuits.proofs.Numbers.{bit-small}
 use Rattle.civl_symbolic.specs.Symbolic.{Shows}
 use Rattle.civl_blast.specs.rows.Cells.{cell_of, cells_in}
+use Rattle.civl_blast.proofs.Reading.{small_bits}
 use Rattle.civl_verdicts.specs.models.Reading.{number_from, with_cell}
 
-small : (v : ℕ → Bool) (first j : ℕ) → bit (v (first + j)) < 2
-small v first j = omega (arith, bit-small (v (first + j)))
-
 pub number_fits : (v : ℕ → Bool) (first width : ℕ) → number_from v first width < 2 ^ width
-number_fits v first width = number_of_bits-lt width (λ j. bit (v (first + j))) (small v first)
+number_fits v first width = number_of_bits-lt width (λ j. bit (v (first + j))) (small_bits v first)
 
 -- one bit more fits a number of 32 bits
 pub room : (v : ℕ → Bool) (first at : ℕ) → at < 32 → number_from v first at + 2 ^ at < 2 ^ 32
@@ -44,7 +41,7 @@ is_word v first width n low high e = record { narrow = low; wide = high; fits = 
 number_shown : (v : ℕ → Bool) (first width n : ℕ) → n < 2 ^ width → ((j : ℕ) → j < width → bit (v (first + j)) ≡ bit_at n j) → number_from v first width ≡ n
 number_shown v first width n l h =
     same_from_bits_below width (number_from v first width) n (number_fits v first width) l
-    (λ i k. bit_at-number_of_bits width (λ j. bit (v (first + j))) (small v first) i k ∙ h i k)
+    (λ i k. bit_at-number_of_bits width (λ j. bit (v (first + j))) (small_bits v first) i k ∙ h i k)
 
 word_shown : (v : ℕ → Bool) (first width n : ℕ) → n < 2 ^ width → Shows v first (value.Word (width, n)) → value.Word (width, number_from v first width) ≡ value.Word (width, n)
 word_shown v first width n l h = ap (λ (m : ℕ). value.Word (width, m)) (number_shown v first width n l h)

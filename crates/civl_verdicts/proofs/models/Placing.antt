@@ -3,6 +3,7 @@ use Rattle.std.specs.Prelude.{slice_get, slice_set, get_or}
 use Rattle.std.proofs.Common.{◌≡◌, ◌∙◌, ℕ, zero, suc, ◌<◌, Bool, List, [], ◌∷◌, length, refl, sym, ap, subst, arith, inl, inr, Some}
 use Rattle.std.proofs.lemmas.Bool.{cases_eq}
 use Rattle.std.proofs.lemmas.List.{get_or-set_same, get_or-set_other}
+use Rattle.std.proofs.lemmas.Option.{same_Some}
 use Rattle.civl_bits.specs.declared.value.Value.{Value}
 use Rattle.civl_tree.specs.declared.expr.Sort.{Sort}
 use Rattle.civl_firing.specs.values.Operators.{nothing}
@@ -58,15 +59,12 @@ sorts_stay v sorts count p values h fit =
     let x = sort_of_place values sorts p.variable h.sort fit h.there in
     sorts_with values sorts p.variable h.sort _ fit h.there (keeps_sort v p.first h.sort (listed values p.variable) p.cell x h.cell)
 
-same_some : (s t : Sort) → Some s ≡ Some t → s ≡ t
-same_some s t e = cc
-
 -- a cell that isn't this one stays
 pub cell_stays : (v : ℕ → Bool) (sorts : List Sort) (count : ℕ) (p : Place) (values : List Value) (k c : ℕ) (s : Sort) → IsCellPlace sorts count p → HaveSorts values sorts
     → slice_get sorts k ≡ Some s → c < cells_in (Some s) → (p.variable ≡ k → p.cell ≡ c → ⊥) → cell_of (listed (placed v p values) k) c ≡ cell_of (listed values k) c
 cell_stays v sorts count p values k c s h fit e l ne = elim (cases_eq k p.variable) [
   | inl same ↦
-      let sorts_same = same_some h.sort s (sym h.there ∙ ap (slice_get sorts) (sym same) ∙ e) in
+      let sorts_same = same_Some h.sort s (sym h.there ∙ ap (slice_get sorts) (sym same) ∙ e) in
       let there = get_or-set_same values p.variable (with_cell v p.first (listed values p.variable) p.cell) nothing (within_values values sorts p.variable h.sort fit h.there) in
       let x = sort_of_place values sorts p.variable h.sort fit h.there in
       ap (λ (j : ℕ). cell_of (listed (placed v p values) j) c) same ∙ ap (λ (z : Value). cell_of z c) there

@@ -3,7 +3,7 @@ use Rattle.std.specs.Prelude.{◌&&◌, not, nat_eq, nat_lt, if◌then◌else◌
 use Rattle.std.specs.Fmt.{digits, digits_onto, digit_glyph}
 use Rattle.std.specs.List.{list_all}
 use Rattle.std.proofs.Common.{◌≡◌, ◌∙◌, ℕ, zero, suc, ◌+◌, ◌/◌, ◌%◌, ◌⊎◌, inl, inr, Bool, true, false, List, [], ◌∷◌, ◌++◌, refl, sym, ap, arith, Option, None, Some}
-use Rattle.std.proofs.lemmas.Bool.{false≢true, and_parts, eqb-true, ltb-true, lt-ltb}
+use Rattle.std.proofs.lemmas.Bool.{false≢true, and_parts, eqb-true, ltb-true, lt-ltb, not-true, ne_eqb}
 use Rattle.std.proofs.Math.Nat.{mod-lt}
 use Rattle.civl_tree.specs.Token.{is_name, is_name_byte, begins_name}
 use Rattle.civl_verdicts.specs.reports.Lines.{EndsLine, HasLineThatBegins}
@@ -71,16 +71,12 @@ all_append p (x ∷ xs) ys h k = let q = and_parts (p x) (list_all p xs) h in by
 pub joined : {xs ys : List ℕ} → IsClean xs → IsClean ys → IsClean (xs ++ ys)
 joined {xs} {ys} h k = record { is = all_append (λ b. not (nat_eq b 10)) xs ys h.is k.is }
 
-not_true : (b : Bool) → not b ≡ true → b ≡ false
-not_true false h = refl
-not_true true h = absurd (false≢true h)
-
 clean_scan : (xs : List ℕ) → is_clean xs ≡ true → scan false xs ≡ Some false
 unfolding scan
 clean_scan [] h = refl
 clean_scan (x ∷ xs) h =
     let p = and_parts (not (nat_eq x 10)) (is_clean xs) h in
-    ap (λ (b : Bool). scan b xs) (not_true (nat_eq x 10) p.0) ∙ clean_scan xs p.1
+    ap (λ (b : Bool). scan b xs) (not-true (nat_eq x 10) p.0) ∙ clean_scan xs p.1
 
 -- a line that begins otherwise
 pub quiet_line : (x : ℕ) (xs : List ℕ) → nat_eq x 97 ≡ false → nat_eq x 10 ≡ false → IsClean xs → IsQuiet (x ∷ (xs ++ 10 ∷ []))
@@ -109,23 +105,16 @@ quiet_counted [] ys h k = quiet_line 32 ys refl refl k
 quiet_counted (x ∷ xs) ys h k =
     let p = and_parts (not (nat_eq x 10) && not (nat_eq x 97)) (is_mild xs) h in
     let q = and_parts (not (nat_eq x 10)) (not (nat_eq x 97)) p.0 in
-    quiet_line x (xs ++ 32 ∷ ys) (not_true (nat_eq x 97) q.1) (not_true (nat_eq x 10) q.0) (joined (clean_by xs (mild_clean xs p.1)) (blank k))
+    quiet_line x (xs ++ 32 ∷ ys) (not-true (nat_eq x 97) q.1) (not-true (nat_eq x 10) q.0) (joined (clean_by xs (mild_clean xs p.1)) (blank k))
 
 -- ---- numbers
-
-not_eq : (m n : ℕ) → (m ≡ n → ⊥) → nat_eq m n ≡ false
-not_eq m n h = by (nat_eq m n) refl
-  where
-    by : (b : Bool) → nat_eq m n ≡ b → b ≡ false
-    by false e = refl
-    by true e = absurd (h (eqb-true m n e))
 
 glyph_mild : (d : ℕ) → nat_lt d 10 ≡ true → (not (nat_eq (digit_glyph false d) 10) && not (nat_eq (digit_glyph false d) 97)) ≡ true
 glyph_mild d small =
     let l = ltb-true d 10 small in
     let g : digit_glyph false d ≡ 48 + d = rw small refl in
-    let a : nat_eq (digit_glyph false d) 10 ≡ false = not_eq (digit_glyph false d) 10 (λ e. omega (arith, l, g, e)) in
-    let b : nat_eq (digit_glyph false d) 97 ≡ false = not_eq (digit_glyph false d) 97 (λ e. omega (arith, l, g, e)) in
+    let a : nat_eq (digit_glyph false d) 10 ≡ false = ne_eqb (digit_glyph false d) 10 (λ e. omega (arith, l, g, e)) in
+    let b : nat_eq (digit_glyph false d) 97 ≡ false = ne_eqb (digit_glyph false d) 97 (λ e. omega (arith, l, g, e)) in
     rw (a, b) refl
 
 digits_mild : (k n : ℕ) (acc : List ℕ) → is_mild acc ≡ true → is_mild (digits_onto k 10 false n acc) ≡ true

@@ -2,7 +2,7 @@
 use Rattle.std.specs.Prelude.{map, slice_get, ◌==◌, IsTrue, All, codes, decimal}
 use Rattle.std.specs.Option.{option_map_or}
 use Rattle.std.specs.List.{list_all}
-use Rattle.std.proofs.Common.{◌≡◌, ◌∙◌, ℕ, zero, suc, Bool, true, List, [], ◌∷◌, ◌++◌, refl, sym, ap, Option, None, Some}
+use Rattle.std.proofs.Common.{◌≡◌, ℕ, Bool, true, List, [], ◌∷◌, ◌++◌, refl, Option, None, Some}
 use Rattle.std.proofs.lemmas.Bool.{and_parts}
 use Rattle.std.proofs.lemmas.List.Elements.{All-nil, All-cons}
 use Rattle.civl_tree.specs.declared.name.Name.{Name}
@@ -11,6 +11,7 @@ use Rattle.civl_tree.specs.declared.action.Action.{Action}
 use Rattle.civl_tree.specs.declared.program.Proc.{Proc}
 use Rattle.civl_tree.specs.declared.program.Program.{Program}
 use Rattle.civl_tree.specs.SpellingDomain.{allows_name, allows_expr, allows_global, allows_invariant, allows_param, allows_out, allows_choice, allows_local, allows_rank_of, allows_action, allows_proc, allows_program}
+use Rattle.civl_tree.proofs.Lists.{all_get}
 use Rattle.civl_conditions.specs.declared.condition.Condition.{Condition}
 use Rattle.civl_conditions.specs.declared.condition.Condition.TheVariants.{Start, Keep, Pair, Fire, Path, Block, Act}
 use Rattle.civl_conditions.specs.declared.condition.Part.{Part}
@@ -28,11 +29,6 @@ pub record IsNamed (text : List ℕ) : Type 0 where
   pub rest : List ℕ
   pub is : text ≡ 75 ∷ rest
   pub clean : IsClean rest
-
-all_get : {A : Type 0} (p : A → Bool) (xs : List A) (i : ℕ) (x : A) → list_all p xs ≡ true → slice_get xs i ≡ Some x → p x ≡ true
-all_get p [] i x h e = absurd (cc)
-all_get p (y ∷ ys) zero x h e = let same : y ≡ x = cc in ap p (sym same) ∙ (and_parts (p y) (list_all p ys) h).0
-all_get p (y ∷ ys) (suc i) x h e = all_get p ys i x (and_parts (p y) (list_all p ys) h).1 e
 
 abbrev IsCleanVariable : Variable → Type 0
 IsCleanVariable v = IsClean v.name.bytes

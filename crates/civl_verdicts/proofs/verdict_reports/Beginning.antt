@@ -1,11 +1,8 @@
 -- Only the report of acceptance begins with the byte of `a`.
-use Rattle.std.proofs.Common.{◌≡◌, ℕ, List, ◌∷◌, refl, arith}
+use Rattle.std.proofs.Common.{◌≡◌, refl, arith}
+use Rattle.civl_tree.proofs.Lists.{one_first}
 use Rattle.civl_verdicts.specs.declared.verdict.Verdict.TheVariants.{Accepted, Rejected, Undecided, NoInitial}
 use Rattle.civl_verdicts.specs.verdict_reports.Laws.{OnlyAcceptedAccepts}
-
--- a text begins with one byte
-one_first : (x y : ℕ) (xs ys : List ℕ) → x ∷ xs ≡ y ∷ ys → x ≡ y
-one_first x y xs ys e = cc
 
 pub only_accepted_accepts : OnlyAcceptedAccepts
 only_accepted_accepts program budget (Accepted count) after e = (count, refl)

@@ -1,8 +1,7 @@
 -- A procedure of a layered program has few cuts and statements.
-use Rattle.std.proofs.Common.{◌≡◌, ℕ, zero, suc, ◌<◌, ◌≤◌, List, [], ◌∷◌, ◌++◌, length, flat_map, refl, subst, arith, None, Some}
+use Rattle.std.proofs.Common.{◌≡◌, ℕ, ◌<◌, length, refl, subst, arith, Some}
 use Rattle.std.specs.Prelude.{slice_get}
 use Rattle.std.specs.List.{Contains}
-use Rattle.std.proofs.lemmas.List.{length-append}
 use Rattle.std.proofs.lemmas.Option.{get_or_from_slice_get, slice_get_within}
 use Rattle.civl_tree.specs.declared.program.Proc.{Proc}
 use Rattle.civl_tree.specs.declared.program.Program.{Program}
@@ -12,17 +11,7 @@ use Rattle.civl_tree.proofs.Kept.{proc_kept}
 use Rattle.civl_layers.specs.Cuts.{proc_cuts}
 use Rattle.civl_layers.specs.Layered.{IsLayered}
 use Rattle.civl_layers.proofs.Few.{cuts_are_few}
-
-within_all : (procs : List Proc) (number : ℕ) (proc : Proc) → slice_get procs number ≡ Some proc → length (proc_cuts proc) ≤ length (flat_map proc_cuts procs)
-within_all [] number proc e = absurd (none_some e)
-  where
-    none_some : {p : Proc} → None ≡ Some p → ⊥
-    none_some e = cc
-within_all (p ∷ ps) zero proc e = subst (λ (q : Proc). length (proc_cuts q) ≤ length (proc_cuts p ++ flat_map proc_cuts ps)) (some_same e) (omega (arith, length-append (proc_cuts p) (flat_map proc_cuts ps)))
-  where
-    some_same : {p q : Proc} → Some p ≡ Some q → p ≡ q
-    some_same e = cc
-within_all (p ∷ ps) (suc number) proc e = omega (arith, length-append (proc_cuts p) (flat_map proc_cuts ps), within_all ps number proc e)
+use Rattle.civl_layers.proofs.Counting.{within_all}
 
 count_among : Contains typing_rules count_rule
 count_among = (2, omega arith, refl)

@@ -15,6 +15,7 @@ use Rattle.civl_tree.specs.rules.Scopes.{Binding}
 use Rattle.civl_tree.specs.rules.StoreSize.{bits_of}
 use Rattle.civl_firing.specs.values.Weights.{bits_in}
 use Rattle.civl_tree.specs.declared.program.Proc.{Proc}
+use Rattle.civl_tree.proofs.Layers.{inner_all}
 use Rattle.civl_meaning.specs.declared.config.Plain.{Plain}
 use Rattle.civl_conditions.specs.Weights.{summed, written_bits, layer_weight}
 use Rattle.civl_weighing.specs.declared.weight.Weight.{Weight}
@@ -34,14 +35,10 @@ of_form plain proc s l h k = weighs_same (ap (layer_weight plain proc s) (sym h)
 
 -- ---- the statements in the branches of an `if`
 
-pairs_flat : (ss : List Stmt) → flat_map with_inner (map (λ s. (s, inner_of s)) ss) ≡ statements_of ss
-pairs_flat [] = refl
-pairs_flat (s ∷ ss) = ap (λ (l : List Stmt). (s ∷ inner_of s) ++ l) (pairs_flat ss)
-
 pub branches : (s : Stmt) (e : Expr) (a b : List Stmt) → out-Stmt s ≡ stmt.If e a b → inner_of s ≡ statements_of a ++ statements_of b
 branches s e a b h =
     ap inner_of (sym (roll-out-Stmt s) ∙ ap roll-Stmt h) ∙ para-roll-Stmt (List Stmt) inner_step (stmt.If e a b)
-    ∙ ap (λ (l : List Stmt). l ++ flat_map with_inner (map (λ s. (s, inner_of s)) b)) (pairs_flat a) ∙ ap (λ (l : List Stmt). statements_of a ++ l) (pairs_flat b)
+    ∙ ap (λ (l : List Stmt). l ++ flat_map with_inner (map (λ s. (s, inner_of s)) b)) (inner_all a) ∙ ap (λ (l : List Stmt). statements_of a ++ l) (inner_all b)
 
 -- ---- updates
 

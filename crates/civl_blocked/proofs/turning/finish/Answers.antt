@@ -1,14 +1,13 @@
 use Rattle.std.proofs.Common.{◌≡◌, ◌∙◌, ◌+◌, ◌∷◌, [], ◌++◌, ℕ, length, Option, arith, refl, sym, ap, subst, inl, ◌⊎◌}
 use Rattle.std.specs.Prelude.{All}
 use Rattle.std.proofs.lemmas.Option.{same_Some}
-use Rattle.std.proofs.lemmas.List.Elements.{All-nil}
+use Rattle.std.proofs.lemmas.List.Elements.{All-nil, All-append}
 use Rattle.civl_meaning.specs.declared.config.Move.{Move}
 use Rattle.civl_meaning.specs.declared.config.Config.{Config}
 use Rattle.civl_meaning.specs.Failing.{IsMove}
 use Rattle.civl_reduction.specs.interleavings.Runs.{RunsTo, Staged}
 use Rattle.civl_reduction.proofs.interleavings.Staging.{staged_runs}
 use Rattle.civl_reduction.specs.gathering.Gathered.{others, IsGathered, FailsSooner}
-use Rattle.civl_reduction.proofs.gathering.Gathering.{all_join}
 use Rattle.civl_reduction.specs.gathered.Laws.{by_thread}
 use Rattle.civl_blocked.specs.Segments.{over, program_of, FailsTo}
 use Rattle.civl_blocked.specs.Completed.{IsCompleted}
@@ -44,7 +43,7 @@ gather-requires-clause-gathering c =
     let reached = end_reached g t.done.items t.open t.beside u ms c.args.end f.standing f.are_moves f.pass in
     let late_end = c.late_threads_step.ensures.stay (program_of g) g.layer g.store.now t.beside.config c.args.end u ms k there f.are_moves late f.pass in
     let pass = pass_join (over g) u ms w.steps t.beside.config c.args.end w.middle f.pass (offered_passes g u w.steps c.args.end w.middle w.offered) in
-    let vs = all_join IsMove ms w.steps f.are_moves w.are_moves.0 in
+    let vs = All-append IsMove ms w.steps f.are_moves w.are_moves.0 in
     let law = c.moves_gather.ensures.late (program_of g) g.layer g.store.now t.beside.config w.middle s.end u (ms ++ w.steps) s.last k there vs w.are_moves.1 late pass w.mine w.last in
     let fails = if_some _ c.in_ok-failing.field-0 c.in-Some.failing c.in-Some.is c.in_ok-failing.ensures.some in
     let stays = c.late_threads_step.ensures.fail (program_of g) g.layer g.store.now c.args.end w.middle s.end u c.in-Some.failing w.steps s.last k reached w.are_moves.0 w.are_moves.1 late_end w.offered w.mine w.last c.if-failing-thread.false fails in
@@ -69,7 +68,7 @@ shorten-requires-in-Stopped-clause-shortening c =
     let ms = c.args.moves.items in
     let w = subst (IsCompleted g u 1000000 ms c.args.end) c.in-Stopped.is c.in_ok-segment.ensures in
     let pass = pass_join (over g) u ms w.steps t.beside.config c.args.end w.after f.pass (offered_passes g u w.steps c.args.end w.after w.offered) in
-    let vs = all_join IsMove ms w.steps f.are_moves w.are_moves in
+    let vs = All-append IsMove ms w.steps f.are_moves w.are_moves in
     let staged = subst (λ (o : Option ℕ). Staged (over g) t.done.items o t.beside.config) f.open_is f.standing.staged in
     let law = c.moves_stop.ensures.late (program_of g) g.layer g.store.now t.done.items (ms ++ w.steps) t.beside.config w.after u c.requires.ground.checked f.standing.done_moves vs staged (f.standing.late u f.open_is) pass w.fails in
     let is = c.deref-in-Stopped.ensures.value ∙ w.moves_are in
@@ -117,7 +116,7 @@ returns-in-Spent c bound before room =
     let runs = runs_join (over g) t.done.items ms (over g).start t.beside.config c.args.end (blocks_run (over g) t.done.items _ t.open (over g).start t.beside.config (staged_runs (over g) f.standing.staged)) (pass_runs (over g) u ms t.beside.config c.args.end f.pass) in
     record {
       end = c.args.end;
-      are_moves = subst (All IsMove) (sym all) (all_join IsMove t.done.items ms f.standing.done_moves f.are_moves);
+      are_moves = subst (All IsMove) (sym all) (All-append IsMove t.done.items ms f.standing.done_moves f.are_moves);
       runs = plain_runs g (t.done.items ++ c.in-Spent.moves.items) (over g).start c.args.end (subst (λ l. RunsTo (over g).steps l (over g).start c.args.end) (sym all) runs);
       fails = plain_fails g c.args.end f.fails;
       late = c.late_threads_step.ensures.stay (program_of g) g.layer g.store.now t.beside.config c.args.end u ms c.requires.ground.checked there f.are_moves (f.standing.late u f.open_is) f.pass;

@@ -1,8 +1,8 @@
 use Rattle.std.proofs.Common.{◌∙◌, sym, inl, inr}
+use Rattle.std.proofs.lemmas.Bool.{false_from_ne_true}
 use Rattle.civl_reduction.specs.blocks.Shadow.{shadowed}
 use Rattle.civl_blocked.specs.Segments.{program_of}
 use Rattle.civl_blocked.proofs.Joinings.{last_runs, taken, same_place, between_late, late_goes, late_bounded, between_goes, between_bounded, between_done}
-use Rattle.civl_blocked.proofs.Walks.{untrue}
 use Rattle.civl_blocked.proofs.turning.take_in.Goals as goal
 
 pub join-requires-clause-runs : goal.join-requires-clause-runs
@@ -41,7 +41,7 @@ returns-clause-going c n bound before room =
     let j = taken g t u s c.as_slice-moves.result.now c.join_own.new.done.items c.join_own.new.beside c.requires.gathering c.requires.gathered c.as_slice-moves.ensures.value c.in_ok-join_own.ensures.opens
     c.join.new.done.items new c.put_back.new.rest.items c.in_ok-join_own.ensures.done c.in_ok-join.ensures.done c.in_ok-join.ensures.step c.in_ok-join.ensures.beside c.in_ok-put_back.ensures in
     let same = same_place g c.requires.ground i o t.done.items c.join.new.done.items t.open t.beside new u s.moves.items s.last s.end t.rest.items c.put_back.new.rest.items j in
-    let calm = sym (c.in_ok-challenged.ensures (shadowed (program_of g) g.layer g.store.now c.join.new.done.items) c.in_ok-join.ensures.beside) ∙ untrue c.in_ok-challenged.challenged n in
+    let calm = sym (c.in_ok-challenged.ensures (shadowed (program_of g) g.layer g.store.now c.join.new.done.items) c.in_ok-join.ensures.beside) ∙ false_from_ne_true c.in_ok-challenged.challenged n in
     elim c.requires.gathering.turned [
       | inl l ↦ (
           let b = between_bounded g c.requires.ground i o t.done.items c.join.new.done.items t.open t.beside new u s.moves.items s.last s.end t.rest.items c.put_back.new.rest.items j l bound before room in

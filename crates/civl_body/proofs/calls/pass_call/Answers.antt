@@ -9,16 +9,18 @@ use Rattle.std.specs.Prelude.{All, map}
 use Rattle.civl_tree.specs.declared.expr.Expr.{Expr}
 use Rattle.civl_tree.specs.declared.name.Name.{Name}
 use Rattle.civl_tree.specs.rules.Scopes.{body_scope}
+use Rattle.civl_tree.proofs.Lists.{get_there}
 use Rattle.civl_terms.proofs.Growing.{grows_trans}
 use Rattle.civl_actions.specs.Actions.{LeavesOthers, values_at}
 use Rattle.civl_actions.specs.Scopes.{AreOf, IsTyped}
 use Rattle.civl_actions.proofs.Staying.{are_stay}
+use Rattle.civl_states.proofs.Runs.{of_some}
 use Rattle.civl_moves.specs.sweeps.Sweeps.{with_action}
 use Rattle.civl_moves.specs.Calls.{ResultsSuit}
 use Rattle.civl_moves.specs.States.{Moves, body_of}
-use Rattle.civl_moves.proofs.Calling.{if_each, of_some}
+use Rattle.civl_moves.proofs.Calling.{if_each}
 use Rattle.civl_moves.proofs.States.{can_stays}
-use Rattle.civl_body.proofs.Calling.{few_actions, halt_calls, typed_args, inputs_are, results_are, action_calls, some_at, terms_of}
+use Rattle.civl_body.proofs.Calling.{few_actions, halt_calls, typed_args, inputs_are, results_are, action_calls, terms_of}
 use Rattle.civl_body.proofs.Keeping.{leaves_same}
 use Rattle.civl_body.proofs.Writing.{action_leaves}
 use Rattle.civl_body.proofs.calls.pass_call.Goals as goal
@@ -76,7 +78,7 @@ returns-in_ok-pass_action-in-Some-clause-moves c = λ v says.
     let inputs = c.in_ok-inputs-in-Some.inputs in
     let choices = c.in_ok-choices-in-Some.choices in
     let terms = terms_of o m p q s.locals _ c.args.args.now _ inputs c.as_slice.ensures c.as_slice-in-Some.ensures c.in_ok-inputs-in-Some.ensures.terms in
-    let found = some_at p.actions c.in-Some.action c.in-Some.ensures.within in
+    let found = get_there p.actions c.in-Some.action c.in-Some.ensures.within in
     let a = found.0 in
     let meant = sym c.in-Some.ensures.is ∙ found.1 in
     let moves = of_some _ _ a found.1 c.in_ok-pass_action-in-Some.ensures.moves in
@@ -93,7 +95,7 @@ pub returns-in_ok-pass_action-in-Some-clause-leaves : goal.returns-in_ok-pass_ac
 returns-in_ok-pass_action-in-Some-clause-leaves c = λ linear.
     let p = c.args.program.now in
     let q = c.args.proc.now in
-    let found = some_at p.actions c.in-Some.action c.in-Some.ensures.within in
+    let found = get_there p.actions c.in-Some.action c.in-Some.ensures.within in
     let e = c.in_ok-pass_action-in-Some.ensures in
     action_leaves p c.args.layer q linear c.requires.layered c.requires.proc c.args.number c.args.callee.now c.args.args.now c.args.results.now c.requires.stands found.0 (sym c.in-Some.ensures.is ∙ found.1) c.args.sweep.now c.pass_action.new.sweep (of_some _ _ found.0 found.1 e.globals)
     (subst (λ (rs : List Name). LeavesOthers (names_in_proc q) rs c.args.sweep.now.locals c.pass_action.new.sweep.locals) c.as_slice-in-Some-2.ensures e.locals)
@@ -102,7 +104,7 @@ pub returns-in_ok-pass_action-in-Some-clause-weighs : goal.returns-in_ok-pass_ac
 returns-in_ok-pass_action-in-Some-clause-weighs c =
     let p = c.args.program.now in
     let q = c.args.proc.now in
-    let found = some_at p.actions c.in-Some.action c.in-Some.ensures.within in
+    let found = get_there p.actions c.in-Some.action c.in-Some.ensures.within in
     let meant = sym c.in-Some.ensures.is ∙ found.1 in
     let own = ap (λ (o : Option Action). option_map_or (action_weight p) o 0) meant in
     let args = ap (weights_of (body_weight p q)) c.as_slice-in-Some.ensures in

@@ -1,7 +1,7 @@
 use Rattle.std.specs.Prelude.{slice_get, Contains}
 use Rattle.std.proofs.Common.{◌∙◌, List, sym, ap, subst}
+use Rattle.civl_tree.proofs.Pairs.{contains_at}
 use Rattle.civl_conditions.specs.declared.condition.Condition.{Condition}
-use Rattle.civl_certify.proofs.Placed.{contains_at}
 use Rattle.civl_certify.proofs.certifying.certify.Goals as goal
 
 pub answer-requires-clause-listed : goal.answer-requires-clause-listed

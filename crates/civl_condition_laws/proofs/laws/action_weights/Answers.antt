@@ -1,5 +1,6 @@
 use Rattle.civl_tree.specs.declared.expr.Expr.{the_lemmas as of_expr}
 use Rattle.civl_tree.specs.declared.stmt.Stmt.{the_lemmas as of_stmt}
+use Rattle.civl_firing.proofs.Weighing.{weight_is}
 use Rattle.civl_layers.specs.Cuts.{cuts_among}
 use Rattle.civl_conditions.specs.paths.Flows.{flow_from}
 use Rattle.civl_conditions.specs.Listed.{conditions}
@@ -7,7 +8,6 @@ use Rattle.civl_conditions.specs.Variables.{variables}
 use Rattle.civl_conditions.specs.Weights.{weight, initial_weight}
 use Rattle.civl_condition_laws.proofs.Going.{flows, froms}
 use Rattle.civl_condition_laws.proofs.Forms.{inners, traces, rests}
-use Rattle.civl_condition_laws.proofs.Weighing.{weight_is}
 use Rattle.civl_condition_laws.proofs.laws.action_weights.Goals as goal
 
 pub returns : goal.returns

@@ -1,9 +1,9 @@
 use Rattle.civl_tree.specs.declared.expr.Expr.{the_lemmas as of_expr}
 use Rattle.civl_tree.proofs.Layers.{layers}
+use Rattle.civl_firing.proofs.Weighing.{weight_is}
 use Rattle.civl_layers.specs.Cuts.{cuts_among}
 use Rattle.civl_conditions.specs.paths.Flows.{flow_from}
 use Rattle.civl_conditions.proofs.paths.Passing.{passing}
-use Rattle.civl_condition_laws.proofs.Weighing.{weight_is}
 use Rattle.civl_conditions.specs.Listed.{conditions}
 use Rattle.civl_conditions.specs.Variables.{variables}
 use Rattle.civl_conditions.specs.Weights.{weight, initial_weight}

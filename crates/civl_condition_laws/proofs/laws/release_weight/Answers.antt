@@ -1,9 +1,9 @@
 use Rattle.std.proofs.Common.{◌∙◌}
 use Rattle.civl_tree.specs.declared.expr.Expr.{the_lemmas as of_expr}
 use Rattle.civl_tree.specs.declared.stmt.Stmt.{the_lemmas as of_stmt}
+use Rattle.civl_firing.proofs.Weighing.{weight_is}
 use Rattle.civl_layers.specs.Cuts.{cuts_among}
 use Rattle.civl_condition_laws.proofs.Forms.{inners}
-use Rattle.civl_condition_laws.proofs.Weighing.{weight_is}
 use Rattle.civl_meaning.specs.examples.Spinlock.{spinlock}
 use Rattle.civl_layers.specs.Cuts.{entry_cut}
 use Rattle.civl_condition_laws.proofs.Measures.{yield_weight_at}

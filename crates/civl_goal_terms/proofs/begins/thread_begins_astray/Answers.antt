@@ -1,6 +1,7 @@
 use Rattle.std.specs.Prelude.{◌<◌, ◌^◌, ◌&&◌, length, List}
 use Rattle.std.proofs.Common.{◌∙◌, sym, ap, subst, arith}
 use Rattle.civl_tree.specs.declared.expr.Sort.{Sort}
+use Rattle.civl_tree.proofs.Lists.{get_there}
 use Rattle.civl_firing.specs.declared.store.Store.{Store}
 use Rattle.civl_terms.proofs.Growing.{lengthens_trans, lengthened}
 use Rattle.civl_conditions.specs.Invariants.{is_initial}
@@ -10,7 +11,6 @@ use Rattle.civl_states.proofs.formula_parts.Saying.{test_as}
 use Rattle.civl_states.specs.Stores.{global_sorts}
 use Rattle.civl_states.proofs.Limits.{AreSorts, global_sorts_are}
 use Rattle.civl_states.proofs.Formulas.{formula_of}
-use Rattle.civl_states.proofs.Taking.{there}
 use Rattle.civl_movers.proofs.interfere.Starting.{all_sorts, all_stand, sorts_few, all_store}
 use Rattle.civl_goals.specs.declared.goal.Goal.TheVariants as named
 use Rattle.civl_goals.specs.Failed.{failed, thread_fails}
@@ -49,7 +49,7 @@ returns-clause-says c =
     let n2 = c.thread_at.new.terms in
     let sorts = sorts_of p (named.Thread i) in
     let same = thread_sorts p i in
-    let one = there p.threads i c.requires.number in
+    let one = get_there p.threads i c.requires.number in
     formula_of n2 c.in_ok-id.id sorts (failed p o (named.Thread i))
     (variables_kept n1 n2 sorts c.in_ok-id.ensures.grows (subst (AreVariablesOf n1) c.requires.sorts c.in_ok-globals.ensures.variables))
     (test_as n2 c.in_ok-id.id _ _
@@ -61,5 +61,5 @@ returns-clause-says c =
 pub returns-clause-weighs : goal.returns-clause-weighs
 returns-clause-weighs c =
     let p = c.args.program.now in
-    let one = there p.threads c.args.number c.requires.number in
+    let one = get_there p.threads c.args.number c.requires.number in
     omega (arith, c.in_ok-globals.ensures.weighs, c.in_ok-id.ensures.weighs one.0 one.1, ap bits_of_sorts (all_sorts p), thread_weighs p c.args.outline.now c.args.number one.0 one.1)

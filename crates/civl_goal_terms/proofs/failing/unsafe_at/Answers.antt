@@ -1,9 +1,9 @@
 use Rattle.std.proofs.Common.{◌∙◌, not, arith}
+use Rattle.std.proofs.Math.Bool.{not-not}
 use Rattle.civl_terms.proofs.Growing.{grows_trans}
 use Rattle.civl_states.proofs.formula_parts.Saying.{test_as}
 use Rattle.civl_goal_terms.specs.Steps.{swept_by}
 use Rattle.civl_goal_terms.proofs.Leading.{unsafe_is}
-use Rattle.civl_goal_terms.proofs.Stepping.{not_not}
 use Rattle.civl_goal_terms.proofs.failing.unsafe_at.Goals as goal
 
 pub negated-requires : goal.negated-requires
@@ -22,5 +22,5 @@ pub returns-clause-tells : goal.returns-clause-tells
 returns-clause-tells c = λ h s.
     let p = c.args.program.now in
     let a = c.args.at.now in
-    test_as _ _ _ _ (λ env. not_not (swept_by p a (h env)).broken ∙ unsafe_is p a c.requires.at (h env))
+    test_as _ _ _ _ (λ env. not-not (swept_by p a (h env)).broken ∙ unsafe_is p a c.requires.at (h env))
     (c.in_ok-id.ensures.test (λ env. not (swept_by p a (h env)).broken) (c.in_ok-sweep.ensures.says h s).safe)

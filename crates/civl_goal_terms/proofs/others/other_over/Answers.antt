@@ -13,8 +13,9 @@ use Rattle.civl_goals.specs.Failed.{failed}
 use Rattle.civl_goal_terms.specs.Formulas.{sorts_of}
 use Rattle.civl_goal_terms.specs.Given.{behind_chosen, here_from}
 use Rattle.civl_goal_terms.proofs.Assuming.{can_says, says_after}
-use Rattle.civl_goal_terms.proofs.OthersVariables.{sorted_all, counted_all, other_sorted, other_said, bits_all, limited_all, small_all, other_is, other_weighs, note_some}
+use Rattle.civl_goal_terms.proofs.OthersVariables.{sorted_all, counted_all, other_sorted, other_said, bits_all, limited_all, small_all, other_is, other_weighs}
 use Rattle.civl_goal_terms.proofs.others.other_over.Goals as goal
+use Rattle.civl_goal_terms.proofs.Standing.{note_some}
 
 pub set-requires-clause-stand : goal.set-requires-clause-stand
 set-requires-clause-stand c = (frame_sorts c.args.other.now.proc.now, c.requires.sorts ∙ sorted_all c.args.program.now c.args.at.now c.args.other.now c.requires.at c.requires.other)

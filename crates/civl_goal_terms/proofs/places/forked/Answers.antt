@@ -1,5 +1,5 @@
 use Rattle.std.proofs.Common.{arith}
-use Rattle.civl_meaning.proofs.Spots.{size_is_some}
+use Rattle.civl_tree.proofs.Sizes.{size_is_some}
 use Rattle.civl_goal_terms.proofs.Placing.{inside, second_inside}
 use Rattle.civl_goal_terms.proofs.places.forked.Goals as goal
 

@@ -5,18 +5,20 @@ use Rattle.civl_tree.specs.declared.action.Action.{Action}
 use Rattle.civl_tree.specs.declared.expr.Expr.{Expr}
 use Rattle.civl_tree.specs.declared.name.Name.{Name}
 use Rattle.civl_tree.specs.rules.Scopes.{body_scope}
+use Rattle.civl_tree.proofs.Lists.{get_there}
 use Rattle.civl_firing.specs.values.ActionWeights.{action_weight}
 use Rattle.civl_terms.proofs.Growing.{grows_trans}
 use Rattle.civl_actions.specs.Actions.{values_at}
 use Rattle.civl_actions.specs.Scopes.{AreOf, IsTyped}
 use Rattle.civl_actions.proofs.Staying.{are_stay}
 use Rattle.civl_conditions.specs.Weights.{body_weight, weights_of}
+use Rattle.civl_states.proofs.Runs.{of_some}
 use Rattle.civl_moves.specs.sweeps.Sweeps.{with_action}
 use Rattle.civl_moves.specs.Calls.{ResultsSuit}
 use Rattle.civl_moves.specs.States.{Moves, body_of}
-use Rattle.civl_moves.proofs.Calling.{if_each, of_some}
+use Rattle.civl_moves.proofs.Calling.{if_each}
 use Rattle.civl_moves.proofs.States.{can_stays}
-use Rattle.civl_body.proofs.Calling.{few_actions, halt_calls, typed_args, inputs_are, results_are, some_at, terms_of}
+use Rattle.civl_body.proofs.Calling.{few_actions, halt_calls, typed_args, inputs_are, results_are, terms_of}
 use Rattle.civl_goal_terms.proofs.Stepping.{choices_given, call_moves}
 use Rattle.civl_goal_terms.proofs.steps.pass_call.Goals as goal
 
@@ -85,7 +87,7 @@ returns-in_ok-pass_action-in-Some-clause-moves c = λ v said.
     let inputs = c.in_ok-inputs-in-Some.inputs in
     let choices = c.args.choices.now in
     let terms = terms_of o m p q s.locals _ c.args.args.now _ inputs c.as_slice.ensures c.as_slice-in-Some.ensures c.in_ok-inputs-in-Some.ensures.terms in
-    let found = some_at p.actions c.in-Some.action c.in-Some.ensures.within in
+    let found = get_there p.actions c.in-Some.action c.in-Some.ensures.within in
     let action = found.0 in
     let moves = of_some _ _ action found.1 c.in_ok-pass_action-in-Some.ensures.moves in
     call_moves p c.args.callee.now action (sym c.in-Some.ensures.is ∙ found.1) q c.args.args.now c.args.results.now c.args.at.now.number o m n s t v inputs choices
@@ -101,7 +103,7 @@ pub returns-in_ok-pass_action-in-Some-clause-weighs : goal.returns-in_ok-pass_ac
 returns-in_ok-pass_action-in-Some-clause-weighs c =
     let p = c.args.program.now in
     let q = c.args.at.now.proc.now in
-    let found = some_at p.actions c.in-Some.action c.in-Some.ensures.within in
+    let found = get_there p.actions c.in-Some.action c.in-Some.ensures.within in
     let meant = sym c.in-Some.ensures.is ∙ found.1 in
     let own = ap (λ (o : Option Action). option_map_or (action_weight p) o 0) meant in
     let args = ap (weights_of (body_weight p q)) c.as_slice-in-Some.ensures in

@@ -1,21 +1,14 @@
 use Rattle.std.specs.Prelude.{not, ◌&&◌, ◌||◌, if◌then◌else◌}
 use Rattle.std.proofs.Common.{◌≡◌, Bool, true, false, refl}
+use Rattle.std.proofs.Math.Bool.{and-false}
 use Rattle.civl_tree.specs.declared.expr.Sort.TheVariants.{Bool as Truth}
 use Rattle.civl_terms.proofs.Growing.{grows_trans}
 use Rattle.civl_states.proofs.formula_parts.Saying.{sort_stays, test_stays, test_as}
 use Rattle.civl_goal_terms.proofs.tests.chosen.Goals as goal
 
-or_false : (a : Bool) → (a || false) ≡ a
-or_false true = refl
-or_false false = refl
-
-and_false : (a : Bool) → (a && false) ≡ false
-and_false true = refl
-and_false false = refl
-
 one_way : (t a b : Bool) → ((t && a) || (b && not t)) ≡ (if t then a else b)
 one_way true true b = refl
-one_way true false b = and_false b
+one_way true false b = and-false b
 one_way false a true = refl
 one_way false a false = refl
 

@@ -6,7 +6,8 @@ use Rattle.civl_conditions.specs.Weights as conditions
 use Rattle.civl_states.specs.formula_parts.Given.{AreVariablesOf}
 use Rattle.civl_states.specs.Formulas as states
 use Rattle.civl_goals.proofs.Tops.{layers_fit}
-use Rattle.civl_goal_terms.proofs.Keeping.{have_out_modes, keep_sorts, keep_says, keep_weighs}
+use Rattle.civl_movers.proofs.Modes.{have_out_modes}
+use Rattle.civl_goal_terms.proofs.Keeping.{keep_sorts, keep_says, keep_weighs}
 use Rattle.civl_goal_terms.proofs.violation.linear_fails.Goals as goal
 
 pub overflow_add-keep : goal.overflow_add-keep

@@ -7,8 +7,8 @@ use Rattle.civl_goals.proofs.holding.counts_in.Goals as goal
 
 pub returns-clause-counts : goal.returns-clause-counts
 returns-clause-counts c = λ statement.
-    counted c.in_ok-counts.counts.items (names_in_proc c.args.proc.now) _ _ _ (traced_proc c.args.program.now c.args.proc.now).befores statement c.in_ok-counts.ensures (ap (map (λ name. name.now)) c.as_slice-2.ensures.value ∙ c.in_ok-names.ensures) c.as_slice-3.ensures.value c.in_ok-befores.ensures
+    counted c.in_ok-counts.counts.items (names_in_proc c.args.proc.now) _ _ _ (traced_proc c.args.program.now c.args.proc.now).befores statement c.in_ok-counts.ensures (ap (map (λ name. name.now)) c.as_slice.ensures.value ∙ c.in_ok-names.ensures) c.as_slice-2.ensures.value c.in_ok-befores.ensures
 
 pub returns-clause-statements : goal.returns-clause-statements
 returns-clause-statements c =
-    counted_each c.in_ok-counts.counts.items _ _ _ (traced_proc c.args.program.now c.args.proc.now).befores c.args.proc.now.body c.in_ok-counts.ensures c.as_slice-3.ensures.value c.in_ok-befores.ensures (procs_are_traced c.args.program.now c.args.proc.now).body.befores
+    counted_each c.in_ok-counts.counts.items _ _ _ (traced_proc c.args.program.now c.args.proc.now).befores c.args.proc.now.body c.in_ok-counts.ensures c.as_slice-2.ensures.value c.in_ok-befores.ensures (procs_are_traced c.args.program.now c.args.proc.now).body.befores

@@ -1,6 +1,6 @@
 use Rattle.std.proofs.Common.{◌∙◌, sym}
 use Rattle.civl_maker.proofs.Asking.{of_actions, of_paths, of_steadiness}
-use Rattle.civl_maker.proofs.Modes.{have_out_modes}
+use Rattle.civl_movers.proofs.Modes.{have_out_modes}
 use Rattle.civl_maker.proofs.violation.violation.Goals as goal
 
 pub violation-requires-clause-kind : goal.violation-requires-clause-kind

@@ -1,6 +1,7 @@
 use Rattle.std.specs.Prelude.{◌-◌, length}
 use Rattle.std.proofs.Common.{◌∙◌, refl, sym, ap, subst, arith}
 use Rattle.std.proofs.lemmas.List.{length-map}
+use Rattle.civl_tree.proofs.Lists.{get_there}
 use Rattle.civl_terms.proofs.Growing.{lengthens_trans, lengthened}
 use Rattle.civl_conditions.specs.declared.condition.Condition.TheVariants.{Fire}
 use Rattle.civl_conditions.specs.Violated.{violated}
@@ -14,7 +15,6 @@ use Rattle.civl_states.specs.Formulas.{sorts_of}
 use Rattle.civl_states.proofs.Given.{stand_counted}
 use Rattle.civl_states.proofs.Limits.{action_few}
 use Rattle.civl_states.proofs.Variables.{fire_sorts}
-use Rattle.civl_states.proofs.Taking.{there}
 use Rattle.civl_states.proofs.Formulas.{formula_of}
 use Rattle.civl_states.proofs.Weighing.{gate_weighs, guard_weighs}
 use Rattle.civl_movers.specs.Settings.{lower_count}
@@ -25,19 +25,19 @@ use Rattle.civl_movers.proofs.violations.fire_fails.Goals as goal
 pub store-requires-clause-stand : goal.store-requires-clause-stand
 store-requires-clause-stand c =
     let p = c.args.program.now in
-    let t = there p.actions c.args.action c.requires.action in
+    let t = get_there p.actions c.args.action c.requires.action in
     fire_front p c.requires.rules c.args.sorts.now c.args.step c.args.action t.0 t.1 c.requires.sorts c.lower.result c.lower.ensures
 
 pub store-requires-clause-small : goal.store-requires-clause-small
 store-requires-clause-small c =
     let p = c.args.program.now in
-    let t = there p.actions c.args.action c.requires.action in
+    let t = get_there p.actions c.args.action c.requires.action in
     fire_small p c.requires.rules c.args.sorts.now c.args.step c.args.action t.0 t.1 c.requires.sorts
 
 pub store-requires-clause-limits : goal.store-requires-clause-limits
 store-requires-clause-limits c =
     let p = c.args.program.now in
-    let t = there p.actions c.args.action c.requires.action in
+    let t = get_there p.actions c.args.action c.requires.action in
     fire_limits p c.requires.rules c.args.sorts.now c.args.step c.args.action t.0 t.1 c.requires.sorts
 
 pub overflow_cast-count : goal.overflow_cast-count

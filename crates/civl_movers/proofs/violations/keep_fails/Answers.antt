@@ -1,5 +1,6 @@
 use Rattle.std.specs.Prelude.{◌+◌, ◌-◌, ◌*◌, ◌^◌, length, filter, slice_get}
 use Rattle.std.proofs.Common.{◌≡◌, Some, refl, sym, ap, subst, arith}
+use Rattle.civl_tree.proofs.Lists.{get_there}
 use Rattle.civl_terms.proofs.Growing.{lengthens_same, lengthens_trans, lengthened}
 use Rattle.civl_linear.specs.Modes.{is_lent, is_given}
 use Rattle.civl_conditions.specs.declared.condition.Condition.TheVariants.{Keep}
@@ -13,7 +14,6 @@ use Rattle.civl_states.specs.Existing.{existing_sorts}
 use Rattle.civl_states.specs.Runs.{instance_sorts}
 use Rattle.civl_states.specs.Formulas.{sorts_of}
 use Rattle.civl_states.proofs.Variables.{keep_sorts}
-use Rattle.civl_states.proofs.Taking.{there}
 use Rattle.civl_states.proofs.Formulas.{formula_of}
 use Rattle.civl_movers.specs.Items.{number_going}
 use Rattle.civl_movers.specs.Settings.{lower_count}
@@ -25,19 +25,19 @@ use Rattle.civl_movers.proofs.violations.keep_fails.Goals as goal
 pub store-requires-clause-stand : goal.store-requires-clause-stand
 store-requires-clause-stand c =
     let p = c.args.program.now in
-    let t = there p.actions c.args.action c.requires.action in
+    let t = get_there p.actions c.args.action c.requires.action in
     keep_front p c.requires.rules c.args.sorts.now c.args.step c.args.action t.0 t.1 c.requires.sorts c.lower.result c.lower.ensures
 
 pub store-requires-clause-small : goal.store-requires-clause-small
 store-requires-clause-small c =
     let p = c.args.program.now in
-    let t = there p.actions c.args.action c.requires.action in
+    let t = get_there p.actions c.args.action c.requires.action in
     keep_small p c.requires.rules c.args.sorts.now c.args.step c.args.action t.0 t.1 c.requires.sorts
 
 pub store-requires-clause-limits : goal.store-requires-clause-limits
 store-requires-clause-limits c =
     let p = c.args.program.now in
-    let t = there p.actions c.args.action c.requires.action in
+    let t = get_there p.actions c.args.action c.requires.action in
     keep_limits p c.requires.rules c.args.sorts.now c.args.step c.args.action t.0 t.1 c.requires.sorts
 
 pub invocation-requires-clause-stand : goal.invocation-requires-clause-stand
@@ -47,13 +47,13 @@ invocation-requires-clause-stand c = λ a at.
 pub invocation-requires-clause-small : goal.invocation-requires-clause-small
 invocation-requires-clause-small c =
     let p = c.args.program.now in
-    let t = there p.actions c.args.action c.requires.action in
+    let t = get_there p.actions c.args.action c.requires.action in
     keep_small p c.requires.rules c.args.sorts.now c.args.step c.args.action t.0 t.1 c.requires.sorts
 
 pub invocation-requires-clause-limits : goal.invocation-requires-clause-limits
 invocation-requires-clause-limits c =
     let p = c.args.program.now in
-    let t = there p.actions c.args.action c.requires.action in
+    let t = get_there p.actions c.args.action c.requires.action in
     keep_limits p c.requires.rules c.args.sorts.now c.args.step c.args.action t.0 t.1 c.requires.sorts
 
 pub loses-requires-clause-globals : goal.loses-requires-clause-globals
@@ -75,7 +75,7 @@ returns-clause-says c =
     let k = c.args.step in
     let n2 = c.invocation.new.terms in
     let n3 = c.loses.new.terms in
-    let t = there p.actions c.args.action c.requires.action in
+    let t = get_there p.actions c.args.action c.requires.action in
     let a = t.0 in
     let sorts = sorts_of p (Keep k c.args.action) in
     let long = keep_long p c.requires.rules sorts k c.args.action a t.1 refl in
@@ -90,7 +90,7 @@ pub returns-clause-weighs : goal.returns-clause-weighs
 returns-clause-weighs c = λ modes.
     let p = c.args.program.now in
     let k = c.args.step in
-    let t = there p.actions c.args.action c.requires.action in
+    let t = get_there p.actions c.args.action c.requires.action in
     let a = t.0 in
     let at = subst (λ n. slice_get p.actions n ≡ Some a) (sym c.in_ok-x.ensures.is) t.1 in
     let outs = outs_given a.outs (modes c.args.action a t.1) in

@@ -1,5 +1,6 @@
 use Rattle.std.specs.Prelude.{◌-◌, length, slice_get}
 use Rattle.std.proofs.Common.{◌≡◌, Some, refl, sym, ap, subst, arith}
+use Rattle.civl_tree.proofs.Lists.{get_there}
 use Rattle.civl_terms.proofs.Growing.{lengthens_trans, lengthened}
 use Rattle.civl_conditions.specs.declared.condition.Condition.TheVariants.{Pair}
 use Rattle.civl_conditions.specs.Violated.{violated}
@@ -12,7 +13,6 @@ use Rattle.civl_states.specs.Formulas.{sorts_of}
 use Rattle.civl_states.specs.declared.stores.Existing.TheVariants.{Layer}
 use Rattle.civl_states.proofs.Limits.{out_sorts_are}
 use Rattle.civl_states.proofs.Variables.{existing_are}
-use Rattle.civl_states.proofs.Taking.{there}
 use Rattle.civl_states.proofs.Formulas.{formula_of}
 use Rattle.civl_movers.proofs.Arranging.{pair_is, pair_weighs, action_weighs, same_bits, outs_same, globals_same}
 use Rattle.civl_movers.proofs.Pairing.{pair_long}
@@ -20,7 +20,7 @@ use Rattle.civl_movers.proofs.violations.pair_fails.Goals as goal
 
 pub pair_at-requires-clause-y : goal.pair_at-requires-clause-y
 pair_at-requires-clause-y c =
-    let t = there c.args.program.now.actions c.args.x c.requires.x in
+    let t = get_there c.args.program.now.actions c.args.x c.requires.x in
     (c.in_ok-found.ensures.is.second t.0 t.1).ready
 
 pub returns-in_err-id-clause-lengthens : goal.returns-in_err-id-clause-lengthens
@@ -35,8 +35,8 @@ returns-clause-says c =
     let k = c.args.step in
     let n1 = c.paired.new.terms in
     let n2 = c.pair_at.new.terms in
-    let t = there p.actions c.args.x c.requires.x in
-    let u = there p.actions c.args.y c.requires.y in
+    let t = get_there p.actions c.args.x c.requires.x in
+    let u = get_there p.actions c.args.y c.requires.y in
     let sorts = sorts_of p (Pair c.args.number k c.args.x c.args.y) in
     let long = pair_long p c.requires.rules sorts k c.args.x t.0 t.1 c.args.number c.args.y u.0 u.1 refl in
     let h = c.in_ok-found.ensures.is in
@@ -50,8 +50,8 @@ pub returns-clause-weighs : goal.returns-clause-weighs
 returns-clause-weighs c =
     let p = c.args.program.now in
     let k = c.args.step in
-    let t = there p.actions c.args.x c.requires.x in
-    let u = there p.actions c.args.y c.requires.y in
+    let t = get_there p.actions c.args.x c.requires.x in
+    let u = get_there p.actions c.args.y c.requires.y in
     let h = c.in_ok-found.ensures.is in
     let second = h.second t.0 t.1 in
     let at = subst (λ n. slice_get p.actions n ≡ Some t.0) (sym h.first.is) t.1 in

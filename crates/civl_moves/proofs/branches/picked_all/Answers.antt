@@ -4,10 +4,11 @@ use Rattle.std.proofs.lemmas.List.{take_all, length-append}
 use Rattle.civl_tree.specs.declared.expr.Sort.{Sort}
 use Rattle.civl_tree.specs.declared.expr.Sort.TheVariants.{Bool as Truth}
 use Rattle.civl_terms.proofs.Growing.{grows_trans}
+use Rattle.civl_actions.proofs.Nodes.{are_long}
 use Rattle.civl_states.proofs.formula_parts.Saying.{sort_stays}
 use Rattle.civl_states.proofs.formula_parts.Listing.{alike_at, alike_long, alike_stay}
 use Rattle.civl_moves.specs.Branches.{ArePicked, KeepsSame, differing}
-use Rattle.civl_moves.proofs.Picking.{are_length, picked_step, differ_next}
+use Rattle.civl_moves.proofs.Picking.{picked_step, differ_next}
 use Rattle.civl_moves.proofs.Leaving.{same_step}
 use Rattle.civl_moves.proofs.branches.picked_all.Goals as goal
 
@@ -54,8 +55,8 @@ returns-clause-picked c = λ ss hx hy.
     let i = c.loop-at.at in
     let xs = c.args.xs.now in
     let ys = c.args.ys.now in
-    let long : length xs ≡ length ss = are_length o xs ss hx in
-    let far : length ys ≡ length ss = are_length o ys ss hy in
+    let long : length xs ≡ length ss = are_long o xs ss hx in
+    let far : length ys ≡ length ss = are_long o ys ss hy in
     let h = c.loop-at.invariant.1 ss hx hy in
     let h1 = subst (λ (zs : List Sort). ArePicked o n c.args.test zs (take i xs) (take i ys) c.loop-at.ids.items) (take_all i ss (omega arith)) h in
     let h2 = subst (λ (zs : List ℕ). ArePicked o n c.args.test ss zs (take i ys) c.loop-at.ids.items) (take_all i xs (omega arith)) h1 in

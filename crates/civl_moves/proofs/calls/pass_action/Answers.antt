@@ -1,7 +1,8 @@
 use Rattle.std.proofs.Common.{◌∙◌, ap}
 use Rattle.civl_tree.specs.rules.Names.{names_in_proc}
+use Rattle.civl_states.proofs.Runs.{of_some}
 use Rattle.civl_moves.specs.Calls.{with_outs_of}
-use Rattle.civl_moves.proofs.Calling.{if_each, of_some, action_moves}
+use Rattle.civl_moves.proofs.Calling.{if_each, action_moves}
 use Rattle.civl_moves.proofs.Leaving.{results_written}
 use Rattle.civl_moves.proofs.calls.pass_action.Goals as goal
 

@@ -1,9 +1,10 @@
 use Rattle.civl_tree.specs.declared.expr.Sort.TheVariants.{Bool as Truth}
 use Rattle.civl_terms.proofs.Growing.{grows_trans}
 use Rattle.civl_states.proofs.formula_parts.Saying.{sort_stays}
+use Rattle.civl_states.proofs.Runs.{of_some}
 use Rattle.civl_terms.specs.Weights.{graph_weight}
 use Rattle.civl_firing.specs.values.ActionWeights.{action_weight}
-use Rattle.civl_moves.proofs.Calling.{of_within, if_each, of_some, has_run, weighs_four}
+use Rattle.civl_moves.proofs.Calling.{of_within, if_each, has_run, weighs_four}
 use Rattle.civl_moves.proofs.calls.run_action.Goals as goal
 
 pub gate-requires-clause-live : goal.gate-requires-clause-live

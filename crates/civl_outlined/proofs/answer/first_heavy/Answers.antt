@@ -3,7 +3,7 @@ use Rattle.std.specs.Prelude.{nat_lt}
 use Rattle.civl_conditions.specs.Weights.{weight_limit}
 use Rattle.civl_goals.specs.Weights.{weight}
 use Rattle.civl_weighing.proofs.Capping.{capped_over}
-use Rattle.civl_outlined.proofs.First.{found_here, found_later}
+use Rattle.civl_weights.proofs.First.{found_here, found_later}
 use Rattle.civl_outlined.proofs.answer.first_heavy.Goals as goal
 
 pub returns-then-is_heavy : goal.returns-then-is_heavy

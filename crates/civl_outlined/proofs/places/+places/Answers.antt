@@ -1,6 +1,8 @@
 use Rattle.std.proofs.Common.{rules, arith, ℕ, ◌≡◌, ◌+◌, ◌*◌, ◌^◌, ◌<◌, length, ap, sym, refl, ◌∙◌}
+use Rattle.std.proofs.lemmas.List.{length_push}
 use Rattle.civl_tree.specs.Numbering.{size_of, sizes_of}
-use Rattle.civl_outlined.proofs.Owning.{long_more, after_is, sizes_next, sizes_within, own_more, statements_more, own_if, own_while, own_yield_loop, own_rank_loop}
+use Rattle.civl_tree.proofs.Sizes.{sizes_within}
+use Rattle.civl_outlined.proofs.Owning.{after_is, sizes_next, own_more, statements_more, own_if, own_while, own_yield_loop, own_rank_loop}
 use Rattle.civl_outlined.proofs.places.+places.Goals as goal
 
 pub add_all-size-requires : goal.add_all-size-requires
@@ -25,7 +27,7 @@ add_all-add_inner-requires t c =
     let here = c.loop-index.invariant.here in
     let small : c.loop-index.here + size_of c.index-items-index.result < 2 ^ 32 = omega (arith, next, within, same, here, c.requires.small) in
     let less : 2 * size_of c.index-items-index.result < 2 * sizes_of c.args.stmts.now + 1 = omega (arith, next, within, same) in
-    let count : length c.push.new.self.items ≡ c.loop-index.here + 1 = ap length c.in_ok-push.ensures.items ∙ long_more _ _ ∙ ap (λ (n : ℕ). n + 1) c.loop-index.invariant.own.long in
+    let count : length c.push.new.self.items ≡ c.loop-index.here + 1 = ap length c.in_ok-push.ensures.items ∙ length_push _ _ ∙ ap (λ (n : ℕ). n + 1) c.loop-index.invariant.own.long in
     search rules
 
 pub add_all-loop-index-preserved : goal.add_all-loop-index-preserved

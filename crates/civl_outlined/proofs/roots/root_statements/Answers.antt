@@ -2,10 +2,11 @@ use Rattle.std.proofs.Common.{List, ℕ, ◌∙◌, ap, sym, get_or, subst}
 use Rattle.civl_tree.specs.declared.program.Program.{Program}
 use Rattle.civl_tree.specs.rules.Rules.{Keeps}
 use Rattle.civl_yields.specs.YieldRules.{yield_rules}
+use Rattle.civl_goals.proofs.Plain.{roots_are_plain}
 use Rattle.civl_outlined.specs.declared.places.Place.{Place}
 use Rattle.civl_outlined.specs.Places.{ArePlaces}
 use Rattle.civl_outlined.proofs.Stating.{places_are_few}
-use Rattle.civl_outlined.proofs.Plain.{roots_are_plain, few_statements, counts_are}
+use Rattle.civl_outlined.proofs.Plain.{few_statements, counts_are}
 use Rattle.civl_outlined.proofs.roots.root_statements.Goals as goal
 
 pub places_of-requires : goal.places_of-requires

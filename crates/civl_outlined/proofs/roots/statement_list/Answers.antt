@@ -1,6 +1,6 @@
 use Rattle.std.proofs.Common.{◌∙◌, ◌+◌, ℕ, refl, ap, length}
 use Rattle.std.proofs.lemmas.Option.{slice_get_read}
-use Rattle.civl_outlined.proofs.Owning.{long_more}
+use Rattle.std.proofs.lemmas.List.{length_push}
 use Rattle.civl_outlined.proofs.Stating.{none_there, one_there, all_there, stands_there}
 use Rattle.civl_outlined.proofs.roots.statement_list.Goals as goal
 
@@ -22,7 +22,7 @@ pub loop-number-preserved : goal.loop-number-preserved
 loop-number-preserved c =
     let at = slice_get_read c.args.places.now (length c.args.places.now) c.loop-number.number c.index-places-number.result refl c.loop-number-test.true c.index-places-number.is in
     record {
-      long = ap length c.in_ok-push.ensures.ok ∙ long_more _ _ ∙ ap (λ (n : ℕ). n + 1) c.loop-number.invariant.long;
+      long = ap length c.in_ok-push.ensures.ok ∙ length_push _ _ ∙ ap (λ (n : ℕ). n + 1) c.loop-number.invariant.long;
       are = one_there c.args.said.now.program.now c.args.said.now.outline.now c.args.place c.args.proc.now c.args.places.now c.loop-number.number c.index-places-number.result _ _ c.statement_sums-sums.result c.requires.places at
           (stands_there c.args.proc.now.body c.args.places.now c.loop-number.number c.index-places-number.result c.requires.places c.requires.plain at) c.in_ok-push.ensures.ok c.statement_sums-sums.ensures c.loop-number.invariant.long c.loop-number.invariant.are;
     }

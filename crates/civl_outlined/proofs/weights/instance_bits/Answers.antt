@@ -2,7 +2,7 @@ use Rattle.std.proofs.Common.{Some, None, refl}
 use Rattle.civl_weighing.proofs.Capping.{sum_weighs}
 use Rattle.civl_weighing.proofs.Listing.{got_of}
 use Rattle.civl_weights.specs.Kinds.{instance_bits}
-use Rattle.civl_outlined.proofs.Acting.{action_there, action_none}
+use Rattle.civl_weights.proofs.Finding.{action_there, action_none}
 use Rattle.civl_outlined.proofs.weights.instance_bits.Goals as goal
 
 pub returns-in-Some : goal.returns-in-Some

@@ -1,7 +1,7 @@
 use Rattle.std.proofs.Common.{Some, None, refl}
 use Rattle.civl_conditions.specs.Weights.{keep_weight}
 use Rattle.civl_weighing.proofs.Listing.{got_of}
-use Rattle.civl_outlined.proofs.Acting.{action_there, action_none}
+use Rattle.civl_weights.proofs.Finding.{action_there, action_none}
 use Rattle.civl_outlined.proofs.weights.keep_own.Goals as goal
 
 pub returns-in-Some : goal.returns-in-Some

@@ -1,9 +1,10 @@
 use Rattle.std.proofs.Common.{arith, ◌∙◌, sym, ap, subst}
 use Rattle.civl_cnf.specs.Literal.{Literal, opposite}
+use Rattle.civl_cnf.proofs.Literals.{opposite_twice}
 use Rattle.civl_propagation.specs.Watches.{VisitSays}
 use Rattle.civl_propagation.specs.declared.trail.Step.{Step}
 use Rattle.civl_propagation.proofs.Serving.{grows_self, grows_trans}
-use Rattle.civl_propagation.proofs.Visiting.{opposite_twice, visiting_begins, visiting_ends}
+use Rattle.civl_propagation.proofs.Visiting.{visiting_begins, visiting_ends}
 use Rattle.civl_propagation.proofs.visits.visit_watchers.Goals as goal
 
 pub loop-at-init : goal.loop-at-init

@@ -2,7 +2,8 @@ use Rattle.std.proofs.Common.{subst}
 use Rattle.civl_tree.specs.declared.program.Program.{Program}
 use Rattle.civl_tree.specs.rules.Rules.{Keeps}
 use Rattle.civl_tree.specs.rules.Typing.{typing_rules}
-use Rattle.civl_prove.proofs.Limits.{no_variables, goal_made}
+use Rattle.civl_states.proofs.formula_parts.Giving.{no_variables}
+use Rattle.civl_prove.proofs.Limits.{goal_made}
 use Rattle.civl_prove.proofs.making.make.Goals as goal
 
 pub goal_violation-requires-clause-variables : goal.goal_violation-requires-clause-variables

@@ -1,8 +1,9 @@
 use Rattle.std.proofs.Common.{◌≡◌, ◌∙◌, ◌++◌, ◌∷◌, [], sym, ap, subst, arith, List, length, append_assoc}
 use Rattle.civl_cnf.specs.Literal.{Literal, opposite}
 use Rattle.std.specs.Prelude.{Contains}
+use Rattle.std.proofs.lemmas.List.{nil_from_length}
 use Rattle.civl_provers.specs.Splitter.{IsSplit, FewerLeft}
-use Rattle.civl_provers.proofs.Branches.{learned, learned_there, all_refuted, turned_last, taken_back, empty_is}
+use Rattle.civl_provers.proofs.Branches.{learned, learned_there, all_refuted, turned_last, taken_back}
 use Rattle.civl_provers.proofs.Steps.{fewer_left}
 use Rattle.civl_provers.proofs.refuting.refute.Goals as goal
 
@@ -14,7 +15,7 @@ returns-in-None-clause-after c set h =
     let is : new ≡ log ++ falses ∷ [] = c.in_ok-learn.ensures ∙ ap (λ x. log ++ x ∷ []) c.as_slice.ensures.value in
     let none = c.in-None.ensures.cases in
     let size : length falses ≡ 0 = omega (arith, none.0) in
-    all_refuted set falses new (empty_is falses size) (learned set falses log new is (c.loop-falses.invariant.refuted set h)) (learned_there falses log new is)
+    all_refuted set falses new (nil_from_length falses size) (learned set falses log new is (c.loop-falses.invariant.refuted set h)) (learned_there falses log new is)
 
 pub returns-then-positive-clause-after : goal.returns-then-positive-clause-after
 returns-then-positive-clause-after c set h =

@@ -8,6 +8,7 @@ use Rattle.civl_tree.specs.declared.action.Action.{Action}
 use Rattle.civl_tree.specs.declared.program.Global.{Global}
 use Rattle.civl_tree.specs.declared.program.Program.{Program}
 use Rattle.civl_tree.proofs.Kept.{global_kept}
+use Rattle.civl_tree.proofs.Bools.{not_second}
 use Rattle.civl_firing.specs.declared.store.Store.{Store}
 use Rattle.civl_firing.specs.Stores.{IsStore}
 use Rattle.civl_firing.specs.Fired.{fires}
@@ -22,7 +23,6 @@ use Rattle.civl_conditions.proofs.footprints.Acting.{acts_alike}
 use Rattle.civl_conditions.proofs.footprints.Keeping.{agree_back, agree_then, agree_both, leaves_others}
 use Rattle.civl_conditions.proofs.footprints.Existing.{through_in, uses_what_exists}
 use Rattle.civl_condition_laws.proofs.Carrying.{LinearPass, same_linear}
-use Rattle.civl_condition_laws.proofs.Meeting.{not_second}
 use Rattle.civl_reduction.specs.blocks.Shadow.{merged_values, merged}
 use Rattle.civl_reduction.specs.blocks.Merged.{MergedFit, MergedCarry, ActionsActAsThere}
 

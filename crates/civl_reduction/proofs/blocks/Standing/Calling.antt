@@ -1,6 +1,6 @@
 -- The action that a call means in the program of a layer is the one that the phases speak of.
-use Rattle.std.proofs.Common.{◌≡◌, ℕ, Bool, true, false, not, refl, sym, ap, ◌∙◌, Option, None, Some, slice_get}
-use Rattle.std.proofs.lemmas.Bool.{false≢true}
+use Rattle.std.proofs.Common.{◌≡◌, ℕ, Bool, true, false, refl, sym, ap, ◌∙◌, Option, None, Some, slice_get}
+use Rattle.std.proofs.lemmas.Bool.{not-false}
 use Rattle.civl_tree.specs.declared.name.Name.{Name}
 use Rattle.civl_tree.specs.declared.action.Action.{Action}
 use Rattle.civl_tree.specs.declared.program.Refines.{Refines}
@@ -42,11 +42,7 @@ module _ (plain : Plain) where
 
   -- a call that doesn't stop left movers is of one
   pub follows : (name : Name) (a : Action) → called plain name ≡ Does a → stops plain.program name ≡ false → is_left a.mover ≡ true
-  follows name a e s = unnot (is_left a.mover) (sym (ap too_late (means_same name a e)) ∙ s)
-    where
-      unnot : (b : Bool) → not b ≡ false → b ≡ true
-      unnot true h = refl
-      unnot false h = absurd (false≢true (sym h))
+  follows name a e s = not-false (is_left a.mover) (sym (ap too_late (means_same name a e)) ∙ s)
 
   -- a call of an action that isn't a right mover turns the phase
   pub turned : (name : Name) (a : Action) → called plain name ≡ Does a → turns a.mover ≡ true → flow.turns plain.program name ≡ true

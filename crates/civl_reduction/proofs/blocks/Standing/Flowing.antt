@@ -1,6 +1,7 @@
 -- Going over statements in a phase: the phase behind them, and whether a call in them comes too late.
 use Rattle.std.proofs.Common.{◌≡◌, Bool, true, false, ◌&&◌, ◌||◌, List, [], ◌∷◌, ◌++◌, length, refl, ap, ap₂, ◌∙◌, arith, Option, None, Some}
 use Rattle.std.proofs.lemmas.List.{length-append}
+use Rattle.std.proofs.Math.Bool.{or-false}
 use Rattle.civl_tree.specs.declared.name.Name.{Name}
 use Rattle.civl_tree.specs.declared.action.Action.{Action}
 use Rattle.civl_tree.specs.declared.stmt.Stmt.{Stmt, out-Stmt}
@@ -45,10 +46,6 @@ module _ (program : Program) where
   or_over : (a b c : Bool) → (a || (b || c)) ≡ ((a || b) || c)
   or_over true b c = refl
   or_over false b c = refl
-
-  or_false : (a : Bool) → (a || false) ≡ a
-  or_false true = refl
-  or_false false = refl
 
   late_joined : (ss ts : List Stmt) (ls ms : List Bool) → length ls ≡ length ss → any_late (ss ++ ts) (ls ++ ms) ≡ (any_late ss ls || any_late ts ms)
   late_joined [] ts [] ms e = refl
@@ -112,7 +109,7 @@ module _ (program : Program) where
 
   form_flow : (s : Stmt) (form : Stmt-F Stmt) → out-Stmt s ≡ form → (left : Bool) → found s form left ≡ flow_form form left
   form_flow s (Call callee args results) e left =
-      ap₂ mk (called_after (called_action program callee) left) (or_false (stmt_late program s left) ∙ first_late s (Call callee args results) e left)
+      ap₂ mk (called_after (called_action program callee) left) (or-false (stmt_late program s left) ∙ first_late s (Call callee args results) e left)
     where
       mk : Bool → Bool → Flow
       mk x y = record { after = x; bad = y }

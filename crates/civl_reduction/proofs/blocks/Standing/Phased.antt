@@ -13,6 +13,7 @@ use Rattle.civl_tree.specs.rules.Rules.{Keeps}
 use Rattle.civl_tree.specs.rules.Broken.{InStatement}
 use Rattle.civl_tree.proofs.Kept.{unbroken}
 use Rattle.civl_tree.proofs.Pairs.{contains_here}
+use Rattle.civl_tree.proofs.Bools.{either}
 use Rattle.civl_names.specs.walks.Walks.{numbers_with}
 use Rattle.civl_meaning.specs.Rest.{Rest, rest_inside, rest_among, rest_at}
 use Rattle.civl_meaning.proofs.Rests.{rest_layer, rest_is, among_rest, rest_none}
@@ -21,10 +22,6 @@ use Rattle.civl_yields.specs.Places.{stmt_late}
 use Rattle.civl_yields.specs.YieldRules.{late_under, phase_rule, yield_rules}
 use Rattle.civl_reduction.proofs.blocks.Standing.Flowing.{any_late, flow, flow_list}
 use Rattle.civl_reduction.proofs.blocks.Standing.Turning.{IsClean, clean_list, EntersClean, enters_clean}
-
-either : (P : Rest → Type 0) (b : Bool) (x y : Rest) → P x → P y → P (if b then x else y)
-either P true x y p q = p
-either P false x y p q = q
 
 module _ (program : Program) where
   -- ---- from any place on

@@ -1,7 +1,7 @@
 -- What a thread does next, by where it stands.
 use Rattle.std.proofs.Common.{◌≡◌, ◌≢◌, ℕ, suc, ◌+◌, ◌-◌, Bool, true, false, List, [], ◌∷◌, length, refl, sym, ap, ◌∙◌, subst, arith, Option, None, Some, slice_get}
 use Rattle.std.specs.Prelude.{if◌then◌else◌}
-use Rattle.std.proofs.lemmas.Bool.{false≢true, eqb-true}
+use Rattle.std.proofs.lemmas.Bool.{false≢true, false_from_ne_true}
 use Rattle.std.proofs.lemmas.Option.{none-some, same_Some}
 use Rattle.civl_bits.specs.declared.value.Value.{Value}
 use Rattle.civl_firing.specs.values.Values.{is_true}
@@ -31,6 +31,7 @@ use Rattle.civl_meaning.specs.Config.{IsPlain, IsBodyOf, LayerCalls, SpotCalls, 
 use Rattle.civl_layers.specs.Layered.{IsLayered}
 use Rattle.civl_layers.proofs.PlainPrograms.{layered_is_plain}
 use Rattle.civl_conditions.specs.Steps.{refines_at, has_layer}
+use Rattle.civl_conditions.proofs.Layered.{layered_by}
 use Rattle.civl_yields.specs.Movers.{turns}
 use Rattle.civl_yields.specs.Phases.{called_phase}
 use Rattle.civl_yields.specs.YieldRules.{yield_rules}
@@ -99,10 +100,6 @@ module _ (program : Program) (layer : ℕ) where
     pub open_block : at_yield (rest_at proc.body frame.place) ≡ false
     pub nothing : ahead_in program (rest_at proc.body frame.place) ≡ false
 
-  layered_by : (o : Option Refines) → refines_at (layer + 1) o ≡ true → (r : Refines) × (o ≡ Some r) × (r.layer ≡ layer + 1)
-  layered_by None e = absurd (false≢true e)
-  layered_by (Some r) e = (r, refl, eqb-true r.layer (layer + 1) e)
-
   late_is : (frame : Activation) (proc : Proc) → frame_stands frame (Some proc) ≡ Late → IsLate frame proc
   late_is frame proc = by_layer (has_layer (layer + 1) proc) refl
     where
@@ -111,7 +108,7 @@ module _ (program : Program) (layer : ℕ) where
 
       by_ahead : (b : Bool) → ahead_in program (rest_at proc.body frame.place) ≡ b → has_layer (layer + 1) proc ≡ true → at_yield (rest_at proc.body frame.place) ≡ false → (if b then Early else Late) ≡ Late → IsLate frame proc
       by_ahead true a l y e = absurd cc
-      by_ahead false a l y e = let r = layered_by proc.refines l in record { refines = r.0; refined = r.1; layered = r.2; open_block = y; nothing = a }
+      by_ahead false a l y e = let r = layered_by (layer + 1) proc.refines l in record { refines = r.0; refined = r.1; layered = r.2; open_block = y; nothing = a }
 
       by_yield : (b : Bool) → at_yield (rest_at proc.body frame.place) ≡ b → has_layer (layer + 1) proc ≡ true → place_of_rest program (if◌then◌else◌ {A = Option Rest} b None (Some (rest_at proc.body frame.place))) ≡ Late → IsLate frame proc
       by_yield true y l e = absurd cc
@@ -137,12 +134,8 @@ module _ (program : Program) (layer : ℕ) where
 
     -- a frame that waits in a call that runs a body is of no procedure of the layer above
     waits_outside : (n : ℕ) (f : Activation) → Waits plain n f → Outside f.procedure
-    waits_outside n f w proc there = untrue (has_layer (layer + 1) proc) (λ l. by_spot l (spot_at proc.body f.place) refl (subst (ProcCalls plain n f.place) there w))
+    waits_outside n f w proc there = false_from_ne_true (has_layer (layer + 1) proc) (λ l. by_spot l (spot_at proc.body f.place) refl (subst (ProcCalls plain n f.place) there w))
       where
-        untrue : (b : Bool) → (b ≡ true → ⊥) → b ≡ false
-        untrue true h = absurd (h refl)
-        untrue false h = refl
-
         by_meaning : (m : Meaning) → IsBodyOf n m → (number : ℕ) × (p : Proc) × (m ≡ Runs number p)
         by_meaning (Does a) b = absurd b
         by_meaning (Runs number p) b = (number, p, refl)
@@ -150,7 +143,7 @@ module _ (program : Program) (layer : ℕ) where
 
         by_form : has_layer (layer + 1) proc ≡ true → (s : Spot) → spot_at proc.body f.place ≡ Some s → (d : Stmt-F Stmt) → out-Stmt s.stmt ≡ d → LayerCalls plain n d → ⊥
         by_form l s at (Call g es rs) form c =
-            let r = layered_by proc.refines l in
+            let r = layered_by (layer + 1) proc.refines l in
             let low = r.2 in
             let m = by_meaning (called plain g) c in
             calls_no_body program layer src f.procedure proc r.0 there r.1 (omega (arith, low)) s.number s.stmt (stands_there program proc.body f.place s at) g es rs form m.0 m.1 m.2
@@ -222,12 +215,8 @@ module _ (program : Program) (layer : ℕ) where
       -- early behind a call, that is of a right mover
       early_call : (s : Spot) → spot_at proc.body top.place ≡ Some s → (g : Name) (es : List Expr) (rs : List Name) → out-Stmt s.stmt ≡ Call g es rs → (a : Action) → called plain g ≡ Does a → (frame : Activation) → frame.procedure ≡ top.procedure → frame.place ≡ s.next
           → frame_stands frame (slice_get program.procs frame.procedure) ≡ Early → turns a.mover ≡ false
-      early_call s at g es rs form a does frame number place early = untrue (turns a.mover) (λ t. by_layer (has_layer (layer + 1) proc) refl t)
+      early_call s at g es rs form a does frame number place early = false_from_ne_true (turns a.mover) (λ t. by_layer (has_layer (layer + 1) proc) refl t)
         where
-          untrue : (b : Bool) → (b ≡ true → ⊥) → b ≡ false
-          untrue true h = absurd (h refl)
-          untrue false h = refl
-
           here : slice_get program.procs frame.procedure ≡ Some proc
           here = ap (slice_get program.procs) number ∙ there
 
@@ -237,7 +226,7 @@ module _ (program : Program) (layer : ℕ) where
               let b : Between ≡ Early = sym between ∙ early in
               absurd cc
           by_layer true l t =
-              let r = layered_by proc.refines l in
+              let r = layered_by (layer + 1) proc.refines l in
               let low = r.2 in
               let lead = led program proc.body top.place s at in
               let nothing = behind_turn program layer src ok yields top.procedure proc r.0 there r.1 (omega (arith, low)) s.stmt s.number lead.rest g es rs form (spot_belongs program proc.body top.place s at).1 (spot_clean program yields top.procedure proc r.0 there r.1 top.place s at) a does t in
@@ -289,18 +278,14 @@ threads_turn_once program layer thread src yields stacked =
 
 -- ---- bodies
 
-refined_by : (layer : ℕ) (o : Option Refines) → refines_at layer o ≡ true → (r : Refines) × (o ≡ Some r) × (r.layer ≡ layer)
-refined_by layer None e = absurd (false≢true e)
-refined_by layer (Some r) e = (r, refl, eqb-true r.layer layer e)
-
 pub calls_run_no_bodies : CallsRunNoBodies
 calls_run_no_bodies program layer number at proc call callee args results src there layered here form n body =
-    let r = refined_by (layer + 1) proc.refines layered in
+    let r = layered_by (layer + 1) proc.refines layered in
     let low = r.2 in
     calls_no_body program layer src number proc r.0 there r.1 (omega (arith, low)) at call here callee args results form n body
 
 pub nothing_ahead_behind_turns : NothingAheadBehindTurns
 nothing_ahead_behind_turns program layer number place at proc call rest callee args results action yields there layered is form meant t =
-    let r = refined_by layer proc.refines layered in
+    let r = layered_by layer proc.refines layered in
     let c = subst (IsClean program) is (layered_clean program yields number proc r.0 there r.1 place) in
     nothing_ahead program rest (enters_clean program call at rest c.0 c.1 (stmt.Call callee args results) form (ap (λ (o : Option Action). called_phase o false) meant ∙ t))

@@ -1,6 +1,6 @@
 -- Where no call comes too late, no right or atomic call is ahead in a block behind its first left or atomic call.
 use Rattle.std.proofs.Common.{◌≡◌, ℕ, ◌+◌, Bool, true, false, ◌||◌, List, [], ◌∷◌, ◌++◌, map, refl, sym, ap, ◌∙◌, subst, inl, inr, ◌⊎◌}
-use Rattle.std.proofs.lemmas.Bool.{false≢true, or_cases, or_parts}
+use Rattle.std.proofs.lemmas.Bool.{false≢true, or_cases, or_parts, or_left, or_right, false_from_ne_true, both_ways}
 use Rattle.civl_tree.specs.declared.stmt.Stmt.{Stmt, out-Stmt, roll-Stmt, out-roll-Stmt, map-Stmt}
 use Rattle.civl_tree.specs.declared.stmt.Stmt.TheOpen.{Stmt-F, If, While, YieldLoop, RankLoop, Call, Yield}
 use Rattle.civl_tree.specs.declared.stmt.Stmt.TheFolds.{ind-Stmt}
@@ -10,21 +10,6 @@ use Rattle.civl_meaning.specs.Rest.{Rest}
 use Rattle.civl_reduction.specs.blocks.Ahead.{stops, ahead, ahead_list, ahead_in}
 use Rattle.civl_reduction.proofs.blocks.Standing.Computing.{ahead_form, ahead_is}
 use Rattle.civl_reduction.proofs.blocks.Standing.Flowing.{turns, Flow, Flows, flow, flow_list, flow_then, list_flow, flow_loop, flow_form, flow_is}
-
-pub or_first : (a b : Bool) → a ≡ true → (a || b) ≡ true
-or_first true b e = refl
-or_first false b e = absurd (false≢true e)
-
-pub or_second : (a b : Bool) → b ≡ true → (a || b) ≡ true
-or_second true b e = refl
-or_second false b e = e
-
-pub untrue : (b : Bool) → (b ≡ true → ⊥) → b ≡ false
-untrue true f = absurd (f refl)
-untrue false f = refl
-
-pub not_both : (b : Bool) → b ≡ true → b ≡ false → ⊥
-not_both b e f = false≢true (sym f ∙ e)
 
 module _ (program : Program) where
   -- ---- entered left, what is ahead comes too late, or is behind, where the phase is left too
@@ -47,9 +32,9 @@ module _ (program : Program) where
 
       go : ((flow program s true).bad ≡ true) ⊎ ((ahead_list program ss later ≡ true) × ((flow program s true).after ≡ true))
           → ((flow_then program (flow program s true) (flow_list program ss)).bad ≡ true) ⊎ ((later ≡ true) × ((flow_then program (flow program s true) (flow_list program ss)).after ≡ true))
-      go (inl b) = inl (or_first (flow program s true).bad (flow_list program ss (flow program s true).after).bad b)
+      go (inl b) = inl (or_left (flow program s true).bad (flow_list program ss (flow program s true).after).bad b)
       go (inr r) = elim (k later r.0) [
-        | inl b ↦ inl (or_second (flow program s true).bad (flow_list program ss (flow program s true).after).bad (subst (λ (l : Bool). (flow_list program ss l).bad ≡ true) (sym r.1) b))
+        | inl b ↦ inl (or_right (flow program s true).bad (flow_list program ss (flow program s true).after).bad (subst (λ (l : Bool). (flow_list program ss l).bad ≡ true) (sym r.1) b))
         | inr b ↦ inr (b.0, subst (λ (l : Bool). (flow_list program ss l).after ≡ true) (sym r.1) b.1)
       ]
 
@@ -65,8 +50,8 @@ module _ (program : Program) where
 
   if_tells : (a b : List Stmt) (later : Bool) → TellsAll a → TellsAll b → Told (ahead_list program a later || ahead_list program b later) (record { after = (flow_list program a true).after || (flow_list program b true).after; bad = (flow_list program a true).bad || (flow_list program b true).bad }) later
   if_tells a b later h k e = elim (or_cases (ahead_list program a later) (ahead_list program b later) e) [
-    | inl f ↦ elim (h later f) [ inl g ↦ inl (or_first x.bad y.bad g) | inr g ↦ inr (g.0, or_first x.after y.after g.1) ]
-    | inr f ↦ elim (k later f) [ inl g ↦ inl (or_second x.bad y.bad g) | inr g ↦ inr (g.0, or_second x.after y.after g.1) ]
+    | inl f ↦ elim (h later f) [ inl g ↦ inl (or_left x.bad y.bad g) | inr g ↦ inr (g.0, or_left x.after y.after g.1) ]
+    | inr f ↦ elim (k later f) [ inl g ↦ inl (or_right x.bad y.bad g) | inr g ↦ inr (g.0, or_right x.after y.after g.1) ]
   ]
     where
       x : Flow program
@@ -108,7 +93,7 @@ module _ (program : Program) where
   Grows s = Rises (flow program s false) (flow program s true)
 
   or_rises : (a b c d : Bool) → (a ≡ true → c ≡ true) → (b ≡ true → d ≡ true) → (a || b) ≡ true → (c || d) ≡ true
-  or_rises a b c d h k e = elim (or_cases a b e) [ inl f ↦ or_first c d (h f) | inr f ↦ or_second c d (k f) ]
+  or_rises a b c d h k e = elim (or_cases a b e) [ inl f ↦ or_left c d (h f) | inr f ↦ or_right c d (k f) ]
 
   then_rises : (s : Stmt) (ss : List Stmt) → Grows s → Rises (flow_list program ss false) (flow_list program ss true) → Rises (flow_list program (s ∷ ss) false) (flow_list program (s ∷ ss) true)
   then_rises s ss h k =
@@ -159,19 +144,19 @@ module _ (program : Program) where
   clean_less [] l m h e = tt
   clean_less (q ∷ k) l m h e =
       let r = any_rises (flow program q.1) (grows q.1) l m h in
-      (untrue (flow program q.1 l).bad (λ b. not_both (flow program q.1 m).bad (r.0 b) e.0), clean_less k (flow program q.1 l).after (flow program q.1 m).after r.1 e.1)
+      (false_from_ne_true (flow program q.1 l).bad (λ b. both_ways (flow program q.1 m).bad e.0 (r.0 b)), clean_less k (flow program q.1 l).after (flow program q.1 m).after r.1 e.1)
 
   clean_left : (k : Rest) → Clean true k → ahead_in program k ≡ true → ⊥
   clean_left [] c e = false≢true e
   clean_left (q ∷ k) c e = go (tells q.1 (ahead_in program k) e) (λ h d. clean_left k d h)
     where
       go : ((flow program q.1 true).bad ≡ true) ⊎ ((ahead_in program k ≡ true) × ((flow program q.1 true).after ≡ true)) → (ahead_in program k ≡ true → Clean true k → ⊥) → ⊥
-      go (inl b) ih = not_both (flow program q.1 true).bad b c.0
+      go (inl b) ih = both_ways (flow program q.1 true).bad c.0 b
       go (inr r) ih = ih r.0 (subst (λ (l : Bool). Clean l k) r.1 c.1)
 
   -- where the phase is left, nothing that stops left movers is ahead
   pub nothing_ahead : (k : Rest) → Clean true k → ahead_in program k ≡ false
-  nothing_ahead k c = untrue (ahead_in program k) (clean_left k c)
+  nothing_ahead k c = false_from_ne_true (ahead_in program k) (clean_left k c)
 
   pub clean_list : (ss : List Stmt) (at : ℕ) (k : Rest) (l : Bool) → (flow_list program ss l).bad ≡ false → Clean (flow_list program ss l).after k → Clean l (numbered at ss ++ k)
   clean_list [] at k l b c = c
@@ -202,7 +187,7 @@ module _ (program : Program) where
     where
       go : (h : Bool) → (f false).after ≡ h → (f h).after ≡ true → h ≡ true
       go true p q = refl
-      go false p q = absurd (not_both (f false).after q p)
+      go false p q = absurd (both_ways (f false).after p q)
 
   again : (l a : Bool) → ((l || a) || a) ≡ (l || a)
   again true a = refl
@@ -223,14 +208,14 @@ module _ (program : Program) where
   enters_clean s at k l c d o = go d (λ x. flow_is program s x ∙ ap (λ (y : Stmt-F Stmt). flow_form program y x) o)
     where
       go : (d : Stmt-F Stmt) → ((x : Bool) → flow program s x ≡ flow_form program d x) → EntersClean d at s k
-      go (Call f es rs) is = λ t. subst (λ (x : Bool). Clean x k) (ap (λ (x : Flow program). x.after) (is l) ∙ or_second l (turns program f) t) c.1
+      go (Call f es rs) is = λ t. subst (λ (x : Bool). Clean x k) (ap (λ (x : Flow program). x.after) (is l) ∙ or_right l (turns program f) t) c.1
       go (If e a b) is = λ m n.
           let fa = flow_list program a l in
           let fb = flow_list program b l in
           let bad = or_parts fa.bad fb.bad (sym (ap (λ (x : Flow program). x.bad) (is l)) ∙ c.0) in
           let rest : Clean (fa.after || fb.after) k = subst (λ (x : Flow program). Clean x.after k) (is l) c.1 in (
-            (l, clean_list a m k l bad.0 (clean_less k fa.after (fa.after || fb.after) (λ t. or_first fa.after fb.after t) rest)),
-            (l, clean_list b n k l bad.1 (clean_less k fb.after (fa.after || fb.after) (λ t. or_second fa.after fb.after t) rest)),
+            (l, clean_list a m k l bad.0 (clean_less k fa.after (fa.after || fb.after) (λ t. or_left fa.after fb.after t) rest)),
+            (l, clean_list b n k l bad.1 (clean_less k fb.after (fa.after || fb.after) (λ t. or_right fa.after fb.after t) rest)),
           )
       go (While e a) is = loop_clean s a at k l is c
       go (RankLoop e r i a) is = loop_clean s a at k l is c

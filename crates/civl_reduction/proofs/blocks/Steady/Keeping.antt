@@ -2,8 +2,10 @@
 use Rattle.std.proofs.Common.{ℕ, ◌≡◌, Bool, true, false, not, ◌&&◌, List, ◌++◌, Option, sym, ap, ◌∙◌, subst, Contains}
 use Rattle.std.specs.Option.{option_map_or}
 use Rattle.std.proofs.lemmas.List.{append_assoc}
+use Rattle.std.proofs.lemmas.Bool.{not-false}
 use Rattle.civl_bits.specs.declared.value.Value.{Value}
 use Rattle.civl_tree.specs.declared.expr.Expr.{Expr}
+use Rattle.civl_tree.proofs.Bools.{not_second}
 use Rattle.civl_firing.specs.declared.store.Store.{Store}
 use Rattle.civl_meaning.specs.Permissions.{pairwise_disjoint}
 use Rattle.civl_meaning.specs.Initial.{initial_permissions}
@@ -20,17 +22,17 @@ use Rattle.civl_conditions.specs.Assumed.{owned, assumed}
 use Rattle.civl_conditions.specs.Parts.{outcome_of}
 use Rattle.civl_conditions.specs.Targets.{target_owned, target_lost}
 use Rattle.civl_condition_laws.specs.States.{AreOthersOf}
-use Rattle.civl_condition_laws.proofs.Meeting.{not_second, actions_of_states}
+use Rattle.civl_condition_laws.proofs.Meeting.{actions_of_states}
 use Rattle.civl_condition_laws.proofs.Holding.{paths_of_states}
 use Rattle.civl_reduction.specs.blocks.Steady.{InvariantsBegin, ActionsAreSteady, BlocksAreSteady}
 use Rattle.civl_reduction.proofs.blocks.Steady.Listing.{start_listed, block_listed, act_listed}
-use Rattle.civl_reduction.proofs.blocks.Steady.Losing.{unlost, all_of, is_steady}
+use Rattle.civl_reduction.proofs.blocks.Steady.Losing.{all_of, is_steady}
 
 pub invariants_begin : InvariantsBegin
 invariants_begin program step store h initial = all_of (holds_of_globals program store) (step_invariants program step) (λ i e at.
     let says = (actions_of_states program h.layered).starts step i store (h.hold (Start step i) (start_listed program step h.low h.high i e at)) initial.store_fits in
     let is : is_initial program store ≡ true = ap (λ (b : Bool). b && pairwise_disjoint (initial_permissions program store)) initial.init_holds ∙ initial.disjoint in
-    unlost (holds_of_globals program store e)
+    not-false (holds_of_globals program store e)
     (sym (ap (λ (o : Option Expr). option_map_or (λ x. not (holds_of_globals program store x)) o false) at) ∙ not_second (is_initial program store) (invariant_lost program step i store) is says))
 
 pub actions_are_steady : ActionsAreSteady

@@ -3,7 +3,7 @@ use Rattle.std.proofs.Common.{ℕ, suc, ◌+◌, ◌≡◌, Bool, true, false, n
 use Rattle.std.specs.List.{list_all}
 use Rattle.std.specs.Option.{option_map_or}
 use Rattle.std.specs.Prelude.{codes}
-use Rattle.std.proofs.lemmas.Bool.{false≢true}
+use Rattle.std.proofs.lemmas.Bool.{not-false}
 use Rattle.std.proofs.lemmas.List.{map-append, append_assoc, length-append, length-map}
 use Rattle.civl_bits.specs.declared.value.Value.{Value}
 use Rattle.civl_bits.specs.declared.value.Value.TheVariants as value
@@ -11,11 +11,11 @@ use Rattle.civl_firing.specs.values.Values.{HaveSorts}
 use Rattle.civl_tree.specs.declared.expr.Expr.{Expr}
 use Rattle.civl_tree.specs.declared.expr.Sort.{Sort}
 use Rattle.civl_tree.specs.declared.expr.Sort.TheVariants as sort
-use Rattle.civl_tree.specs.declared.name.Name.{Name}
 use Rattle.civl_tree.specs.declared.program.Proc.{Proc}
 use Rattle.civl_tree.specs.declared.program.Program.{Program}
+use Rattle.civl_tree.proofs.Bools.{not_second}
 use Rattle.civl_firing.specs.declared.store.Store.{Store}
-use Rattle.civl_firing.proofs.Having.{no_sorts, more_sorts, first_sort, rest_sorts}
+use Rattle.civl_firing.proofs.Having.{no_sorts, have_length, have_more}
 use Rattle.civl_meaning.specs.Permissions.{pairwise_disjoint}
 use Rattle.civl_layers.specs.declared.cut.Cut.{Cut}
 use Rattle.civl_layers.specs.Cuts.{proc_cuts}
@@ -24,33 +24,22 @@ use Rattle.civl_conditions.specs.declared.condition.Target.{Target}
 use Rattle.civl_conditions.specs.declared.condition.Target.TheVariants as target
 use Rattle.civl_conditions.specs.Steps.{step_invariants}
 use Rattle.civl_conditions.specs.Listed.{targets}
-use Rattle.civl_conditions.specs.Variables.{variable, flag, of_params, of_locals}
+use Rattle.civl_conditions.specs.Variables.{flag, of_params, of_locals}
 use Rattle.civl_conditions.specs.Values.{flag_at}
 use Rattle.civl_conditions.specs.Permissions.{held_at, of_held}
 use Rattle.civl_conditions.specs.Invariants.{holds_of_globals, invariants_hold}
 use Rattle.civl_conditions.specs.Targets.{Other, frame_size, other_of, yield_holds, target_owned, target_lost}
 use Rattle.civl_condition_laws.specs.States.{frame_sorts, AreOthersOf}
-use Rattle.civl_condition_laws.proofs.Gathering.{have_length}
 use Rattle.civl_condition_laws.proofs.Standing.{past, stands, flag_stands, flag_fit}
-use Rattle.civl_condition_laws.proofs.Meeting.{not_second}
+use Rattle.civl_condition_laws.proofs.Gathering.{sorts_named}
 use Rattle.civl_reduction.specs.blocks.Steady.{Pauses, IsSteady}
 use Rattle.civl_reduction.proofs.blocks.Steady.Listing.{invariant_listed, yield_listed}
 
 -- ---- bools and lists
 
-pub unlost : (b : Bool) → not b ≡ false → b ≡ true
-unlost true e = refl
-unlost false e = absurd (false≢true (sym e))
-
 pub all_of : {A : Type 0} (p : A → Bool) (xs : List A) → ((i : ℕ) (x : A) → slice_get xs i ≡ Some x → p x ≡ true) → list_all p xs ≡ true
 all_of p [] h = refl
 all_of p (x ∷ xs) h = ap (λ (b : Bool). b && list_all p xs) (h 0 x refl) ∙ all_of p xs (λ i y e. h (suc i) y e)
-
-have_more : (vs ws : List Value) (ss ts : List Sort) → HaveSorts vs ss → HaveSorts ws ts → HaveSorts (vs ++ ws) (ss ++ ts)
-have_more [] ws [] ts h k = k
-have_more [] ws (s ∷ ss) ts h k = absurd (false≢true h.are)
-have_more (v ∷ vs) ws [] ts h k = absurd (false≢true h.are)
-have_more (v ∷ vs) ws (s ∷ ss) ts h k = more_sorts v s (vs ++ ws) (ss ++ ts) (first_sort v s vs ss h) (have_more vs ws ss ts (rest_sorts v s vs ss h) k)
 
 -- ---- the values of another thread's frame
 
@@ -58,10 +47,6 @@ abbrev values_of_other : Other → List Value
 values_of_other other = other.locals ++ value.Bool other.done ∷ []
 
 module _ (proc : Proc) (other : Other) (fit : HaveSorts other.locals (frame_sorts proc)) where
-  named_sorts : {A : Type 0} (name_of : A → Name) (sort_of : A → Sort) (front : List ℕ) (xs : List A) → map (λ (v : Variable). v.sort) (map (λ x. variable front (name_of x) (sort_of x)) xs) ≡ map sort_of xs
-  named_sorts name_of sort_of front [] = refl
-  named_sorts name_of sort_of front (x ∷ xs) = ap (λ (ss : List Sort). sort_of x ∷ ss) (named_sorts name_of sort_of front xs)
-
   long : length other.locals ≡ frame_size proc
   long =
       have_length other.locals (frame_sorts proc) fit
@@ -94,12 +79,12 @@ module _ (proc : Proc) (other : Other) (fit : HaveSorts other.locals (frame_sort
       let os = map (λ p. p.sort) proc.outs in
       let ls = map (λ l. l.sort) proc.locals in
       map-append (λ (v : Variable). v.sort) P (O ++ (L ++ F))
-      ∙ (ap (λ (xs : List Sort). xs ++ map (λ (v : Variable). v.sort) (O ++ (L ++ F))) (named_sorts (λ p. p.name) (λ p. p.sort) (codes "other.") proc.params)
+      ∙ (ap (λ (xs : List Sort). xs ++ map (λ (v : Variable). v.sort) (O ++ (L ++ F))) (sorts_named (λ p. p.name) (λ p. p.sort) (codes "other.") proc.params)
       ∙ (ap (λ (xs : List Sort). ps ++ xs)
       (map-append (λ (v : Variable). v.sort) O (L ++ F)
-      ∙ (ap (λ (xs : List Sort). xs ++ map (λ (v : Variable). v.sort) (L ++ F)) (named_sorts (λ p. p.name) (λ p. p.sort) (codes "other.") proc.outs)
+      ∙ (ap (λ (xs : List Sort). xs ++ map (λ (v : Variable). v.sort) (L ++ F)) (sorts_named (λ p. p.name) (λ p. p.sort) (codes "other.") proc.outs)
       ∙ ap (λ (xs : List Sort). os ++ xs)
-      (map-append (λ (v : Variable). v.sort) L F ∙ ap (λ (xs : List Sort). xs ++ sort.Bool ∷ []) (named_sorts (λ l. l.name) (λ l. l.sort) (codes "other.") proc.locals))))
+      (map-append (λ (v : Variable). v.sort) L F ∙ ap (λ (xs : List Sort). xs ++ sort.Bool ∷ []) (sorts_named (λ l. l.name) (λ l. l.sort) (codes "other.") proc.locals))))
       ∙ (ap (λ (xs : List Sort). ps ++ xs) (sym (append_assoc os ls (sort.Bool ∷ []))) ∙ sym (append_assoc ps (os ++ ls) (sort.Bool ∷ [])))))
 
   pub others_fit : (program : Program) (r y : ℕ) → slice_get program.procs r ≡ Some proc → AreOthersOf program (target.Yield r y) (values_of_other other)
@@ -117,7 +102,7 @@ module _ (program : Program) (step : ℕ) (owns : List (List ℕ)) (before after
   all_hold : pairwise_disjoint owns ≡ true → invariants_hold program step after ≡ true
   all_hold apart = all_of (holds_of_globals program after) (step_invariants program step) (λ i e at.
       let kept = keeps (target.Invariant i) [] (invariant_listed program step i e at) no_sorts (subst (λ (ps : List (List ℕ)). pairwise_disjoint ps ≡ true) (sym (append-nil owns)) apart) in
-      unlost (holds_of_globals program after e) (sym (ap (λ (o : Option Expr). option_map_or (λ x. not (holds_of_globals program after x)) o false) at) ∙ kept))
+      not-false (holds_of_globals program after e) (sym (ap (λ (o : Option Expr). option_map_or (λ x. not (holds_of_globals program after x)) o false) at) ∙ kept))
 
   -- what is said of the yield's frame is said of this one
   lost_of : Proc → Cut → Other → Bool
@@ -139,7 +124,7 @@ module _ (program : Program) (step : ℕ) (owns : List (List ℕ)) (before after
       ∙ (ap (λ (o : Option Cut). option_map_or (λ (k : Cut). lost_of proc k (other_of proc values 0)) o false) (sym is.at.there)
       ∙ (ap (λ (o : Option Proc). option_map_or (λ (p : Proc). option_map_or (λ (k : Cut). lost_of p k (other_of p values 0)) (slice_get (proc_cuts p) y) false) o false) (sym is.at.of_proc.there)
       ∙ kept)) in
-      unlost (yield_holds program proc cut other after) (not_second (yield_holds program proc cut other before) (not (yield_holds program proc cut other after)) holds lost)
+      not-false (yield_holds program proc cut other after) (not_second (yield_holds program proc cut other before) (not (yield_holds program proc cut other after)) holds lost)
 
   pub is_steady : IsSteady program step owns before after
   is_steady = record { invariants = all_hold; yields = yield_kept }

@@ -1,7 +1,7 @@
 -- The conditions' tests as facts of a path's end.
 use Rattle.std.proofs.Common.{ℕ, ◌≤◌, ◌≡◌, Bool, true, false, not, ◌&&◌, ◌||◌, List, ◌++◌, Option, Some, None, slice_get, nat_eq, sym, refl, ap, ◌∙◌}
 use Rattle.std.specs.List.{Contains}
-use Rattle.std.proofs.lemmas.Bool.{false≢true, eq-eqb, or_parts, not-false}
+use Rattle.std.proofs.lemmas.Bool.{false≢true, eq-eqb, or_parts, not-false, and_parts}
 use Rattle.civl_bits.specs.declared.value.Value.{Value}
 use Rattle.civl_firing.specs.values.Operators.{two_value}
 use Rattle.civl_firing.specs.values.Values.{is_true}
@@ -21,7 +21,6 @@ use Rattle.civl_conditions.specs.footprints.Agreement.{exists_at}
 use Rattle.civl_conditions.specs.paths.NoteValues.{plain_note_values}
 use Rattle.civl_conditions.specs.paths.Paths.{Progress, Outcome, progress_of, has_failed}
 use Rattle.civl_conditions.specs.paths.Ends.{is_rank_loop, is_exit, ends_block, arrived}
-use Rattle.civl_conditions.specs.declared.condition.Condition.{Condition}
 use Rattle.civl_conditions.specs.declared.condition.Condition.TheVariants.{Path, Block}
 use Rattle.civl_conditions.specs.declared.condition.Part.{Part}
 use Rattle.civl_conditions.specs.declared.condition.Part.TheVariants.{Gate, Invariant, Once, Stutter, Perform, Rank}
@@ -32,7 +31,7 @@ use Rattle.civl_conditions.specs.Movers.{on_some}
 use Rattle.civl_conditions.specs.Assumed.{cut_invariant, cut_rank, note_holds, refined_action, with_of, inputs_of, owned, assumed}
 use Rattle.civl_conditions.specs.Parts.{outcome_of, at_end, end_values, part_fails}
 use Rattle.civl_conditions.specs.Targets.{target_owned, target_lost}
-use Rattle.civl_conditions.specs.Violated.{Holds}
+use Rattle.civl_conditions.specs.Violated.{AllHold}
 use Rattle.civl_condition_laws.specs.States.{PathsHoldOfStates, AreOthersOf}
 use Rattle.civl_condition_laws.proofs.Holding.{paths_of_states}
 use Rattle.civl_condition_laws.proofs.Nearby.{layer_within}
@@ -57,15 +56,11 @@ some_kept : {A : Type 0} (o : Option A) (f : A → Bool) → on_some o f ≡ tru
 some_kept None f e = absurd (false≢true e)
 some_kept (Some x) f e = (x, refl, e)
 
-and_both : (a b : Bool) → (a && b) ≡ true → (a ≡ true) × (b ≡ true)
-and_both true b e = (refl, e)
-and_both false b e = absurd (false≢true e)
-
 same_true : (a b : Bool) → a ≡ b → same_bool a b ≡ true
 same_true true b e = sym e
 same_true false b e = ap not (sym e)
 
-module _ (program : Program) (step q c : ℕ) (proc : Proc) (cut : Cut) (b : Begun) (layered : IsLayered program) (hold : (condition : Condition) → Contains (conditions program) condition → Holds program condition) (is : IsAssumed program step q c proc cut b) where
+module _ (program : Program) (step q c : ℕ) (proc : Proc) (cut : Cut) (b : Begun) (layered : IsLayered program) (hold : AllHold program) (is : IsAssumed program step q c proc cut b) where
   says : PathsHoldOfStates program
   says = paths_of_states program layered
 
@@ -137,7 +132,7 @@ module _ (program : Program) (step q c : ℕ) (proc : Proc) (cut : Cut) (b : Beg
     perform : (a : Action) → ends_block proc end ≡ true → p.done ≡ true → b.old_done ≡ false → refined_action program proc ≡ Some a → Performs program step proc b p a
     perform a h d o e =
         let kept = some_kept (fires program.globals b.old a (inputs_of proc b.locals) withs) _ (performed a h d o e) in
-        let both = and_both (same_stores (exists_at step) program p.store kept.0.0) (same_values (outs_in proc p.locals) kept.0.1) kept.2 in
+        let both = and_parts (same_stores (exists_at step) program p.store kept.0.0) (same_values (outs_in proc p.locals) kept.0.1) kept.2 in
         record { after = kept.0; fires = kept.1; globals = both.0; outs = both.1 }
 
     abbrev falls : Expr → Bool

@@ -14,6 +14,7 @@ use Rattle.civl_tree.specs.declared.stmt.Stmt.{Stmt, out-Stmt, map-Stmt}
 use Rattle.civl_tree.specs.declared.stmt.Stmt.TheOpen as stmt
 use Rattle.civl_tree.specs.Numbering.{size_step, size_of, sizes_of, numbered, statements_of, statement_at}
 use Rattle.civl_tree.specs.rules.Names.{names_in_proc}
+use Rattle.civl_tree.proofs.Sizes.{size_is, size_is_some}
 use Rattle.civl_firing.specs.declared.store.Store.{Store}
 use Rattle.civl_firing.specs.declared.firing.Fired.{Fired}
 use Rattle.civl_firing.specs.declared.firing.Fired.TheVariants as fire
@@ -34,7 +35,6 @@ use Rattle.civl_meaning.specs.Change.{acted, call_change, layer_change, spot_cha
 use Rattle.civl_meaning.specs.Failing.{spot_fails, proc_fails, answers_failing}
 use Rattle.civl_meaning.specs.Layers.{program_at}
 use Rattle.civl_meaning.proofs.Rests.{spot_of_rest}
-use Rattle.civl_meaning.proofs.Spots.{size_is}
 use Rattle.civl_meaning.proofs.Failures.{failing_is_answered}
 use Rattle.civl_layers.specs.declared.cut.Cut.{Cut}
 use Rattle.civl_layers.specs.Layered.{IsLayered}
@@ -45,7 +45,7 @@ use Rattle.civl_conditions.specs.paths.Seen.{IsProcOf, lower_course, ChangesAgre
 use Rattle.civl_conditions.proofs.paths.Running.{step_is_on_path}
 use Rattle.civl_conditions.proofs.paths.Layering.{steps_see_their_globals}
 use Rattle.civl_conditions.proofs.paths.Standing.{begins_stands}
-use Rattle.civl_conditions.proofs.paths.Belonging.{Belongs, size_is_some, all_belong, own_place, start_place, first_covered, second_covered, while_covered, yield_loop_covered, rank_loop_covered, rest_belongs}
+use Rattle.civl_conditions.proofs.paths.Belonging.{Belongs, all_belong, own_place, start_place, first_covered, second_covered, while_covered, yield_loop_covered, rank_loop_covered, rest_belongs}
 use Rattle.civl_reduction.specs.open_blocks.Following.{SameBelow, with_choices, form_loops, IsNotBelow, layer_head, head_there, cut_ahead, form_plain, HasNoPlainLoops, IsOnPath, Follows, frame_does, FollowsOn, StepFollows, FramesFollow, FramesArrive}
 use Rattle.civl_meaning.specs.Config.{moved_frame}
 use Rattle.civl_reduction.proofs.open_blocks.Following.Onward.{Beyond, Onward, beyond_less, beyond_joined, onward_joined, rest_onward, head_beyond, Split, head_splits}

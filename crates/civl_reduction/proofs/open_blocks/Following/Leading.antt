@@ -76,7 +76,7 @@ module _ (program : Program) (step : ℕ) (proc : Proc) where
 
 -- ---- the globals of the lower program
 
-set_unseen : (test : Global → Bool) (gs : List Global) (vs ws : List Value) (i : ℕ) (x : Value) → ((g : Global) → slice_get gs i ≡ Some g → test g ≡ false) → AgreeOn test gs vs ws → AgreeOn test gs (slice_set vs i x) ws
+pub set_unseen : (test : Global → Bool) (gs : List Global) (vs ws : List Value) (i : ℕ) (x : Value) → ((g : Global) → slice_get gs i ≡ Some g → test g ≡ false) → AgreeOn test gs vs ws → AgreeOn test gs (slice_set vs i x) ws
 set_unseen test [] [] [] i x h a = tt
 set_unseen test (g ∷ gs) (v ∷ vs) (w ∷ ws) zero x h a = (λ f. absurd (true≢false (sym f ∙ h g refl)), a.1)
 set_unseen test (g ∷ gs) (v ∷ vs) (w ∷ ws) (suc i) x h a = (a.0, set_unseen test gs vs ws i x h a.1)

@@ -1,18 +1,18 @@
 -- A rest goes forward: behind each of its statements comes one with a greater number, or a loop.
-use Rattle.std.proofs.Common.{◌≡◌, ℕ, ◌+◌, ◌<◌, ◌≤◌, Bool, true, false, List, [], ◌∷◌, ◌++◌, map, ◌⊎◌, inl, inr, Some, refl, sym, ap, ◌∙◌, subst, arith}
+use Rattle.std.proofs.Common.{◌≡◌, ℕ, ◌+◌, ◌<◌, ◌≤◌, Bool, true, false, List, [], ◌∷◌, ◌++◌, map, ◌⊎◌, inl, inr, Some, refl, sym, ap, ◌∙◌, subst, arith, map-id}
 use Rattle.std.proofs.lemmas.Bool.{cases_lt, lt-ltb, le-ltb, true≢false}
 use Rattle.std.proofs.lemmas.Option.{none-some, same_Some}
 use Rattle.std.specs.Prelude.{if◌then◌else◌}
 use Rattle.civl_tree.specs.declared.stmt.Stmt.{Stmt, out-Stmt, roll-Stmt, out-roll-Stmt, map-Stmt}
 use Rattle.civl_tree.specs.declared.stmt.Stmt.TheOpen as stmt
 use Rattle.civl_tree.specs.declared.stmt.Stmt.TheFolds.{ind-Stmt}
-use Rattle.civl_tree.specs.Numbering.{size_step, size_of, sizes_of, numbered}
+use Rattle.civl_tree.specs.Numbering.{size_of, sizes_of, numbered}
 use Rattle.civl_tree.proofs.Numbers.{sizes_more}
+use Rattle.civl_tree.proofs.Sizes.{size_is_some, size_by}
 use Rattle.civl_meaning.specs.Places.{Spot, skip_layer, is_skipped}
 use Rattle.civl_meaning.specs.Rest.{Rest, rest_inside, rest_among, rest_at, place_in, head_of}
 use Rattle.civl_meaning.proofs.Rests.{rest_layer, rest_is, rest_none}
-use Rattle.civl_meaning.proofs.Spots.{size_is}
-use Rattle.civl_conditions.proofs.paths.Belonging.{Belongs, size_is_some, at_first, in_first, past_first, map_same}
+use Rattle.civl_conditions.proofs.paths.Belonging.{Belongs, at_first, in_first, past_first}
 use Rattle.civl_reduction.specs.open_blocks.Following.{form_loops, IsNotBelow}
 
 -- a rest begins with this number or a later one, or with a loop
@@ -40,10 +40,6 @@ onward_joined (s ∷ ss) at k b h =
     let later = beyond_less (at + size_of s + sizes_of ss) (at + sizes_of (s ∷ ss)) k (omega arith) b in
     (beyond_joined ss (at + size_of s) (at + size_of s) k (omega arith) later, onward_joined ss (at + size_of s) k later h)
 
-either : (P : Rest → Type 0) (b : Bool) (x y : Rest) → P x → P y → P (if b then x else y)
-either P true x y p q = p
-either P false x y p q = q
-
 -- what is to be shown of a statement
 abbrev Within : Stmt → Type 0
 Within s = (at : ℕ) (k : Rest) (w : ℕ) → at < w → Beyond (at + size_of s) k → Onward k → Onward (rest_inside s s at k w)
@@ -64,9 +60,6 @@ among_onward (y ∷ ys) v h at k w low b o =
       ]
       | inr above ↦ subst Onward (sym (past_first s ss at k w above)) (among_onward ys v h (at + size_of s) k w above later o)
     ]
-
-size_by : (s : Stmt) (d : stmt.Stmt-F Stmt) → out-Stmt s ≡ d → size_of s ≡ size_step (map-Stmt Stmt ℕ size_of d)
-size_by s d e = size_is s ∙ ap (λ (d : stmt.Stmt-F Stmt). size_step (map-Stmt Stmt ℕ size_of d)) e
 
 loop_onward : {S : Type 0} (a : List S) (v : S → Stmt) → ((x : S) → Within (v x)) → (s : Stmt) → form_loops (out-Stmt s) ≡ true → (at : ℕ) (k : Rest) (w : ℕ) → at < w → Beyond (at + size_of s) k → Onward k → Onward (rest_among (map v a) (at + 1) ((at, s) ∷ k) w)
 loop_onward a v h s loops at k w low b o = among_onward a v h (at + 1) ((at, s) ∷ k) w (omega arith) (inr loops) (b, o)
@@ -94,7 +87,7 @@ within s =
 -- what is still to run from any place goes forward
 pub rest_onward : (body : List Stmt) (w : ℕ) → Onward (rest_at body w)
 rest_onward body w =
-    subst (λ (ss : List Stmt). Onward (rest_among ss 0 [] w)) (map_same body)
+    subst (λ (ss : List Stmt). Onward (rest_among ss 0 [] w)) (map-id body)
     (among_onward body (λ (s : Stmt). s) within 0 [] w (omega arith) tt tt)
 
 -- ---- the next statement of a plain program

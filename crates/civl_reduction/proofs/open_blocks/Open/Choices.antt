@@ -1,6 +1,6 @@
 -- The choices of a path's beginning: zeros, at first, and those of each step that is made; they have their sorts.
-use Rattle.std.proofs.Common.{◌≡◌, ℕ, zero, suc, ◌-◌, ◌<◌, Bool, true, false, List, [], ◌∷◌, ◌++◌, map, length, Option, None, Some, refl, sym, ap, ◌∙◌, subst, arith}
-use Rattle.std.specs.Prelude.{slice_get, slice_index_or, is_none, nat_eq, All, if◌then◌else◌}
+use Rattle.std.proofs.Common.{◌≡◌, ℕ, ◌-◌, Bool, true, false, List, [], ◌++◌, map, Option, None, Some, refl, sym, ap, ◌∙◌, subst}
+use Rattle.std.specs.Prelude.{slice_get, is_none, nat_eq, All, if◌then◌else◌}
 use Rattle.std.specs.List.{Contains, list_any}
 use Rattle.std.specs.Option.{option_map_or}
 use Rattle.std.proofs.lemmas.Bool.{or_parts, not-false, eqb-true, true≢false}
@@ -24,6 +24,7 @@ use Rattle.civl_tree.specs.rules.Width.{sort_width_fits, param_width, choice_wid
 use Rattle.civl_tree.specs.rules.Index.{sort_index, any_index}
 use Rattle.civl_tree.specs.rules.Typing.{typing_rules, unknown_rule, width_rule, index_rule}
 use Rattle.civl_tree.proofs.Kept.{statement_kept, action_kept, unknown_among, width_among, index_among}
+use Rattle.civl_tree.proofs.Pairs.{from_map}
 use Rattle.civl_firing.specs.values.Values.{zero_of, HaveSorts}
 use Rattle.civl_firing.specs.declared.store.Store.{Store}
 use Rattle.civl_firing.specs.declared.firing.Fired.{Fired}
@@ -32,6 +33,7 @@ use Rattle.civl_firing.specs.Eval.{value_of, values_of}
 use Rattle.civl_firing.specs.Scope.{frame_values}
 use Rattle.civl_firing.specs.Fired.{gate_holds, choices_fit, fired}
 use Rattle.civl_firing.specs.values.Values.{is_true}
+use Rattle.civl_firing.proofs.SortLimits.{limits}
 use Rattle.civl_meaning.specs.declared.config.Plain.{Plain}
 use Rattle.civl_meaning.specs.declared.config.Stepped.TheVariants as answer
 use Rattle.civl_meaning.specs.declared.config.Change.{Change}
@@ -44,7 +46,7 @@ use Rattle.civl_layers.specs.Layered.{IsLayered}
 use Rattle.civl_layers.proofs.PlainPrograms.{layered_is_plain}
 use Rattle.civl_conditions.specs.paths.Flows.{flow_from}
 use Rattle.civl_conditions.proofs.paths.Passed.{passed_stand_in_body}
-use Rattle.civl_soundness.proofs.Sorted.{sort_fits, zeros_fit, none_at}
+use Rattle.civl_soundness.proofs.Sorted.{zeros_fit, none_at}
 use Rattle.civl_soundness.proofs.Called.{Serves, called_serves}
 use Rattle.civl_conditions.specs.Variables.{choices_of, layer_choices, passed_choices}
 use Rattle.civl_reduction.specs.open_blocks.Following.{with_choices}
@@ -107,14 +109,6 @@ module _ (plain : Plain) (store : Store) (proc : Proc) (locals : List Value) (n 
 
 -- ---- the choices that have variables
 
-mapped : {A B : Type 0} (f : A → B) (xs : List A) (k : ℕ) (y : B) → k < length (map f xs) → slice_index_or (map f xs) k y ≡ y → (x : A) × Contains xs x × (f x ≡ y)
-mapped f [] k y l e = absurd (omega (arith, l))
-mapped f (x ∷ xs) zero y l e = (x, (0, omega arith, refl), e)
-mapped f (x ∷ xs) (suc k) y l e = let r = mapped f xs k y (omega (arith, l)) e in (r.0, behind x r.0 xs r.1, r.2)
-  where
-    behind : {A : Type 0} (x y : A) (xs : List A) → Contains xs y → Contains (x ∷ xs) y
-    behind x y xs h = (suc h.0, omega (arith, h.1), h.2)
-
 module _ (program : Program) (step : ℕ) (proc : Proc) (cut : Cut) where
   abbrev lower : Plain
   lower = program_at program (step - 1)
@@ -126,7 +120,7 @@ module _ (program : Program) (step : ℕ) (proc : Proc) (cut : Cut) where
   -- these are the choices of the statement with this number
   pub passed_are : (number : ℕ) (choices : List Choice) → Contains (passed_choices program step proc cut) (number, choices) → (s : Stmt) × (statement_at proc.body number ≡ Some s) × (layer_choices lower (out-Stmt s) ≡ choices)
   passed_are number choices h =
-      let m = mapped (λ (q : ℕ × Stmt). (q.0, layer_choices lower (out-Stmt q.1))) (flow_from proc cut).passed h.0 (number, choices) h.1 h.2 in
+      let m = from_map (λ (q : ℕ × Stmt). (q.0, layer_choices lower (out-Stmt q.1))) (flow_from proc cut).passed (number, choices) h in
       let q = m.0 in
       let at = passed_stand_in_body proc cut q m.1 in
       (q.1, subst (λ (n : ℕ). statement_at proc.body n ≡ Some q.1) (ap (λ (r : ℕ × List Choice). r.0) m.2) at, ap (λ (r : ℕ × List Choice). r.1) m.2)
@@ -158,7 +152,7 @@ module _ (program : Program) (layered : IsLayered program) (step q : ℕ) (proc 
   action_zeros place a at =
       let w = (or_parts (list_any choice_width a.choices) (any_width (action_uses program a)) (or_parts (list_any (param_width program) (a.params ++ a.outs)) _ (action_kept typing_rules program layered.rules width_rule width_among place a at)).1).0 in
       let i = (or_parts (list_any (λ (c : Choice). sort_index c.sort) a.choices) (any_index (action_uses program a)) (or_parts (list_any (λ (p : Param). sort_index p.sort) (a.params ++ a.outs)) _ (action_kept typing_rules program layered.rules index_rule index_among place a at)).1).0 in
-      zeros_fit (λ (c : Choice). c.sort) a.choices (λ k c e. sort_fits c.sort (not-false (sort_width_fits c.sort) (none_at choice_width a.choices w k c e)) (none_at (λ (c : Choice). sort_index c.sort) a.choices i k c e))
+      zeros_fit (λ (c : Choice). c.sort) a.choices (λ k c e. limits c.sort (not-false (sort_width_fits c.sort) (none_at choice_width a.choices w k c e)) (none_at (λ (c : Choice). sort_index c.sort) a.choices i k c e))
 
   abbrev zeros : List Choice → List Value
   zeros choices = map (λ c. zero_of c.sort) choices

@@ -25,14 +25,14 @@ use Rattle.civl_firing.specs.Truth.{place_of}
 use Rattle.civl_firing.specs.Eval.{value_of}
 use Rattle.civl_firing.specs.Sorts.{IsSorted}
 use Rattle.civl_firing.specs.Stores.{IsStore}
-use Rattle.civl_firing.proofs.Having.{Found}
+use Rattle.civl_firing.proofs.Having.{Found, have_more}
 use Rattle.civl_meaning.specs.Config.{frame_sorts}
+use Rattle.civl_meaning.proofs.Bindings.{names_of, in_front, in_back, in_either, not_in_first, joined, proc_names, proc_sorts, global_names_are, global_sorts_are}
 use Rattle.civl_layers.specs.Layered.{IsLayered}
 use Rattle.civl_conditions.specs.paths.NoteValues.{note_names, plain_note_values}
 use Rattle.civl_conditions.specs.paths.Paths.{Progress, committed, introduced}
 use Rattle.civl_conditions.specs.paths.Runs.{Standing, layer_led}
-use Rattle.civl_soundness.proofs.Bindings.{names_of, sorts_of, in_front, in_back, in_either, not_in_first, names_bound, sorts_bound, joined, proc_names, proc_sorts}
-use Rattle.civl_soundness.proofs.Sorted.{more_values, found_in, set_fits}
+use Rattle.civl_soundness.proofs.Sorted.{found_in, set_fits}
 use Rattle.civl_soundness.proofs.Scopes.{proc_declares}
 use Rattle.civl_soundness.proofs.Firing.{first_fits}
 use Rattle.civl_reduction.specs.open_blocks.Following.{led_here}
@@ -44,12 +44,6 @@ module _ (program : Program) (step q : ℕ) (proc : Proc) (layered : IsLayered p
 
   abbrev outs : List Binding
   outs = bind_params proc.outs
-
-  names_are : names_of globals ≡ global_names program.globals
-  names_are = names_bound (λ g. g.name) (λ g. g.sort) program.globals
-
-  sorts_are : sorts_of globals ≡ map (λ g. g.sort) program.globals
-  sorts_are = sorts_bound (λ g. g.name) (λ g. g.sort) program.globals
 
   -- ---- notes
 
@@ -66,9 +60,9 @@ module _ (program : Program) (step q : ℕ) (proc : Proc) (layered : IsLayered p
   note_found : (store : Store) (locals : List Value) → IsStore program.globals store → HaveSorts locals (frame_sorts proc) → Found (note_names program.globals proc) (store.values ++ locals) (globals ++ bind_proc proc)
   note_found store locals hs h =
       let values = store.values ++ locals in
-      let sorts = joined (λ b. b.sort) globals (bind_proc proc) _ _ sorts_are (proc_sorts proc) in
-      let names = joined (λ b. b.name) globals (bind_proc proc) _ _ names_are (proc_names proc) in
-      let have = more_values store.values locals (map (λ g. g.sort) program.globals) (frame_sorts proc) hs h in
+      let sorts = joined (λ b. b.sort) globals (bind_proc proc) _ _ (global_sorts_are program) (proc_sorts proc) in
+      let names = joined (λ b. b.name) globals (bind_proc proc) _ _ (global_names_are program) (proc_names proc) in
+      let have = have_more store.values locals (map (λ g. g.sort) program.globals) (frame_sorts proc) hs h in
       subst (λ (ns : List Name). Found ns values (globals ++ bind_proc proc)) names (found_in (globals ++ bind_proc proc) values (subst (HaveSorts values) (sym sorts) have))
 
   -- the scope of notes has values of its sorts
@@ -84,9 +78,9 @@ module _ (program : Program) (step q : ℕ) (proc : Proc) (layered : IsLayered p
 
   store_set : (store : Store) (x : Name) (v : Value) → IsStore program.globals store → ((s : Sort) → sort_in globals x ≡ Some s → HasSort v s) → IsStore program.globals (record { values = slice_set store.values (place_of (global_names program.globals) x) v })
   store_set store x v hs f =
-      let k = set_fits globals store.values x v (subst (HaveSorts store.values) (sym sorts_are) hs) f in
-      subst (λ (ns : List Name). HaveSorts (slice_set store.values (place_of ns x) v) (map (λ g. g.sort) program.globals)) names_are
-      (subst (HaveSorts (slice_set store.values (place_of (names_of globals) x) v)) sorts_are k)
+      let k = set_fits globals store.values x v (subst (HaveSorts store.values) (sym (global_sorts_are program)) hs) f in
+      subst (λ (ns : List Name). HaveSorts (slice_set store.values (place_of ns x) v) (map (λ g. g.sort) program.globals)) (global_names_are program)
+      (subst (HaveSorts (slice_set store.values (place_of (names_of globals) x) v)) (global_sorts_are program) k)
 
   module _ (n : ℕ) (s : Stmt) (at : statement_at proc.body n ≡ Some s) where
     pub sorted_there : any_missorted (form_uses program proc (out-Stmt s)) ≡ false

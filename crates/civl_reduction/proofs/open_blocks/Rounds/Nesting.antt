@@ -1,7 +1,7 @@
 -- No rank loop stands around a loop: where a loop is what is still to run, each loop behind it that is an outer one is no rank loop.
-use Rattle.std.proofs.Common.{◌≡◌, ℕ, zero, suc, ◌+◌, ◌<◌, ◌≤◌, Bool, true, false, ◌&&◌, List, [], ◌∷◌, ◌++◌, map, length, ◌⊎◌, inl, inr, Some, refl, sym, ap, ◌∙◌, subst, append-nil, arith}
+use Rattle.std.proofs.Common.{◌≡◌, ℕ, zero, suc, ◌+◌, ◌<◌, ◌≤◌, Bool, true, false, ◌&&◌, List, [], ◌∷◌, ◌++◌, map, length, ◌⊎◌, inl, inr, Some, refl, sym, ap, ◌∙◌, subst, append-nil, arith, map-id}
 use Rattle.std.specs.Prelude.{slice_get}
-use Rattle.std.proofs.lemmas.Bool.{true≢false, false≢true, lt-ltb, le-ltb}
+use Rattle.std.proofs.lemmas.Bool.{true≢false, false≢true, lt-ltb, le-ltb, false_from_ne_true}
 use Rattle.std.proofs.lemmas.Option.{none-some, same_Some}
 use Rattle.civl_tree.specs.declared.program.Proc.{Proc}
 use Rattle.civl_tree.specs.declared.program.Program.{Program}
@@ -20,7 +20,7 @@ use Rattle.civl_yields.specs.Places.{insides, insides_all, form_pauses, stmt_nes
 use Rattle.civl_yields.specs.YieldRules.{yield_rules, rank_loop_rule}
 use Rattle.civl_yields.proofs.Examples.{inside_form, insides_is}
 use Rattle.civl_yields.proofs.Beside.{each_is_inside}
-use Rattle.civl_conditions.proofs.paths.Belonging.{at_first, in_first, past_first, map_same}
+use Rattle.civl_conditions.proofs.paths.Belonging.{at_first, in_first, past_first}
 use Rattle.civl_conditions.proofs.paths.Heading.{counted}
 use Rattle.civl_reduction.specs.open_blocks.Following.{form_loops}
 use Rattle.civl_reduction.specs.open_blocks.Rounds.{form_ranked}
@@ -170,7 +170,7 @@ shows s =
 -- from a statement that is in no rank loop
 outer_at : (body : List Stmt) (w : ℕ) → slice_get (insides_all body false) w ≡ Some false → AreOuter w (rest_at body w)
 outer_at body w =
-    subst (λ (ss : List Stmt). slice_get (insides_all ss false) w ≡ Some false → AreOuter w (rest_among ss 0 [] w)) (map_same body)
+    subst (λ (ss : List Stmt). slice_get (insides_all ss false) w ≡ Some false → AreOuter w (rest_among ss 0 [] w)) (map-id body)
     (λ g. among_shows body (λ (s : Stmt). s) shows 0 [] w w false (omega arith) g tt)
 
 -- ---- E51
@@ -179,15 +179,11 @@ not_nested : (b c : Bool) → (b && c) ≡ false → c ≡ true → b ≡ false
 not_nested true c h e = absurd (true≢false (sym e ∙ h))
 not_nested false c h e = refl
 
-untrue : (b : Bool) → (b ≡ true → ⊥) → b ≡ false
-untrue true h = absurd (h refl)
-untrue false h = refl
-
 -- what is still to run from a loop in a procedure that keeps the rule
 pub loop_outer : (program : Program) (q : ℕ) (proc : Proc) → Keeps yield_rules program → slice_get program.procs q ≡ Some proc → (w : ℕ) (s : Stmt) → statement_at proc.body w ≡ Some s → form_pauses (out-Stmt s) ≡ true → AreOuter w (rest_at proc.body w)
 loop_outer program q proc yields there w s at pauses =
     let judged = each_is_judged stmt_nested (statements_of proc.body) (insides_all proc.body false) (each_is_inside proc.body false) w s at in
-    let kept : stmt_nested s judged.0 ≡ false = untrue (stmt_nested s judged.0) (λ b.
+    let kept : stmt_nested s judged.0 ≡ false = false_from_ne_true (stmt_nested s judged.0) (λ b.
     unbroken yield_rules program yields rank_loop_rule (1, omega arith, refl) (proc_item program q) w (InStatement q proc there refl (judged.2.0 b))) in
     let flag : judged.0 ≡ false = not_nested judged.0 (form_pauses (out-Stmt s)) kept pauses in
     outer_at proc.body w (judged.1 ∙ ap (λ (b : Bool). Some b) flag)

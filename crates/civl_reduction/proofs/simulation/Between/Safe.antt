@@ -29,7 +29,8 @@ use Rattle.civl_reduction.specs.blocks.Blocks.{at_yield}
 use Rattle.civl_reduction.specs.open_blocks.Following.{layer_head, head_there, cut_ahead}
 use Rattle.civl_reduction.specs.open_blocks.Open.{IsSound, IsTopmost, IsOpen, StepStaysOpen}
 use Rattle.civl_reduction.proofs.open_blocks.Open.Going.{stays_open}
-use Rattle.civl_reduction.proofs.staged.Measures.Nearing.{none_or, no_yield}
+use Rattle.civl_reduction.proofs.staged.Measures.Nearing.{none_or}
+use Rattle.civl_reduction.proofs.staged.Opened.Forms.{no_yield}
 
 -- a loop doesn't fail
 pub head_fails_not : (plain : Plain) (g : Store) (proc : Proc) (ls : List Value) (n m : ℕ) (d : stmt.Stmt-F Stmt) → layer_head n d ≡ Some m → layer_fails plain g proc ls d ≡ false

@@ -1,8 +1,7 @@
 -- At a yield no thread fails: behind blocks without a step the block of its next step opens.
-use Rattle.std.proofs.Common.{◌≡◌, ℕ, ◌+◌, Bool, true, false, List, ◌∷◌, map, Option, None, Some, refl, sym, ap, ◌∙◌, subst, inl, inr}
+use Rattle.std.proofs.Common.{◌≡◌, ℕ, ◌+◌, Bool, true, false, ◌∷◌, map, Option, None, Some, refl, sym, ap, ◌∙◌, subst, inl, inr}
 use Rattle.std.specs.Prelude.{slice_get, is_some, if◌then◌else◌}
 use Rattle.std.proofs.lemmas.Bool.{true≢false}
-use Rattle.std.proofs.lemmas.Option.{none-some}
 use Rattle.civl_tree.specs.declared.program.Proc.{Proc}
 use Rattle.civl_tree.specs.declared.program.Program.{Program}
 use Rattle.civl_tree.specs.declared.stmt.Stmt.{Stmt, out-Stmt}
@@ -21,13 +20,12 @@ use Rattle.civl_soundness.proofs.Fitting.{all_at}
 use Rattle.civl_conditions.specs.paths.Paths.{Progress}
 use Rattle.civl_conditions.specs.paths.Ends.{cut_number}
 use Rattle.civl_reduction.proofs.permissions.Staying.{IsKept}
-use Rattle.civl_reduction.specs.interleavings.Runs.{Staged, begun, goes, ends}
-use Rattle.civl_reduction.specs.interleavings.Threads.{Config, Move, fails_in}
-use Rattle.civl_reduction.specs.exchanges.Interleavings.{Chosen}
+use Rattle.civl_reduction.specs.interleavings.Runs.{ends}
+use Rattle.civl_reduction.specs.interleavings.Threads.{fails_in}
 use Rattle.civl_reduction.proofs.exchanges.Agreeing.{fails_agree}
 use Rattle.civl_reduction.specs.checked.Checked.{ActionsKeepPermissions}
 use Rattle.civl_reduction.specs.blocks.Blocks.{at_yield, frame_of_layer, rest_of, block_in, inside}
-use Rattle.civl_reduction.specs.blocks.Reduces.{plain_move, plain_config, layer_threads, layer_system}
+use Rattle.civl_reduction.specs.blocks.Reduces.{plain_move, plain_config, layer_threads}
 use Rattle.civl_reduction.specs.staged.Stages.{StagesAreRuns}
 use Rattle.civl_reduction.specs.open_blocks.Following.{layer_head}
 use Rattle.civl_reduction.specs.open_blocks.Open.{IsTopmost}
@@ -48,6 +46,7 @@ use Rattle.civl_reduction.proofs.simulation.Between.Safe.{head_fails_not, fails_
 use Rattle.civl_reduction.proofs.staged.Opened.Beginning.{nothing_said}
 use Rattle.civl_reduction.proofs.staged.Chains.Quiet.{rest_is, opened}
 use Rattle.civl_reduction.proofs.staged.Chains.Chaining.{ChainEnds, chain_ends}
+use Rattle.civl_reduction.proofs.staged.Inside.Beside.{unchallenged}
 
 module _ (keep : ActionsKeepPermissions) (program : Program) (layer : ℕ) (store : Store) (s : Shadowed) (t : ℕ) (f : Proc × Activation) (r : IsReached program layer store s.config)
     (thread : Running) (there : slice_get s.config.threads t ≡ Some thread) (framed : frame_of_layer program (layer + 1) thread ≡ Some f) where
@@ -91,11 +90,6 @@ module _ (keep : ActionsKeepPermissions) (program : Program) (layer : ℕ) (stor
       at_end (chain_ends keep program layer store s t f r thread there framed (λ x ls. Unit {0}) (λ x h. tt) nothing_said (λ c cut b end p assumed concludes ends done fits sorts stops so. so) calm unchallenged yields tt)
 
 -- ---- behind block runs
-
-unchallenged : (program : Program) (layer : ℕ) (store : Store) {ms : List (Move Chosen)} {o : Option ℕ} {c : Config Store Running} → Staged (layer_system program layer store (challenged program layer store)) ms o c → o ≡ None → challenged program layer store (map plain_move ms) ≡ false
-unchallenged program layer store (begun h) e = h
-unchallenged program layer store (goes m d staged may step inside) e = absurd (none-some _ (sym e))
-unchallenged program layer store (ends m d staged may step inside h) e = h
 
 outside_yields : (b : Bool) (rest : Rest) → is_some (if◌then◌else◌ {A = Option Rest} b None (Some rest)) ≡ false → b ≡ true
 outside_yields true rest e = refl

@@ -1,7 +1,6 @@
 -- The blocks of a checked program are refined.
 use Rattle.std.proofs.Common.{◌≡◌, ℕ, ◌+◌, Bool, true, false, List, [], ◌∷◌, ◌++◌, map, Option, None, Some, slice_get, is_some, refl, sym, ap, ◌∙◌, subst, inl, inr}
 use Rattle.std.specs.Prelude.{if◌then◌else◌}
-use Rattle.std.proofs.lemmas.Bool.{false≢true}
 use Rattle.std.proofs.lemmas.Option.{same_Some, none-some}
 use Rattle.std.proofs.lemmas.List.{map-append}
 use Rattle.civl_bits.specs.declared.value.Value.{Value}
@@ -15,7 +14,7 @@ use Rattle.civl_meaning.specs.declared.config.Stepped.{Stepped}
 use Rattle.civl_meaning.specs.declared.config.Stepped.TheVariants.{Moved}
 use Rattle.civl_meaning.specs.declared.config.Move as meaning
 use Rattle.civl_meaning.specs.declared.config.Config as config
-use Rattle.civl_meaning.specs.Rest.{Rest, rest_at}
+use Rattle.civl_meaning.specs.Rest.{rest_at}
 use Rattle.civl_meaning.specs.Step.{start, step_of}
 use Rattle.civl_meaning.specs.Run.{RunsTo}
 use Rattle.civl_meaning.specs.Failing.{IsMove}
@@ -43,36 +42,15 @@ use Rattle.civl_conditions.specs.Assumed.{inputs_of}
 use Rattle.civl_reduction.proofs.simulation.Refined.Joining.{JoinAnyhow}
 use Rattle.civl_reduction.specs.simulation.Refined.{Sight, IsRefined, IsPickedBefore, IsPicked, sight, sight_before, last_frame, BlockIsRefined}
 use Rattle.civl_reduction.specs.simulation.Joined.{ConclusionsRefine}
-use Rattle.civl_reduction.proofs.staged.Inside.Beside.{inside_frame}
+use Rattle.civl_reduction.proofs.staged.Inside.Beside.{inside_frame, outside_frame, unchallenged}
 use Rattle.civl_reduction.specs.simulation.Sound.{BlocksAreRefined}
 use Rattle.civl_reduction.specs.simulation.Carried.{IsCarried, StepCarries, CallsCarry, OpenBlocksCarry, YieldsCarry, CheckedAreRefined}
 use Rattle.civl_reduction.proofs.simulation.Carried.Ending.{yield_refined}
-
--- ---- moves one behind the other
-
-shadowed_more : (program : Program) (layer : ℕ) (ms : List meaning.Move) (m : meaning.Move) (s : Shadowed) → shadowed_from program layer (ms ++ m ∷ []) s ≡ shadowed_step program layer (shadowed_from program layer ms s) m
-shadowed_more program layer [] m s = refl
-shadowed_more program layer (x ∷ ms) m s = shadowed_more program layer ms m (shadowed_step program layer s x)
-
--- ---- inside and outside
-
--- outside one a frame stands at a yield
-outside_frame : (f : Proc × Activation) → is_some (block_in (Some f)) ≡ false → at_yield (rest_of f) ≡ true
-outside_frame f h = go (at_yield (rest_of f)) refl h
-  where
-    go : (b : Bool) → at_yield (rest_of f) ≡ b → is_some (if◌then◌else◌ {A = Option Rest} b None (Some (rest_of f))) ≡ false → at_yield (rest_of f) ≡ true
-    go true e k = e
-    go false e k = absurd (false≢true (sym k))
+use Rattle.civl_reduction.proofs.simulation.Followed.Shadows.{shadowed_more}
 
 module _ (keep : ActionsKeepPermissions) (in_roots : SpawnsAreInRoots) (stages_are_runs : StagesAreRuns) (beside : StagesAreBeside) (calls : CallsCarry) (open_step : OpenBlocksCarry) (yields_step : YieldsCarry) (conclude : ConclusionsRefine) (join : JoinAnyhow) (program : Program) (layer : ℕ) (store : Store) (checked : IsChecked program layer store) where
   abbrev plain : Plain
   plain = program_at program layer
-
-  -- where nothing is open nothing is challenged
-  unchallenged : {ms : List (Move Chosen)} {o : Option ℕ} {c : Config Store Running} → Staged (layer_system program layer store (challenged program layer store)) ms o c → o ≡ None → challenged program layer store (map plain_move ms) ≡ false
-  unchallenged (begun h) e = h
-  unchallenged (goes m d staged may step inside) e = absurd (none-some _ (sym e))
-  unchallenged (ends m d staged may step inside h) e = h
 
   -- the same run, where nothing counts as challenged
   bold : {ms : List (Move Chosen)} {o : Option ℕ} {c : Config Store Running} → Staged (layer_system program layer store (challenged program layer store)) ms o c → Staged (layer_system program layer store (λ moves. false)) ms o c
@@ -184,7 +162,7 @@ module _ (keep : ActionsKeepPermissions) (in_roots : SpawnsAreInRoots) (stages_a
       where
         by_open : (x : Option ℕ) → o ≡ x → Beside program layer (shadowed program layer store (map plain_move ms)) x → OneIsInside program layer c x → MayStep x m.thread → Has from ms x m.thread
             → StepCarries (picked from m.thread) program layer (began from m.thread) (shadowed program layer store (map plain_move ms)).config (shadowed_step program layer (shadowed program layer store (map plain_move ms)) (plain_move m)) m.thread
-        by_open None e b n may here = from_calm here b n (unchallenged staged e)
+        by_open None e b n may here = from_calm here b n (unchallenged program layer store staged e)
         by_open (Some t) e b n may x = from_open x.0 x.1 x.2 (subst (λ (u : ℕ). OneIsInside program layer c (Some u)) (sym may) n)
 
     -- ---- the moves with this one

@@ -2,18 +2,15 @@
 use Rattle.std.proofs.Common.{◌≡◌, ℕ, ◌+◌, Bool, true, not, List, [], Option, Some, refl, sym, ap, ◌∙◌, subst, inl, inr, ◌⊎◌}
 use Rattle.std.specs.Prelude.{IsTrue}
 use Rattle.std.specs.Option.{option_map_or}
-use Rattle.std.proofs.lemmas.Bool.{false≢true}
 use Rattle.civl_bits.specs.declared.value.Value.{Value}
 use Rattle.civl_firing.specs.values.Values.{HaveSorts}
 use Rattle.civl_tree.specs.declared.program.Proc.{Proc}
 use Rattle.civl_tree.specs.declared.program.Program.{Program}
 use Rattle.civl_firing.specs.declared.store.Store.{Store}
 use Rattle.civl_layers.specs.declared.cut.Cut.{Cut}
-use Rattle.civl_layers.specs.declared.cut.CutKind.{CutKind}
-use Rattle.civl_layers.specs.declared.cut.CutKind.TheVariants as kind
 use Rattle.civl_conditions.specs.paths.Seen.{lower_course}
 use Rattle.civl_meaning.specs.Rest.{rest_at}
-use Rattle.civl_conditions.specs.paths.Ends.{is_rank_loop, is_yield_cut, ends_block}
+use Rattle.civl_conditions.specs.paths.Ends.{is_rank_loop, ends_block}
 use Rattle.civl_condition_laws.specs.States.{frame_sorts}
 use Rattle.civl_reduction.specs.checked.Checked.{ActionsKeepPermissions}
 use Rattle.civl_reduction.specs.open_blocks.Ends.{Concludes}
@@ -36,6 +33,7 @@ use Rattle.civl_conditions.specs.paths.Ends.{exit_of, is_exit}
 use Rattle.civl_reduction.proofs.open_blocks.Following.Leading.{led_stays}
 use Rattle.civl_conditions.specs.paths.Paths.{Progress}
 use Rattle.civl_conditions.specs.paths.Seen.{IsProcOf}
+use Rattle.civl_conditions.proofs.CutKinds.{yield_unranked}
 use Rattle.civl_layers.specs.Layered.{IsLayered}
 use Rattle.civl_reduction.specs.blocks.Blocks.{at_yield, rest_of}
 use Rattle.std.proofs.lemmas.Bool.{eq-eqb}
@@ -102,15 +100,9 @@ module _ (conclude : ConclusionsRefine) (join : JoinAnyhow) (keep : ActionsKeepP
 
   -- ---- at a yield
 
-  parts : (k : CutKind) → is_yield_cut k ≡ true → not (is_rank_loop k) ≡ true
-  parts kind.Entry y = refl
-  parts kind.Yield y = refl
-  parts kind.YieldLoop y = refl
-  parts kind.RankLoop y = absurd (false≢true y)
-
   module _ (there : StandsThere o) (y : ℕ) (cut : Cut) (stands : StandsAt program (layer + 1) o.f y cut) where
     ends : ends_block o.f.0 y ≡ true
-    ends = ap (λ (p : Option Cut). option_map_or (λ (k : Cut). not (is_rank_loop k.kind)) p true) stands.at.there ∙ parts cut.kind stands.yields
+    ends = ap (λ (p : Option Cut). option_map_or (λ (k : Cut). not (is_rank_loop k.kind)) p true) stands.at.there ∙ yield_unranked cut.kind stands.yields
 
     ahead : cut_ahead o.f.0.body o.here.place ≡ Some cut.statement
     ahead = subst (λ (p : ℕ). cut_ahead o.f.0.body p ≡ Some cut.statement) (sym there) (yield_ahead o.f.0.body o.f.1.place cut.statement stands.stmt stands.behind cut.kind stands.here stands.kind stands.yields)

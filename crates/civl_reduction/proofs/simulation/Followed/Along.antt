@@ -7,6 +7,7 @@ use Rattle.std.proofs.lemmas.Option.{none-some, same_Some}
 use Rattle.civl_bits.specs.declared.value.Value.{Value}
 use Rattle.civl_tree.specs.declared.program.Proc.{Proc}
 use Rattle.civl_tree.specs.declared.program.Program.{Program}
+use Rattle.civl_tree.proofs.Lists.{get_other, get_same}
 use Rattle.civl_firing.specs.declared.store.Store.{Store}
 use Rattle.civl_meaning.specs.declared.config.Plain.{Plain}
 use Rattle.civl_meaning.specs.declared.config.Activation.{Activation}
@@ -35,7 +36,6 @@ use Rattle.civl_reduction.proofs.simulation.Meets.Entering.{framed_same, goes_no
 use Rattle.civl_reduction.proofs.simulation.Meets.Frames.{IsFramed, framed, frames, does_inside, enters_outside, enters_framed}
 use Rattle.civl_reduction.proofs.simulation.Meets.Inputs.{StaysIn}
 use Rattle.civl_reduction.proofs.simulation.Meets.Returning.{returns_behind}
-use Rattle.civl_reduction.proofs.simulation.Followed.Pairs.{get_other, get_same}
 use Rattle.civl_reduction.proofs.simulation.Followed.Steps.{Made, made, Comes, comes_so}
 use Rattle.civl_reduction.proofs.simulation.Followed.Fitting.{entered_inputs}
 

@@ -8,6 +8,7 @@ use Rattle.civl_bits.specs.declared.value.Value.{Value}
 use Rattle.civl_tree.specs.declared.action.Action.{Action}
 use Rattle.civl_tree.specs.declared.program.Proc.{Proc}
 use Rattle.civl_tree.specs.declared.program.Program.{Program}
+use Rattle.civl_tree.proofs.Lists.{get_other, get_same}
 use Rattle.civl_firing.specs.declared.store.Store.{Store}
 use Rattle.civl_meaning.specs.declared.config.Plain.{Plain}
 use Rattle.civl_meaning.specs.declared.config.Activation.{Activation}
@@ -35,7 +36,6 @@ use Rattle.civl_reduction.specs.blocks.Reduces.{plain_config, layer_threads}
 use Rattle.civl_reduction.specs.simulation.Meets.{behind}
 use Rattle.civl_reduction.proofs.simulation.Meets.Above.{Instead}
 use Rattle.civl_reduction.specs.simulation.Refined.{Sight, Acts, IsRefined, sight, sight_before, last_frame}
-use Rattle.civl_reduction.proofs.simulation.Followed.Pairs.{get_other, get_same}
 use Rattle.civl_reduction.proofs.simulation.Followed.Steps.{makes, Fires, calls_so}
 use Rattle.civl_reduction.proofs.simulation.Followed.Acting.{same_gate, fires_too}
 use Rattle.civl_reduction.proofs.simulation.Followed.Known.{Known, does_known}

@@ -1,8 +1,8 @@
 -- Where a block run ends failing or challenged, the configuration beside it fails.
-use Rattle.std.proofs.Common.{◌≡◌, ℕ, ◌+◌, arith, Bool, true, false, not, ◌&&◌, ◌||◌, List, [], ◌∷◌, refl, sym, ap, ◌∙◌, subst, add-one, Option, None, Some, slice_get, inl, inr, ◌⊎◌}
+use Rattle.std.proofs.Common.{◌≡◌, ℕ, ◌+◌, arith, Bool, true, false, not, ◌&&◌, List, [], ◌∷◌, refl, sym, ap, ◌∙◌, subst, add-one, Option, None, Some, slice_get, inl, inr}
 use Rattle.std.specs.Prelude.{if◌then◌else◌}
 use Rattle.std.specs.Option.{option_map_or}
-use Rattle.std.proofs.lemmas.Bool.{false≢true, true≢false}
+use Rattle.std.proofs.lemmas.Bool.{false≢true, true≢false, or_cases, and_parts, not-true}
 use Rattle.std.proofs.lemmas.Option.{none-some, same_Some}
 use Rattle.civl_bits.specs.declared.value.Value.{Value}
 use Rattle.civl_tree.specs.declared.action.Action.{Action}
@@ -42,18 +42,6 @@ use Rattle.civl_reduction.proofs.simulation.Followed.Known.{Known, does_known}
 use Rattle.civl_reduction.proofs.simulation.Followed.Fitting.{entered_inputs}
 use Rattle.civl_reduction.proofs.simulation.Followed.Outside.{same_beside, calls_there, within_lower, within_upper}
 
-or_cases : (a b : Bool) → (a || b) ≡ true → (a ≡ true) ⊎ (b ≡ true)
-or_cases true b e = inl refl
-or_cases false b e = inr e
-
-and_both : (a b : Bool) → (a && b) ≡ true → (a ≡ true) × (b ≡ true)
-and_both true b e = (refl, e)
-and_both false b e = absurd (false≢true e)
-
-not_true : (b : Bool) → not b ≡ true → b ≡ false
-not_true false e = refl
-not_true true e = absurd (false≢true e)
-
 module _ (program : Program) (layer : ℕ) (store : Store) (k : IsChecked program layer store) (roots : SpawnsStandInRoots program) where
   abbrev lower : Plain
   lower = program_at program layer
@@ -78,7 +66,7 @@ module _ (program : Program) (layer : ℕ) (store : Store) (k : IsChecked progra
         let known : Known program (does.Calls i.names i.locals i.results i.next i.action inputs) = subst (Known program) i.calls (does_known upper r) in
         let there = calls_there program layer store k roots (layer + 1) (within_upper program layer store k roots) x meets.of_upper t r at i.names i.locals i.results i.next i.action inputs i.calls in
         let held : gate_holds program.globals (seen program layer s) i.action inputs ≡ false =
-        ap (λ (o : Option Action). option_map_or (λ a. gate_holds program.globals (seen program layer s) a inputs) o false) (sym i.refined) ∙ not_true (allows program (seen program layer s) f.0 f.1.locals) e in
+        ap (λ (o : Option Action). option_map_or (λ a. gate_holds program.globals (seen program layer s) a inputs) o false) (sym i.refined) ∙ not-true (allows program (seen program layer s) f.0 f.1.locals) e in
         let gate : gate_holds program.globals x.store i.action inputs ≡ false = sym (same_gate program layer k.layered known.0 i.action known.1 there (seen program layer s) x.store meets.stores inputs) ∙ held in
         fails_there t r at (ap (λ (D : Doing). doing_fails Q (whole r D) x.store) i.calls ∙ ap not gate)
 
@@ -141,10 +129,10 @@ module _ (program : Program) (layer : ℕ) (store : Store) (k : IsChecked progra
     frame_fails t low at (Some f) e h = go (slice_get x.threads t) refl (subst (λ (o : Option Running). ThreadMeets program layer (s.shadow.done t) o (slice_get x.threads t)) at (meets.threads t))
       where
         parts : (not (s.shadow.done t) ≡ true) × ((at_yield (rest_of f) && refuses program (seen program layer s) (Some f)) ≡ true)
-        parts = and_both (not (s.shadow.done t)) (at_yield (rest_of f) && refuses program (seen program layer s) (Some f)) h
+        parts = and_parts (not (s.shadow.done t)) (at_yield (rest_of f) && refuses program (seen program layer s) (Some f)) h
 
         refused : refuses program (seen program layer s) (Some f) ≡ true
-        refused = (and_both (at_yield (rest_of f)) (refuses program (seen program layer s) (Some f)) parts.1).1
+        refused = (and_parts (at_yield (rest_of f)) (refuses program (seen program layer s) (Some f)) parts.1).1
 
         by_frame : (high : Running) → slice_get x.threads t ≡ Some high → (d : Bool) → s.shadow.done t ≡ d → d ≡ false → FrameMeets program layer d low (Some f) high → Failing (stepping_of Q) (as_config x)
         by_frame high there true q not_done m = absurd (true≢false not_done)
@@ -154,7 +142,7 @@ module _ (program : Program) (layer : ℕ) (store : Store) (k : IsChecked progra
 
         go : (o : Option Running) → slice_get x.threads t ≡ o → ThreadMeets program layer (s.shadow.done t) (Some low) o → Failing (stepping_of Q) (as_config x)
         go None there m = absurd m
-        go (Some high) there m = by_frame high there (s.shadow.done t) refl (not_true (s.shadow.done t) parts.0) (subst (λ (p : Option (Proc × Activation)). FrameMeets program layer (s.shadow.done t) low p high) e m)
+        go (Some high) there m = by_frame high there (s.shadow.done t) refl (not-true (s.shadow.done t) parts.0) (subst (λ (p : Option (Proc × Activation)). FrameMeets program layer (s.shadow.done t) low p high) e m)
 
     some_fails : (base : ℕ) (rest : List Running) → ((i : ℕ) (r : Running) → slice_get rest i ≡ Some r → slice_get s.config.threads (base + i) ≡ Some r) → some_challenged program layer (seen program layer s) s.shadow.done base rest ≡ true → Failing (stepping_of Q) (as_config x)
     some_fails base [] there e = absurd (false≢true e)

@@ -1,6 +1,6 @@
 -- A frame that a call makes has the values of the arguments for its parameters.
-use Rattle.std.proofs.Common.{◌≡◌, ℕ, List, [], ◌∷◌, ◌++◌, length, take, map, refl, sym, ap, ◌∙◌, subst, arith, Some, slice_get}
-use Rattle.std.proofs.lemmas.List.{length-append, length-map}
+use Rattle.std.proofs.Common.{◌≡◌, ℕ, List, [], ◌++◌, length, map, sym, ◌∙◌, subst, arith, Some, slice_get}
+use Rattle.std.proofs.lemmas.List.{length-append, length-map, take_at}
 use Rattle.std.proofs.lemmas.List.Elements.{All-nil}
 use Rattle.std.proofs.lemmas.Option.{same_Some}
 use Rattle.civl_bits.specs.Value.{IsValue}
@@ -11,6 +11,7 @@ use Rattle.civl_firing.specs.declared.store.Store.{Store}
 use Rattle.civl_firing.specs.Scope.{zeros_of_params, zeros_of_locals}
 use Rattle.civl_firing.specs.Stores.{IsStore}
 use Rattle.civl_firing.specs.values.Values.{HaveSorts}
+use Rattle.civl_firing.proofs.Having.{have_length}
 use Rattle.civl_meaning.specs.declared.config.Plain.{Plain}
 use Rattle.civl_meaning.specs.declared.config.Running.{Running}
 use Rattle.civl_meaning.specs.Change.{new_frame}
@@ -18,17 +19,9 @@ use Rattle.civl_meaning.specs.Config.{IsPlain, frame_sorts, HasLocals, ThreadIsS
 use Rattle.civl_soundness.proofs.Fitting.{Fits}
 use Rattle.civl_soundness.proofs.Changing.{change_fits}
 use Rattle.civl_conditions.specs.Assumed.{inputs_of}
-use Rattle.civl_condition_laws.proofs.Gathering.{have_length}
 use Rattle.civl_reduction.specs.exchanges.Doing.{Doing, done_by, doing}
 use Rattle.civl_reduction.specs.exchanges.Doing as does
 use Rattle.civl_reduction.proofs.exchanges.Changes.{change_is}
-
-taken : {A : Type 0} (n : ℕ) (xs ys : List A) → length xs ≡ n → take n (xs ++ ys) ≡ xs
-taken {A = A} n xs ys e = subst (λ (k : ℕ). take k (xs ++ ys) ≡ xs) e (all xs)
-  where
-    all : (zs : List A) → take (length zs) (zs ++ ys) ≡ zs
-    all [] = refl
-    all (z ∷ zs) = ap (λ (r : List A). z ∷ r) (all zs)
 
 -- the locals of a frame have the number of the arguments, the outputs and the locals
 count_is : (proc : Proc) (args : List Value) → HaveSorts (args ++ (zeros_of_params proc.outs ++ zeros_of_locals proc.locals)) (frame_sorts proc) → length args ≡ length proc.params
@@ -60,4 +53,4 @@ entered_inputs plain ok store fits thread sorted stacked number proc args place 
     let change : Fits plain thread.state (done_by plain store [] (doing plain thread)) = subst (Fits plain thread.state) (change_is plain store [] thread) (change_fits plain ok store fits [] (All-nil IsValue) thread sorted stacked) in
     let has : HasLocals plain (new_frame number proc args) = subst (λ (D : Doing). Fits plain thread.state (done_by plain store [] D)) e change in
     let same : has.proc ≡ proc = same_Some has.proc proc (sym has.there ∙ there) in
-    taken (length proc.params) args (zeros_of_params proc.outs ++ zeros_of_locals proc.locals) (count_is proc args (subst (λ (p : Proc). HaveSorts (new_frame number proc args).locals (frame_sorts p)) same has.locals))
+    take_at args (zeros_of_params proc.outs ++ zeros_of_locals proc.locals) (length proc.params) (count_is proc args (subst (λ (p : Proc). HaveSorts (new_frame number proc args).locals (frame_sorts p)) same has.locals))

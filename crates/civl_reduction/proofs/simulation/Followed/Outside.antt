@@ -1,5 +1,5 @@
 -- A step outside the layer's procedures is followed by the same step.
-use Rattle.std.proofs.Common.{◌≡◌, ℕ, zero, suc, ◌+◌, ◌≤◌, Bool, true, List, [], ◌∷◌, ◌++◌, refl, sym, ap, ◌∙◌, subst, arith, Option, None, Some, slice_get, slice_set, inl, inr, ◌⊎◌}
+use Rattle.std.proofs.Common.{◌≡◌, ℕ, ◌+◌, ◌≤◌, Bool, true, List, [], ◌∷◌, ◌++◌, refl, sym, ap, ◌∙◌, subst, arith, Option, None, Some, slice_get, slice_set, inl, inr, ◌⊎◌}
 use Rattle.std.proofs.lemmas.List.{append-nil}
 use Rattle.std.proofs.lemmas.Option.{none-some}
 use Rattle.civl_bits.specs.declared.value.Value.{Value}
@@ -7,6 +7,7 @@ use Rattle.civl_tree.specs.declared.name.Name.{Name}
 use Rattle.civl_tree.specs.declared.action.Action.{Action}
 use Rattle.civl_tree.specs.declared.program.Proc.{Proc}
 use Rattle.civl_tree.specs.declared.program.Program.{Program}
+use Rattle.civl_tree.proofs.Lists.{get_front, get_same}
 use Rattle.civl_firing.specs.declared.store.Store.{Store}
 use Rattle.civl_firing.specs.Stores.{IsStore}
 use Rattle.civl_meaning.specs.declared.config.Plain.{Plain}
@@ -45,16 +46,10 @@ use Rattle.civl_reduction.specs.simulation.Meets.{FrameMeets, ThreadMeets, Meets
 use Rattle.civl_reduction.proofs.simulation.Meets.Meaning.{threads_do_alike}
 use Rattle.civl_reduction.proofs.simulation.Meets.Frames.{enters_framed}
 use Rattle.civl_reduction.proofs.simulation.Followed.Shadows.{done_other, outside_shadow}
-use Rattle.civl_reduction.proofs.simulation.Followed.Pairs.{get_same, Ties, set_both, push_both}
+use Rattle.civl_reduction.proofs.simulation.Followed.Pairs.{Ties, set_both, push_both}
 use Rattle.civl_reduction.proofs.simulation.Followed.Steps.{Made, made, makes, Fires, Comes, comes_so, calls_so}
 use Rattle.civl_reduction.proofs.simulation.Followed.Acting.{same_gate, fires_too}
 use Rattle.civl_reduction.proofs.simulation.Followed.Known.{Known, does_known}
-
--- what stands before what is put behind a list
-get_joined : {A : Type 0} (xs ys : List A) (i : ℕ) (a : A) → slice_get xs i ≡ Some a → slice_get (xs ++ ys) i ≡ Some a
-get_joined [] ys i a e = absurd (none-some a e)
-get_joined (x ∷ xs) ys zero a e = e
-get_joined (x ∷ xs) ys (suc i) a e = get_joined xs ys i a e
 
 module _ (program : Program) (layer : ℕ) (store : Store) (k : IsChecked program layer store) (roots : SpawnsStandInRoots program) where
   abbrev pub lower : Plain
@@ -196,7 +191,7 @@ module _ (program : Program) (layer : ℕ) (store : Store) (k : IsChecked progra
 
       -- behind the step the thread is there, and in no frame of the layer
       there_later : slice_get (config_with (as_config s.config) m.thread step.to).threads m.thread ≡ Some step.to.1
-      there_later = get_joined (slice_set s.config.threads m.thread step.to.1) step.to.2 m.thread step.to.1 (get_same s.config.threads m.thread step.to.1 step.thread step.there)
+      there_later = get_front (slice_set s.config.threads m.thread step.to.1) step.to.2 m.thread step.to.1 (get_same s.config.threads m.thread step.to.1 step.thread step.there)
 
       none_later : frame_of_layer program (layer + 1) step.to.1 ≡ None
       none_later = ap (frame_in program (layer + 1)) (sym there_later) ∙ (ap (λ (c : Config Store Running). frame_at program (layer + 1) c.threads m.thread) (sym step.is) ∙ later)

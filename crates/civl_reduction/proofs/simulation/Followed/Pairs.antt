@@ -1,19 +1,7 @@
 -- Two lists whose elements are tied place by place.
-use Rattle.std.proofs.Common.{◌≡◌, ◌≢◌, ℕ, zero, suc, List, [], ◌∷◌, ◌++◌, refl, sym, ap, subst, Option, None, Some, slice_get, slice_set, inl, inr}
+use Rattle.std.proofs.Common.{◌≡◌, ◌≢◌, ℕ, zero, suc, List, [], ◌∷◌, ◌++◌, sym, subst, Option, None, Some, slice_get, slice_set, inl, inr}
 use Rattle.std.proofs.lemmas.Bool.{cases_eq}
-use Rattle.std.proofs.lemmas.Option.{none-some}
-
-pub get_other : {A : Type 0} (xs : List A) (i j : ℕ) (a : A) → j ≢ i → slice_get (slice_set xs i a) j ≡ slice_get xs j
-get_other [] i j a n = refl
-get_other (x ∷ xs) zero zero a n = absurd (n refl)
-get_other (x ∷ xs) zero (suc j) a n = refl
-get_other (x ∷ xs) (suc i) zero a n = refl
-get_other (x ∷ xs) (suc i) (suc j) a n = get_other xs i j a (λ e. n (ap suc e))
-
-pub get_same : {A : Type 0} (xs : List A) (i : ℕ) (a r : A) → slice_get xs i ≡ Some r → slice_get (slice_set xs i a) i ≡ Some a
-get_same [] i a r e = absurd (none-some r e)
-get_same (x ∷ xs) zero a r e = refl
-get_same (x ∷ xs) (suc i) a r e = get_same xs i a r e
+use Rattle.civl_tree.proofs.Lists.{get_other, get_same}
 
 -- what is tied ties the same places
 abbrev pub Ties : {A : Type 0} → (ℕ → Option A → Option A → Type 0) → Type 0

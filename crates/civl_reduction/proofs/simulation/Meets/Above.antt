@@ -1,9 +1,9 @@
 -- The upper program enters no body of a procedure of its layer. So where a frame of one was made in the lower program, the upper
 -- one calls the refined action.
-use Rattle.std.proofs.Common.{◌≡◌, ℕ, ◌+◌, Bool, true, false, List, [], ◌∷◌, ◌++◌, length, refl, sym, ap, ◌∙◌, subst, arith, Option, None, Some, slice_get, inl, inr}
+use Rattle.std.proofs.Common.{◌≡◌, ℕ, ◌+◌, Bool, true, false, List, [], ◌++◌, refl, sym, ap, ◌∙◌, subst, arith, Option, None, Some, slice_get, inl, inr}
 use Rattle.std.specs.Prelude.{option_map, if◌then◌else◌, nat_eq}
 use Rattle.std.proofs.lemmas.Bool.{true≢false, ltb-true, eqb-true}
-use Rattle.std.proofs.lemmas.List.{length-append}
+use Rattle.std.proofs.lemmas.List.{append_cancel_right}
 use Rattle.std.proofs.lemmas.Option.{slice_get-map, same_Some}
 use Rattle.civl_bits.specs.declared.value.Value.{Value}
 use Rattle.civl_firing.specs.values.Values.{is_true}
@@ -129,12 +129,6 @@ instead program layer src caller frame place proc e there layered = elim (thread
   | inr h ↦ h
 ]
 
-cancel : {A : Type 0} (xs ys zs : List A) → xs ++ zs ≡ ys ++ zs → xs ≡ ys
-cancel [] [] zs e = refl
-cancel [] (y ∷ ys) zs e = let n = ap length e in let m = length-append ys zs in absurd (omega (arith, n, m))
-cancel (x ∷ xs) [] zs e = let n = ap length e in let m = length-append xs zs in absurd (omega (arith, n, m))
-cancel {A = A} (x ∷ xs) (y ∷ ys) zs e = let h : x ≡ y = cc in let t : xs ++ zs ≡ ys ++ zs = cc in ap (λ (a : A). a ∷ xs) h ∙ ap (λ (l : List A). y ∷ l) (cancel xs ys zs t)
-
 abbrev frame_entered : Doing → Activation → Activation
 frame_entered (does.Enters frame place) other = frame
 frame_entered _ other = other
@@ -155,7 +149,7 @@ called_instead program layer src f thread caller there layered w =
     let h = instead program layer src caller (new_frame f.1.procedure f.0 w.args) w.place f.0 w.enters there layered in
     let frames : new_frame h.number h.proc h.args ≡ new_frame f.1.procedure f.0 w.args = ap (λ (D : Doing). frame_entered D f.1) (sym h.enters ∙ w.enters) in
     let procs : h.proc ≡ f.0 = same_Some h.proc f.0 (sym h.there ∙ (ap (λ (a : Activation). slice_get program.procs a.procedure) frames ∙ there)) in
-    let args : h.args ≡ w.args = cancel h.args w.args (zeros_of_params f.0.outs ++ zeros_of_locals f.0.locals) (ap (λ (p : Proc). h.args ++ (zeros_of_params p.outs ++ zeros_of_locals p.locals)) (sym procs) ∙ ap (λ (a : Activation). a.locals) frames) in (
+    let args : h.args ≡ w.args = append_cancel_right h.args w.args (zeros_of_params f.0.outs ++ zeros_of_locals f.0.locals) (ap (λ (p : Proc). h.args ++ (zeros_of_params p.outs ++ zeros_of_locals p.locals)) (sym procs) ∙ ap (λ (a : Activation). a.locals) frames) in (
       record {
         names = h.names;
         locals = h.locals;

@@ -27,13 +27,13 @@ use Rattle.civl_meaning.specs.Layers.{program_at}
 use Rattle.civl_meaning.specs.Step.{state_after, thread_after}
 use Rattle.civl_layers.specs.Layered.{IsLayered}
 use Rattle.civl_conditions.specs.Steps.{has_layer}
+use Rattle.civl_conditions.proofs.Layered.{layered_by}
 use Rattle.civl_reduction.specs.exchanges.Doing.{Doing, call_doing, layer_doing, leaving, spot_doing, proc_doing, state_doing, doing}
 use Rattle.civl_reduction.specs.exchanges.Doing as does
 use Rattle.civl_reduction.specs.blocks.Blocks.{framed_in, framed_state, frame_of_layer}
 use Rattle.civl_reduction.proofs.blocks.Standing.Below.{calls_no_body}
 use Rattle.civl_reduction.proofs.blocks.Standing.Spots.{stands_there}
 use Rattle.civl_reduction.proofs.staged.Opened.Forms.{last_waits}
-use Rattle.civl_reduction.proofs.simulation.Meets.Inputs.{layered_by}
 
 -- a thread in this state that is removed from its topmost frame goes back to the one below
 abbrev pub LeavesTo : Plain → Option Activation → Doing → Type 0

@@ -2,7 +2,7 @@
 -- as they are, until it is removed.
 use Rattle.std.proofs.Common.{◌≡◌, ℕ, ◌+◌, Bool, true, false, List, refl, sym, ◌∙◌, subst, arith, length, Option, None, Some, slice_get}
 use Rattle.std.specs.Prelude.{is_none, nat_eq, if◌then◌else◌}
-use Rattle.std.proofs.lemmas.Bool.{false≢true, true≢false, not-false, or_parts, eqb-true}
+use Rattle.std.proofs.lemmas.Bool.{true≢false, not-false, or_parts, eqb-true}
 use Rattle.std.proofs.lemmas.Option.{none-some}
 use Rattle.civl_bits.specs.declared.value.Value.{Value}
 use Rattle.civl_firing.specs.values.Values.{is_true}
@@ -33,8 +33,9 @@ use Rattle.civl_layers.specs.Layered.{IsLayered}
 use Rattle.civl_linear.specs.LinearRules.{linear_rules, assigned_rule}
 use Rattle.civl_linear.specs.Places.{is_param, may_get, call_misgiven, form_assigned, stmt_assigned}
 use Rattle.civl_yields.specs.YieldRules.{yield_rules}
-use Rattle.civl_conditions.specs.Steps.{has_layer, refines_at}
+use Rattle.civl_conditions.specs.Steps.{has_layer}
 use Rattle.civl_conditions.specs.Assumed.{inputs_of}
+use Rattle.civl_conditions.proofs.Layered.{layered_by}
 use Rattle.civl_reduction.specs.exchanges.Doing.{Doing, call_doing, layer_doing, leaving, spot_doing}
 use Rattle.civl_reduction.specs.exchanges.Doing as does
 use Rattle.civl_reduction.proofs.permissions.Results.{set_kept, results_kept}
@@ -52,10 +53,6 @@ StaysIn proc locals away (does.Spawns thread place) = ⊥
 StaysIn proc locals away does.Fails = Unit {0}
 StaysIn proc locals away does.Waits = Unit {0}
 StaysIn proc locals away does.Ends = Unit {0}
-
-pub layered_by : (layer : ℕ) (o : Option Refines) → refines_at layer o ≡ true → (r : Refines) × (o ≡ Some r) × (r.layer ≡ layer)
-layered_by layer None e = absurd (false≢true e)
-layered_by layer (Some r) e = (r, refl, eqb-true r.layer layer e)
 
 module _ (program : Program) (layer : ℕ) (src : IsLayered program) (linear : Keeps linear_rules program) (yields : Keeps yield_rules program)
     (number : ℕ) (proc : Proc) (there : slice_get program.procs number ≡ Some proc) (layered : has_layer (layer + 1) proc ≡ true) (locals : List Value) (away : Doing) where

@@ -1,6 +1,6 @@
 -- What a thread does next in the programs of two layers, one above the other.
 use Rattle.std.proofs.Common.{◌≡◌, ℕ, ◌+◌, Bool, true, false, List, [], refl, sym, ap, ◌∙◌, subst, arith, Option, None, Some, slice_get, inl, inr, ◌⊎◌}
-use Rattle.std.specs.Prelude.{is_none, option_map}
+use Rattle.std.specs.Prelude.{option_map}
 use Rattle.std.proofs.lemmas.Bool.{false≢true, ltb-true, ltb-false, eq-eqb, or_parts}
 use Rattle.std.proofs.lemmas.Option.{slice_get-map}
 use Rattle.civl_bits.specs.declared.value.Value.{Value}
@@ -16,6 +16,7 @@ use Rattle.civl_tree.specs.rules.Uses.{with_uses}
 use Rattle.civl_tree.specs.rules.Unknown.{any_unknown, refined_unknown}
 use Rattle.civl_tree.specs.rules.Typing.{typing_rules, unknown_rule}
 use Rattle.civl_tree.proofs.Kept.{proc_kept, unknown_among}
+use Rattle.civl_tree.proofs.Options.{some_of}
 use Rattle.civl_firing.specs.Eval.{values_of}
 use Rattle.civl_firing.specs.Scope.{frame_values}
 use Rattle.civl_meaning.specs.declared.config.Plain.{Plain}
@@ -33,10 +34,6 @@ use Rattle.civl_conditions.specs.Assumed.{refined_action}
 use Rattle.civl_conditions.specs.paths.Choices.{action_meant}
 use Rattle.civl_reduction.specs.exchanges.Doing.{Doing, call_doing, layer_doing, leaving, spot_doing, proc_doing, state_doing}
 use Rattle.civl_reduction.specs.simulation.Alike.{CallsInstead, ThreadsDoAlike}
-
-some_of : {A : Type 0} (o : Option A) → is_none o ≡ false → (x : A) × (o ≡ Some x)
-some_of None e = absurd (false≢true (sym e))
-some_of (Some x) e = (x, refl)
 
 module _ (program : Program) (layer : ℕ) (src : IsLayered program) where
   abbrev lower : Plain

@@ -12,6 +12,7 @@ use Rattle.civl_tree.specs.declared.program.Program.{Program}
 use Rattle.civl_tree.specs.declared.stmt.Stmt.{Stmt, out-Stmt}
 use Rattle.civl_tree.specs.declared.stmt.Stmt.TheOpen as stmt
 use Rattle.civl_tree.specs.rules.Names.{names_in_proc}
+use Rattle.civl_tree.proofs.Lists.{last_there}
 use Rattle.civl_firing.specs.Eval.{value_of, values_of}
 use Rattle.civl_firing.specs.Scope.{frame_values}
 use Rattle.civl_meaning.specs.declared.config.Plain.{Plain}
@@ -32,10 +33,6 @@ use Rattle.civl_reduction.specs.simulation.Alike.{CallsInstead}
 use Rattle.civl_reduction.specs.simulation.Meets.{behind}
 
 -- ---- the last of a list
-
-last_there : {A : Type 0} (xs : List A) (x : A) → slice_get (xs ++ x ∷ []) (length xs) ≡ Some x
-last_there [] x = refl
-last_there (y ∷ xs) x = last_there xs x
 
 without_last : {A : Type 0} (xs : List A) (x : A) → take (length xs) (xs ++ x ∷ []) ≡ xs
 without_last [] x = refl

@@ -32,22 +32,14 @@ use Rattle.civl_conditions.specs.paths.Paths.{Progress}
 use Rattle.civl_conditions.specs.paths.Seen.{IsProcOf}
 use Rattle.civl_conditions.specs.Assumed.{cut_invariant, note_holds, refined_action, with_of, inputs_of, refined_gate, owned}
 use Rattle.civl_conditions.specs.Invariants.{invariants_hold}
-use Rattle.civl_conditions.specs.Values.{Begun, same_values, same_in, same_stores}
+use Rattle.civl_conditions.specs.Values.{Begun, same_in, same_stores}
 use Rattle.civl_condition_laws.specs.States.{frame_sorts}
 use Rattle.civl_reduction.specs.open_blocks.Ends.{IsAssumed, Performs, Concludes}
-use Rattle.civl_reduction.proofs.staged.Chains.Gates.{same_is_equality}
 use Rattle.civl_reduction.specs.simulation.Refined.{Acts, IsRefined, with_values}
 use Rattle.civl_reduction.specs.simulation.Joined.{sight_old, sight_at, ConclusionsRefine}
 use Rattle.civl_reduction.proofs.simulation.Refined.Joining.{in_layer}
 use Rattle.civl_reduction.proofs.simulation.Refined.Withs.{withs_sorted}
-
-same_all : (vs ws : List Value) → same_values vs ws ≡ true → vs ≡ ws
-same_all [] [] e = refl
-same_all [] (w ∷ ws) e = absurd (false≢true e)
-same_all (v ∷ vs) [] e = absurd (false≢true e)
-same_all (v ∷ vs) (w ∷ ws) e =
-    let p = and_parts (same_value v w) (same_values vs ws) e in
-    ap (λ (x : Value). x ∷ vs) ((same_is_equality v w).0 p.0) ∙ ap (λ (l : List Value). w ∷ l) (same_all vs ws p.1)
+use Rattle.civl_reduction.proofs.mover_laws.Moving.{same_is_equality, values_are}
 
 -- lists of one value for each global that are the same on some
 same_agree : (test other : Global → Bool) (gs : List Global) (us vs ws : List Value) → HaveSorts vs (map (λ g. g.sort) gs) → AgreeOn other gs us ws → same_in test gs vs ws ≡ true → AgreeOn test gs vs ws
@@ -134,7 +126,7 @@ module _ (program : Program) (step q c : ℕ) (proc : Proc) (cut : Cut) (b : Beg
         values = withs.fit;
         fit = withs.are;
         to = d.after.0;
-        fires = d.fires ∙ ap (λ (os : List Value). Some (d.after.0, os)) (sym (same_all (outs_in proc p.locals) d.after.1 d.outs));
+        fires = d.fires ∙ ap (λ (os : List Value). Some (d.after.0, os)) (sym (values_are (outs_in proc p.locals) d.after.1 d.outs));
         globals = agree_back (exists_at step) program.globals p.store.values d.after.0.values (same_agree (exists_at step) (λ g. not (exists_at step g)) program.globals b.old.values p.store.values d.after.0.values fits left d.globals);
       }
 
@@ -142,7 +134,7 @@ module _ (program : Program) (step q c : ℕ) (proc : Proc) (cut : Cut) (b : Beg
   refines_so = record {
     stays = stays;
     same = λ e. agree_old b.old (one_each program.globals b.old.values a.begun.old) (k.stutter ends e);
-    outs = λ e. same_all (outs_in proc p.locals) b.old_outs (k.outs ends (stays e ∙ sym e) e);
+    outs = λ e. values_are (outs_in proc p.locals) b.old_outs (k.outs ends (stays e ∙ sym e) e);
     acts = acts;
   }
 

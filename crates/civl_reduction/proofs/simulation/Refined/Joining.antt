@@ -1,7 +1,6 @@
 -- Blocks that are refined, one behind the other.
-use Rattle.std.proofs.Common.{◌≡◌, ℕ, Bool, true, false, ◌&&◌, List, map, refl, sym, ap, ◌∙◌, subst, arith, Option, None, Some, slice_get, Contains, inl, inr}
-use Rattle.std.specs.Prelude.{nat_lt, nat_le}
-use Rattle.std.proofs.lemmas.Bool.{false≢true, not-false, ltb-true}
+use Rattle.std.proofs.Common.{◌≡◌, ℕ, Bool, true, false, List, map, refl, sym, ap, ◌∙◌, subst, arith, Option, None, Some, slice_get, Contains}
+use Rattle.std.proofs.lemmas.Bool.{false≢true}
 use Rattle.std.proofs.lemmas.Option.{none-some, same_Some}
 use Rattle.civl_bits.specs.declared.value.Value.{Value}
 use Rattle.civl_tree.specs.declared.action.Action.{Action}
@@ -21,7 +20,7 @@ use Rattle.civl_conditions.proofs.footprints.Existing.{uses_what_exists}
 use Rattle.civl_firing.specs.Truth.{place_of}
 use Rattle.civl_firing.proofs.Finding.{found_at}
 use Rattle.civl_meaning.specs.Meaning.{meaning_of_action, refined}
-use Rattle.civl_layers.specs.Ranges.{exists_in, exists_through}
+use Rattle.civl_layers.specs.Ranges.{exists_in}
 use Rattle.civl_layers.specs.Names.{action_range}
 use Rattle.civl_layers.specs.NotThere.{action_missing, refines_missing}
 use Rattle.civl_layers.specs.LayerRules.{layer_rules, not_there_rule}
@@ -29,9 +28,9 @@ use Rattle.civl_layers.specs.Layered.{IsLayered}
 use Rattle.civl_conditions.specs.paths.Choices.{action_meant}
 use Rattle.civl_conditions.specs.paths.Seen.{IsProcOf}
 use Rattle.civl_conditions.specs.Assumed.{refined_action}
-use Rattle.civl_reduction.proofs.permissions.Flags.{or_cases}
 use Rattle.civl_reduction.specs.simulation.Refined.{Sight, Acts, IsRefined}
 use Rattle.civl_reduction.specs.simulation.Joined.{NothingIsRefined, RefinedJoin}
+use Rattle.civl_reduction.proofs.staged.Chains.Gates.{exists_there}
 
 -- the same, and that blocks join, however the choices are picked
 abbrev pub NothingAnyhow : Type 1
@@ -97,12 +96,6 @@ in_layer program number layer proc action layered of e =
     by_name : (o : Option Action) → action_named program of.refines.action ≡ o → action_meant (meaning_of_action o) ≡ Some action → action_named program of.refines.action ≡ Some action
     by_name None q h = absurd (none-some action h)
     by_name (Some a) q h = q ∙ ap (λ (x : Action). Some x) (same_Some a action h)
-
-    exists_there : (layer : ℕ) (action : Action) → action_missing layer layer (Some action) ≡ false → exists_in layer (action_range action) ≡ true
-    exists_there layer action h = elim (or_cases (nat_lt layer layer) (nat_le action.first layer && nat_le layer action.last) (not-false (exists_through layer layer (action_range action)) h)) [
-      | inl q ↦ let l = ltb-true layer layer q in absurd (omega (arith, l))
-      | inr q ↦ q
-    ]
 
 module _ (picked : List Value → Type 0) (program : Program) (number layer : ℕ) (proc : Proc) (inputs : List Value) (layered : IsLayered program) (of : IsProcOf program number layer proc) where
   abbrev Agree : Sight → Sight → Type 0

@@ -1,8 +1,8 @@
 -- The steps of an open block come to an end.
 use Rattle.std.proofs.Common.{◌≡◌, ℕ, zero, suc, ◌+◌, ◌-◌, Bool, true, false, List, [], ◌∷◌, ◌++◌, Option, None, Some, refl, sym, ap, ◌∙◌, subst, arith}
-use Rattle.std.specs.Prelude.{slice_get, slice_set, is_some, All, if◌then◌else◌}
+use Rattle.std.specs.Prelude.{slice_get, is_some, All, if◌then◌else◌}
 use Rattle.std.proofs.lemmas.Bool.{true≢false, false≢true}
-use Rattle.std.proofs.lemmas.Option.{none-some, same_Some}
+use Rattle.std.proofs.lemmas.Option.{same_Some}
 use Rattle.civl_bits.specs.declared.value.Value.{Value}
 use Rattle.civl_tree.specs.declared.name.Name.{Name}
 use Rattle.civl_tree.specs.declared.expr.Expr.{Expr}
@@ -12,6 +12,7 @@ use Rattle.civl_tree.specs.declared.program.Program.{Program}
 use Rattle.civl_tree.specs.declared.stmt.Stmt.{out-Stmt}
 use Rattle.civl_tree.specs.declared.stmt.Stmt.TheOpen as stmt
 use Rattle.civl_tree.proofs.Kept.{statement_kept}
+use Rattle.civl_tree.proofs.Lists.{get_same}
 use Rattle.civl_firing.specs.declared.store.Store.{Store}
 use Rattle.civl_meaning.specs.declared.config.Plain.{Plain}
 use Rattle.civl_meaning.specs.declared.config.Activation.{Activation}
@@ -34,6 +35,7 @@ use Rattle.civl_yields.specs.Places.{form_misplaced, stmt_misplaced}
 use Rattle.civl_yields.specs.YieldRules.{commit_rule, yield_rules}
 use Rattle.civl_soundness.proofs.Fitting.{all_at}
 use Rattle.civl_conditions.specs.Steps.{has_layer}
+use Rattle.civl_conditions.proofs.Layered.{has_its_layer}
 use Rattle.civl_reduction.specs.permissions.Owned.{IsParted}
 use Rattle.civl_reduction.specs.interleavings.Systems.{System}
 use Rattle.civl_reduction.specs.interleavings.Runs.{Staged, goes}
@@ -56,15 +58,10 @@ use Rattle.civl_reduction.specs.staged.Measures.{IsNear, IsNearer}
 use Rattle.civl_reduction.proofs.staged.Measures.Nearing.{comes_nearer}
 use Rattle.civl_reduction.specs.staged.Bounded.{OpenInside, OpenBlocksAreBounded}
 use Rattle.civl_reduction.proofs.staged.Opened.Forms.{last_waits}
-use Rattle.civl_reduction.proofs.staged.Bounded.Changes.{Ordinary, ordinary, its_layer, waits_elsewhere, returned_same}
+use Rattle.civl_reduction.proofs.staged.Bounded.Changes.{Ordinary, ordinary, waits_elsewhere, returned_same}
 use Rattle.civl_reduction.proofs.staged.Bounded.Held.{held_is_apart}
 
 -- ---- lists and places
-
-set_same : {A : Type 0} (xs : List A) (i : ℕ) (a r : A) → slice_get xs i ≡ Some r → slice_get (slice_set xs i a) i ≡ Some a
-set_same [] i a r e = absurd (none-some r e)
-set_same (x ∷ xs) zero a r e = refl
-set_same (x ∷ xs) (suc i) a r e = set_same xs i a r e
 
 between_late : Between ≡ Late → ⊥
 between_late e = cc
@@ -143,17 +140,17 @@ module _ (program : Program) (layer : ℕ) (store : Store) (k : IsChecked progra
   framed_on locals place =
       ap (λ (s : State). framed_state program (layer + 1) (goes_on s locals place)) top.is
       ∙ ap (framed_in (layer + 1) (moved_frame at.f.1 locals place)) top.of.there
-      ∙ ap (λ (b : Bool). if◌then◌else◌ {A = Option (Proc × Activation)} b (Some (at.f.0, moved_frame at.f.1 locals place)) None) (its_layer program at.f.1.procedure (layer + 1) at.f.0 top.of)
+      ∙ ap (λ (b : Bool). if◌then◌else◌ {A = Option (Proc × Activation)} b (Some (at.f.0, moved_frame at.f.1 locals place)) None) (has_its_layer program at.f.1.procedure (layer + 1) at.f.0 top.of)
 
   goes_near : (locals : List Value) (place : ℕ) → IsNear program (layer + 1) at.f.1.procedure at.f.0 c.store (moved_frame at.f.1 locals place) n → Made (Goes locals place) → NearAt program layer d t n
   goes_near locals place near e =
       subst (λ (d : meaning.Config). NearAt program layer d t n) (ap (λ (z : Stepped × meaning.Config). z.1) e)
-      (record { thread = thread_after at.thread (Goes locals place); there = set_same c.threads t (thread_after at.thread (Goes locals place)) at.thread at.there; f = (at.f.0, moved_frame at.f.1 locals place); framed = framed_on locals place; near = near })
+      (record { thread = thread_after at.thread (Goes locals place); there = get_same c.threads t (thread_after at.thread (Goes locals place)) at.thread at.there; f = (at.f.0, moved_frame at.f.1 locals place); framed = framed_on locals place; near = near })
 
   acts_near : (after : Store) (locals : List Value) (place : ℕ) → IsNear program (layer + 1) at.f.1.procedure at.f.0 after (moved_frame at.f.1 locals place) n → Made (Acts after locals place) → NearAt program layer d t n
   acts_near after locals place near e =
       subst (λ (d : meaning.Config). NearAt program layer d t n) (ap (λ (z : Stepped × meaning.Config). z.1) e)
-      (record { thread = thread_after at.thread (Acts after locals place); there = set_same c.threads t (thread_after at.thread (Acts after locals place)) at.thread at.there; f = (at.f.0, moved_frame at.f.1 locals place); framed = framed_on locals place; near = near })
+      (record { thread = thread_after at.thread (Acts after locals place); there = get_same c.threads t (thread_after at.thread (Acts after locals place)) at.thread at.there; f = (at.f.0, moved_frame at.f.1 locals place); framed = framed_on locals place; near = near })
 
   -- ---- out of it
 
@@ -166,7 +163,7 @@ module _ (program : Program) (layer : ℕ) (store : Store) (k : IsChecked progra
   left_late : (o : Option Activation) → IsLate → Made (Leaves o) → state_late (left at.thread.state o) ≡ Late
   left_late o late e =
       let same : config_after c t at.thread (Leaves o) ≡ d = ap (λ (z : Stepped × meaning.Config). z.1) e in
-      let there = ap (λ (d : meaning.Config). slice_get d.threads t) (sym same) ∙ set_same c.threads t (thread_after at.thread (Leaves o)) at.thread at.there in
+      let there = ap (λ (d : meaning.Config). slice_get d.threads t) (sym same) ∙ get_same c.threads t (thread_after at.thread (Leaves o)) at.thread at.there in
       sym (ap (stands_in (stands program layer)) there) ∙ late
 
   outside_not_late : (frame : Activation) (o : Option Proc) → ((proc : Proc) → o ≡ Some proc → has_layer (layer + 1) proc ≡ true → ⊥) → place_of_rest program (block_in (framed_in (layer + 1) frame o)) ≡ Late → ⊥
@@ -219,7 +216,7 @@ module _ (program : Program) (layer : ℕ) (store : Store) (k : IsChecked progra
 
     no_body : (g : Name) (es : List Expr) (rs : List Name) (m : ℕ) (p : Proc) → out-Stmt s.stmt ≡ stmt.Call g es rs → called lower g ≡ Runs m p → ⊥
     no_body g es rs m p form runs =
-        calls_run_no_bodies program layer at.f.1.procedure s.number at.f.0 s.stmt g es rs k.layered top.of.there (its_layer program at.f.1.procedure (layer + 1) at.f.0 top.of) (spot_stands at.f.0.body at.f.1.place s there) form m p
+        calls_run_no_bodies program layer at.f.1.procedure s.number at.f.0 s.stmt g es rs k.layered top.of.there (has_its_layer program at.f.1.procedure (layer + 1) at.f.0 top.of) (spot_stands at.f.0.body at.f.1.place s there) form m p
         (subst (λ (n : ℕ). called (program_at program n) g ≡ Runs m p) low runs)
 
     by_change : (x : Change) → IsNearer program (layer + 1) at.f.1.procedure at.f.0 c.store at.f.1 n x → Ordinary lower (out-Stmt s.stmt) x → Made x → NearAt program layer d t n

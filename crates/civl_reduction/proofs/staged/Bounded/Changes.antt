@@ -1,7 +1,6 @@
 -- What the topmost frame of a thread inside a block doesn't do.
-use Rattle.std.proofs.Common.{◌≡◌, ℕ, ◌+◌, Bool, true, false, List, Option, None, Some, refl, ap, ◌∙◌, subst}
+use Rattle.std.proofs.Common.{◌≡◌, ℕ, ◌+◌, Bool, true, false, List, Option, None, Some, refl, ap, subst}
 use Rattle.std.specs.Prelude.{slice_get, if◌then◌else◌}
-use Rattle.std.proofs.lemmas.Bool.{eq-eqb}
 use Rattle.civl_bits.specs.declared.value.Value.{Value}
 use Rattle.civl_tree.specs.declared.name.Name.{Name}
 use Rattle.civl_tree.specs.declared.expr.Expr.{Expr}
@@ -28,8 +27,7 @@ use Rattle.civl_meaning.specs.Change.{acted, call_change, layer_change, returned
 use Rattle.civl_meaning.specs.Config.{IsBodyOf, LayerCalls, SpotCalls, ProcCalls, Waits}
 use Rattle.civl_meaning.specs.Layers.{program_at}
 use Rattle.civl_layers.specs.Layered.{IsLayered}
-use Rattle.civl_conditions.specs.paths.Seen.{IsProcOf}
-use Rattle.civl_conditions.specs.Steps.{refines_at, has_layer}
+use Rattle.civl_conditions.specs.Steps.{has_layer}
 use Rattle.civl_reduction.proofs.blocks.Standing.Threads.{calls_run_no_bodies}
 use Rattle.civl_reduction.proofs.open_blocks.Open.Going.{spot_stands}
 
@@ -74,11 +72,6 @@ module _ (plain : Plain) (store : Store) (chosen : List Value) (proc : Proc) (lo
   ordinary (stmt.Yield i) = tt
   ordinary stmt.Commit = tt
   ordinary (stmt.Intro x e) = tt
-
--- ---- layers
-
-pub its_layer : (program : Program) (q step : ℕ) (proc : Proc) → IsProcOf program q step proc → has_layer step proc ≡ true
-its_layer program q step proc of = ap (refines_at step) of.refined ∙ eq-eqb of.refines.layer step of.layered
 
 -- ---- frames that wait
 

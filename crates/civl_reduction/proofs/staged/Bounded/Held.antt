@@ -1,6 +1,6 @@
 -- What a frame holds before a rank loop is apart from the linear globals, where all permissions are held once.
-use Rattle.std.proofs.Common.{◌≡◌, ℕ, ◌+◌, ◌≤◌, Bool, true, false, List, [], ◌∷◌, ◌++◌, length, Option, None, Some, refl, sym, ap, ◌∙◌, subst, arith}
-use Rattle.std.specs.Prelude.{slice_get, flat_map, if◌then◌else◌}
+use Rattle.std.proofs.Common.{◌≡◌, ℕ, ◌+◌, ◌≤◌, true, false, List, ◌++◌, length, Option, None, Some, refl, sym, ap, ◌∙◌, subst, arith}
+use Rattle.std.specs.Prelude.{slice_get, flat_map}
 use Rattle.std.proofs.lemmas.Option.{none-some, same_Some}
 use Rattle.civl_tree.specs.declared.program.Proc.{Proc}
 use Rattle.civl_tree.specs.declared.program.Program.{Program}
@@ -15,8 +15,8 @@ use Rattle.civl_meaning.specs.declared.config.State.TheVariants.{Inside}
 use Rattle.civl_meaning.specs.declared.config.Running.{Running}
 use Rattle.civl_meaning.specs.declared.config.Config.{Config}
 use Rattle.civl_meaning.specs.Permissions.{pairwise_disjoint, of_globals}
-use Rattle.civl_meaning.specs.Places.{Spot, is_skipped, spot_at}
-use Rattle.civl_meaning.specs.Rest.{Rest, rest_at, place_in, head_of}
+use Rattle.civl_meaning.specs.Places.{Spot, spot_at}
+use Rattle.civl_meaning.specs.Rest.{rest_at}
 use Rattle.civl_meaning.specs.Layers.{program_at}
 use Rattle.civl_meaning.specs.Config.{StateIsSorted, StateIsStacked, ThreadIsSorted, IsStacked, IsOf}
 use Rattle.civl_meaning.proofs.Rests.{spot_of_rest}
@@ -35,21 +35,12 @@ use Rattle.civl_reduction.proofs.permissions.Changing.{owns}
 use Rattle.civl_reduction.proofs.permissions.Threads.{locals_count}
 use Rattle.civl_reduction.proofs.permissions.Staying.{one_own}
 use Rattle.civl_reduction.specs.blocks.Blocks.{at_yield}
-use Rattle.civl_reduction.proofs.staged.Pausing.Holding.{Skips, stays, passes, cut_owned}
+use Rattle.civl_reduction.proofs.staged.Pausing.Holding.{cut_owned}
 use Rattle.civl_reduction.specs.open_blocks.Following.{head_there}
 use Rattle.civl_reduction.proofs.open_blocks.Open.Cuts.{head_cut}
 use Rattle.civl_reduction.specs.staged.Measures.{HeldIsApart}
-use Rattle.civl_reduction.proofs.staged.Measures.Nearing.{none_or, no_yield}
-
--- what comes next is behind what a plain program passes over
-head_skips : (end : ℕ) (r : Rest) (s : Spot) → head_of end r ≡ Some s → (behind : Rest) × Skips r ((s.number, s.stmt) ∷ behind)
-head_skips end [] s e = absurd (none-some s e)
-head_skips end (q ∷ k) s e = by_skip (is_skipped q.1) refl (head_skips end k s) e
-  where
-    by_skip : (b : Bool) → is_skipped q.1 ≡ b → (head_of end k ≡ Some s → (behind : Rest) × Skips k ((s.number, s.stmt) ∷ behind)) → (if b then head_of end k else Some (record { number = q.0; stmt = q.1; next = place_in end k })) ≡ Some s → (behind : Rest) × Skips (q ∷ k) ((s.number, s.stmt) ∷ behind)
-    by_skip true h later e = let r = later e in (r.0, passes h r.1)
-    by_skip false h later e =
-        subst (λ (s : Spot). (behind : Rest) × Skips (q ∷ k) ((s.number, s.stmt) ∷ behind)) (same_Some (record { number = q.0; stmt = q.1; next = place_in end k }) s e) (k, stays)
+use Rattle.civl_reduction.proofs.staged.Measures.Nearing.{none_or}
+use Rattle.civl_reduction.proofs.staged.Opened.Forms.{no_yield, head_skips}
 
 module _ (program : Program) (layer q : ℕ) (proc : Proc) (config : Config) (layered : IsLayered program) (linear : Keeps linear_rules program) (of_plain : IsOf (program_at program layer) config) (parted : IsParted program config)
     (t : ℕ) (thread : Running) (below : List Activation) (frame : Activation) (at : slice_get config.threads t ≡ Some thread) (is : thread.state ≡ Inside below frame) (of : IsProcOf program q (layer + 1) proc) (its : frame.procedure ≡ q) where

@@ -1,5 +1,5 @@
 -- The action that a thread calls in a layer's program exists in the layer above too, where the thread is in no procedure of that.
-use Rattle.std.proofs.Common.{◌≡◌, ℕ, zero, suc, ◌+◌, ◌≤◌, Bool, true, false, List, [], ◌∷◌, map, refl, sym, ap, ◌∙◌, subst, arith, Option, None, Some, slice_get}
+use Rattle.std.proofs.Common.{◌≡◌, ℕ, ◌+◌, ◌≤◌, Bool, true, false, List, refl, sym, ap, ◌∙◌, subst, arith, Option, None, Some, slice_get}
 use Rattle.std.specs.Prelude.{nat_lt, if◌then◌else◌}
 use Rattle.std.proofs.lemmas.Bool.{false≢true, ltb-true, ltb-false, eq-eqb}
 use Rattle.std.proofs.lemmas.Option.{same_Some, none-some}
@@ -25,6 +25,7 @@ use Rattle.civl_meaning.specs.Places.{Spot, spot_at}
 use Rattle.civl_meaning.specs.Meaning.{Meaning, Does, Runs, Missing, called, meaning_of, meaning_by, meaning_else, proc_number}
 use Rattle.civl_meaning.specs.Layers.{means_body, program_at}
 use Rattle.civl_meaning.specs.Config.{HasLocals, IsStack, StateIsSorted, StateIsStacked, ThreadIsSorted, IsStacked}
+use Rattle.civl_meaning.proofs.Bodies.{bodies_at}
 use Rattle.civl_linear.specs.LinearRules.{linear_rules}
 use Rattle.civl_layers.specs.Ranges.{exists_in}
 use Rattle.civl_layers.specs.Names.{action_range}
@@ -44,11 +45,6 @@ module _ (program : Program) (layer : ℕ) where
 
   abbrev upper : Plain
   upper = program_at program (layer + 1)
-
-  bodies_at : (k : ℕ) (procs : List Proc) (j : ℕ) (proc : Proc) → slice_get procs j ≡ Some proc → slice_get (map (λ p. means_body k p.refines) procs) j ≡ Some (means_body k proc.refines)
-  bodies_at k [] j proc at = absurd (none-some proc at)
-  bodies_at k (p ∷ ps) zero proc at = ap (λ (q : Proc). Some (means_body k q.refines)) (same_Some p proc at)
-  bodies_at k (p ∷ ps) (suc j) proc at = bodies_at k ps j proc at
 
   -- a procedure that is replaced in the layer is so above
   replaced : (o : Option Refines) → means_body layer o ≡ false → means_body (layer + 1) o ≡ false

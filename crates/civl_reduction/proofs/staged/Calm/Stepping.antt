@@ -10,6 +10,7 @@ use Rattle.civl_tree.specs.declared.program.Program.{Program}
 use Rattle.civl_tree.specs.declared.stmt.Stmt.{Stmt, out-Stmt}
 use Rattle.civl_tree.specs.declared.stmt.Stmt.TheOpen as stmt
 use Rattle.civl_tree.specs.rules.Names.{names_in_proc}
+use Rattle.civl_tree.proofs.Lists.{get_other}
 use Rattle.civl_firing.specs.declared.store.Store.{Store}
 use Rattle.civl_firing.specs.declared.firing.Fired.{Fired}
 use Rattle.civl_firing.specs.declared.firing.Fired.TheVariants as fire
@@ -31,6 +32,7 @@ use Rattle.civl_meaning.specs.Places.{Spot, spot_at}
 use Rattle.civl_meaning.specs.Meaning.{Meaning, Does, Runs, Missing, called, meaning_of}
 use Rattle.civl_meaning.specs.Change.{acted, caller_of, outs_in, change_of}
 use Rattle.civl_meaning.specs.Step.{thread_after, store_with, step_with, step_in, step_of}
+use Rattle.civl_meaning.proofs.Safe.{no_thread}
 use Rattle.civl_soundness.specs.Stepped.{next_action}
 use Rattle.civl_reduction.specs.exchanges.Doing.{Doing, done_by, call_doing, layer_doing, leaving, spot_doing, proc_doing, state_doing, doing}
 use Rattle.civl_reduction.specs.exchanges.Doing as does
@@ -154,13 +156,6 @@ module _ (plain : Plain) where
 
 -- ---- the threads
 
-set_other : {A : Type 0} (xs : List A) (t u : ℕ) (x : A) → u ≢ t → slice_get (slice_set xs t x) u ≡ slice_get xs u
-set_other [] t u x n = refl
-set_other (y ∷ ys) zero zero x n = absurd (n refl)
-set_other (y ∷ ys) zero (suc u) x n = refl
-set_other (y ∷ ys) (suc t) zero x n = refl
-set_other (y ∷ ys) (suc t) (suc u) x n = set_other ys t u x (λ e. n (ap suc e))
-
 -- with one thread behind them that is before its call, the frames are the same
 pub pushed_frame : (program : Program) (step : ℕ) (xs : List Running) (other : Running) (u : ℕ) → other.state ≡ Before → frame_in program step (slice_get (xs ++ other ∷ []) u) ≡ frame_in program step (slice_get xs u)
 pushed_frame program step [] other zero e = ap (framed_of program step) e
@@ -170,9 +165,6 @@ pushed_frame program step [] other zero e = ap (framed_of program step) e
 pushed_frame program step [] other (suc u) e = refl
 pushed_frame program step (x ∷ xs) other zero e = refl
 pushed_frame program step (x ∷ xs) other (suc u) e = pushed_frame program step xs other u e
-
-no_thread : answer.NoThread ≡ answer.Moved → ⊥
-no_thread e = cc
 
 -- what a step that was made leaves: the store, or an action fired; and the frames of all other threads
 pub record Leaves (plain : Plain) (c : Config) (m : Move) (d : Config) : Type 0 where
@@ -185,7 +177,7 @@ pub leaves : (plain : Plain) (c : Config) (m : Move) (d : Config) → step_of pl
 leaves plain c m d e = by_thread (slice_get c.threads m.thread) refl e
   where
     other_frame : (r : Running) (step u : ℕ) → u ≢ m.thread → frame_at plain.program step (slice_set c.threads m.thread r) u ≡ frame_at plain.program step c.threads u
-    other_frame r step u n = ap (frame_in plain.program step) (set_other c.threads m.thread u r n)
+    other_frame r step u n = ap (frame_in plain.program step) (get_other c.threads m.thread u r n)
 
     by_change : (r : Running) → slice_get c.threads m.thread ≡ Some r → (g : Change) → change_of plain c.store m.choices r ≡ g → Leaves plain c m (step_with c m.thread r g).1
     by_change r at (change.Goes ls place) q = record { thread = r; there = at; store = inl refl; others = λ step u n. other_frame (thread_after r (change.Goes ls place)) step u n }

@@ -1,55 +1,31 @@
 -- The gate of a refined action sees the globals of the procedure's layer alone.
-use Rattle.std.proofs.Common.{rules, ◌≡◌, ℕ, Bool, true, false, not, ◌&&◌, ◌||◌, List, [], ◌∷◌, map, refl, sym, ap, ◌∙◌, subst, Option, None, Some, arith, slice_get, inl, inr}
-use Rattle.std.specs.Prelude.{IsTrue, ◌↔◌, nat_lt, nat_le}
+use Rattle.std.proofs.Common.{◌≡◌, ℕ, true, false, ◌&&◌, map, refl, sym, ap, ◌∙◌, subst, Option, None, Some, arith, slice_get, inl, inr}
+use Rattle.std.specs.Prelude.{nat_lt, nat_le}
 use Rattle.std.specs.Option.{option_map_or}
-use Rattle.std.proofs.lemmas.Bool.{false≢true, and_parts, ltb-true, not-false}
+use Rattle.std.proofs.lemmas.Bool.{ltb-true, not-false, or_cases}
 use Rattle.std.proofs.lemmas.Option.{same_Some, none-some}
-use Rattle.civl_bits.specs.Value.{same_value}
-use Rattle.civl_bits.specs.declared.value.Value.{Value}
-use Rattle.civl_firing.specs.values.Values.{HaveSorts}
 use Rattle.civl_tree.specs.declared.action.Action.{Action}
-use Rattle.civl_tree.specs.declared.program.Global.{Global}
 use Rattle.civl_tree.specs.declared.program.Refines.{Refines}
 use Rattle.civl_tree.specs.rules.Names.{action_named}
 use Rattle.civl_tree.proofs.Kept.{proc_kept}
 use Rattle.civl_firing.specs.Fired.{gate_holds}
 use Rattle.civl_firing.specs.Truth.{place_of}
-use Rattle.civl_firing.proofs.Having.{rest_sorts}
 use Rattle.civl_firing.proofs.Finding.{found_at}
 use Rattle.civl_meaning.specs.Meaning.{refined, meaning_of_action}
 use Rattle.civl_layers.specs.Ranges.{exists_in, exists_through}
 use Rattle.civl_layers.specs.Names.{action_range}
 use Rattle.civl_layers.specs.NotThere.{action_missing, refines_missing}
 use Rattle.civl_layers.specs.LayerRules.{layer_rules, not_there_rule}
-use Rattle.civl_conditions.specs.footprints.Agreement.{AgreeOn, exists_at}
+use Rattle.civl_conditions.specs.footprints.Agreement.{exists_at}
 use Rattle.civl_conditions.proofs.footprints.Acting.{acts_alike}
 use Rattle.civl_conditions.proofs.footprints.Existing.{uses_what_exists}
 use Rattle.civl_conditions.specs.paths.Choices.{action_meant}
-use Rattle.civl_conditions.specs.Values.{same_in}
 use Rattle.civl_conditions.specs.Assumed.{inputs_of}
-use Rattle.civl_reduction.proofs.permissions.Flags.{or_cases}
 use Rattle.civl_reduction.specs.staged.Chains.{GatesStay}
-
-pub same_is_equality : (v w : Value) → IsTrue (same_value v w) ↔ (v ≡ w)
-same_is_equality = search rules
-
--- lists of values of the globals' sorts that are the same on some globals
-agree_in : (test : Global → Bool) (gs : List Global) (vs ws : List Value) → HaveSorts vs (map (λ g. g.sort) gs) → HaveSorts ws (map (λ g. g.sort) gs) → same_in test gs vs ws ≡ true → AgreeOn test gs vs ws
-agree_in test [] [] [] h k e = tt
-agree_in test [] [] (w ∷ ws) h k e = absurd (false≢true k.are)
-agree_in test [] (v ∷ vs) ws h k e = absurd (false≢true h.are)
-agree_in test (g ∷ gs) [] ws h k e = absurd (false≢true h.are)
-agree_in test (g ∷ gs) (v ∷ vs) [] h k e = absurd (false≢true k.are)
-agree_in test (g ∷ gs) (v ∷ vs) (w ∷ ws) h k e =
-    let p = and_parts (not (test g) || same_value v w) (same_in test gs vs ws) e in
-    (λ t. (same_is_equality v w).0 (so (test g) t p.0), agree_in test gs vs ws (rest_sorts v g.sort vs (map (λ g. g.sort) gs) h) (rest_sorts w g.sort ws (map (λ g. g.sort) gs) k) p.1)
-  where
-    so : (b : Bool) → b ≡ true → (not b || same_value v w) ≡ true → same_value v w ≡ true
-    so true t q = q
-    so false t q = absurd (false≢true t)
+use Rattle.civl_reduction.proofs.mover_laws.Moving.{agree_in}
 
 -- an action that exists through one layer exists in it
-exists_there : (layer : ℕ) (action : Action) → action_missing layer layer (Some action) ≡ false → exists_in layer (action_range action) ≡ true
+pub exists_there : (layer : ℕ) (action : Action) → action_missing layer layer (Some action) ≡ false → exists_in layer (action_range action) ≡ true
 exists_there layer action e = elim (or_cases (nat_lt layer layer) (nat_le action.first layer && nat_le layer action.last) (not-false (exists_through layer layer (action_range action)) e)) [
   | inl q ↦ let l = ltb-true layer layer q in absurd (omega (arith, l))
   | inr q ↦ q

@@ -21,7 +21,6 @@ use Rattle.civl_meaning.specs.Change.{outs_in}
 use Rattle.civl_meaning.proofs.Rests.{spot_of_rest}
 use Rattle.civl_layers.specs.declared.cut.Cut.{Cut}
 use Rattle.civl_layers.specs.declared.cut.CutKind.{CutKind}
-use Rattle.civl_layers.specs.declared.cut.CutKind.TheVariants as kind
 use Rattle.civl_layers.specs.Cuts.{proc_cuts}
 use Rattle.civl_conditions.specs.footprints.Agreement.{AgreeOn}
 use Rattle.civl_conditions.specs.paths.NoteValues.{note_values, steady_note_values}
@@ -29,9 +28,10 @@ use Rattle.civl_conditions.specs.paths.Paths.{Progress}
 use Rattle.civl_conditions.specs.paths.Runs.{Standing, begins_by, led}
 use Rattle.civl_conditions.proofs.paths.Standing.{begins_stands}
 use Rattle.civl_layers.specs.Layered.{IsLayered}
-use Rattle.civl_conditions.specs.paths.Ends.{is_yield_cut, is_rank_loop, cut_number, ends_block}
+use Rattle.civl_conditions.specs.paths.Ends.{is_rank_loop, cut_number, ends_block}
 use Rattle.civl_conditions.specs.paths.Seen.{IsProcOf, lower_course}
 use Rattle.civl_conditions.proofs.paths.Belonging.{Belongs, own_place}
+use Rattle.civl_conditions.proofs.CutKinds.{yield_unranked}
 use Rattle.civl_conditions.specs.Values.{Begun}
 use Rattle.civl_conditions.specs.Assumed.{cut_invariant, note_holds, owned, inputs_of}
 use Rattle.civl_condition_laws.specs.States.{frame_sorts}
@@ -71,12 +71,6 @@ abbrev pub BlocksKeep : (Store → List Value → Type 0) → (Proc → List Val
 BlocksKeep stops says program layer q proc =
     (c : ℕ) (cut : Cut) (b : Begun) (end : ℕ) (p : Progress) → IsAssumed program (layer + 1) q c proc cut b → Concludes program (layer + 1) c proc cut b end p → IsTrue (ends_block proc end) → (b.done ≡ true → p.done ≡ true)
     → IsStore program.globals p.store → HaveSorts p.locals (frame_sorts proc) → stops p.store p.locals → says proc (inputs_of proc b.locals) b.old b.old_done b.old_outs → says proc (inputs_of proc b.locals) p.store p.done (outs_in proc p.locals)
-
-parts : (x : CutKind) → is_yield_cut x ≡ true → not (is_rank_loop x) ≡ true
-parts kind.Entry y = refl
-parts kind.Yield y = refl
-parts kind.YieldLoop y = refl
-parts kind.RankLoop y = absurd (false≢true y)
 
 module _ (keep : ActionsKeepPermissions) (program : Program) (layer : ℕ) (store : Store) (s : Shadowed) (t : ℕ) (f : Proc × Activation) (r : IsReached program layer store s.config)
     (thread : Running) (there : slice_get s.config.threads t ≡ Some thread) (framed : frame_of_layer program (layer + 1) thread ≡ Some f)
@@ -198,7 +192,7 @@ module _ (keep : ActionsKeepPermissions) (program : Program) (layer : ℕ) (stor
     stands = cut_there program f.1.procedure (layer + 1) f.0 of later.number later.stmt later.kind (begins_stands f.0.body later.number later.stmt later.behind later_place) later.cut
 
     ends : ends_block f.0 end ≡ true
-    ends = ap (λ (x : Option Cut). option_map_or (λ (y : Cut). not (is_rank_loop y.kind)) x true) stands ∙ parts later.kind later.yields
+    ends = ap (λ (x : Option Cut). option_map_or (λ (y : Cut). not (is_rank_loop y.kind)) x true) stands ∙ yield_unranked later.kind later.yields
 
     steady : IsSteady program (layer + 1) (owned program f.0 (cut_number f.0 n) B) p.store H.store
     steady = is_steady program (layer + 1) (owned program f.0 (cut_number f.0 n) B) p.store H.store (λ target others among of_it apart_so. concludes.keeps target others among of_it ends apart_so)

@@ -1,5 +1,5 @@
 -- A frame that waits at a yield, with what has taken effect so far: all is so there that the conditions assume.
-use Rattle.std.proofs.Common.{◌≡◌, ◌≢◌, ℕ, ◌+◌, ◌-◌, ◌≤◌, Bool, true, false, not, ◌&&◌, ◌||◌, List, ◌∷◌, ◌++◌, map, Some, slice_get, Contains, refl, sym, ap, ◌∙◌, subst, arith}
+use Rattle.std.proofs.Common.{◌≡◌, ◌≢◌, ℕ, ◌+◌, ◌-◌, ◌≤◌, Bool, true, false, not, ◌||◌, List, ◌∷◌, ◌++◌, map, Some, slice_get, Contains, refl, sym, ap, ◌∙◌, subst, arith}
 use Rattle.std.specs.Prelude.{nat_eq, nat_le}
 use Rattle.std.proofs.lemmas.Bool.{false≢true, eqb-true, leb-true, and_parts}
 use Rattle.std.proofs.lemmas.Option.{same_Some}
@@ -11,6 +11,7 @@ use Rattle.civl_tree.specs.declared.program.Proc.{Proc}
 use Rattle.civl_tree.specs.declared.program.Program.{Program}
 use Rattle.civl_tree.specs.declared.stmt.Stmt.{Stmt}
 use Rattle.civl_tree.specs.Numbering.{sizes_of, statement_at}
+use Rattle.civl_tree.proofs.Bools.{five}
 use Rattle.civl_firing.specs.declared.store.Store.{Store}
 use Rattle.civl_firing.specs.Stores.{IsStore}
 use Rattle.civl_meaning.specs.declared.config.Activation.{Activation}
@@ -96,11 +97,6 @@ pub record WaitsAtYield (program : Program) (layer : ℕ) (s : Shadowed) (t : �
   pub glide : (x : Progress) → glided (course_of program layer f.0) ((n, stmt) ∷ k) x ≡ glided (course_of program layer f.0) k x
   pub passes : (z : Progress) (x : Store) → StopsAt (course_of program layer f.0) k z x → StopsAt (course_of program layer f.0) ((n, stmt) ∷ k) z x
   pub belongs : Belongs f.0.body ((n, stmt) ∷ k)
-
-five : (a b c d e : Bool) → a ≡ true → b ≡ true → c ≡ true → d ≡ true → e ≡ true → (a && (b && (c && (d && e)))) ≡ true
-five a b c d e p q r s t =
-    ap (λ (x : Bool). x && (b && (c && (d && e)))) p
-    ∙ (ap (λ (x : Bool). x && (c && (d && e))) q ∙ (ap (λ (x : Bool). x && (d && e)) r ∙ (ap (λ (x : Bool). x && e) s ∙ t)))
 
 one_or_other : (b : Bool) → (not b || b) ≡ true
 one_or_other true = refl

@@ -37,13 +37,8 @@ use Rattle.civl_reduction.specs.staged.Opened.{BlockIsOpen, StandsThere, GoesOn,
 use Rattle.civl_reduction.proofs.staged.Opened.Concluding.{open_blocks_end}
 use Rattle.civl_reduction.proofs.staged.Opened.Round.{open_blocks_step}
 use Rattle.civl_reduction.proofs.staged.Opened.Called.{calls_open_blocks}
+use Rattle.civl_reduction.proofs.simulation.Followed.Shadows.{shadowed_more}
 use Rattle.civl_reduction.specs.staged.Inside.{Beside, StageIsBeside, StagesAreBeside}
-
--- ---- moves one behind the other
-
-shadowed_more : (program : Program) (layer : ℕ) (ms : List meaning.Move) (m : meaning.Move) (s : Shadowed) → shadowed_from program layer (ms ++ m ∷ []) s ≡ shadowed_step program layer (shadowed_from program layer ms s) m
-shadowed_more program layer [] m s = refl
-shadowed_more program layer (x ∷ ms) m s = shadowed_more program layer ms m (shadowed_step program layer s x)
 
 -- ---- inside and outside
 
@@ -57,22 +52,22 @@ inside_frame program layer (Some f) h = go (at_yield (rest_of f)) refl h
     go false e k = (f, refl, e)
 
 -- outside one a frame stands at a yield
-outside_frame : (f : Proc × Activation) → is_some (block_in (Some f)) ≡ false → at_yield (rest_of f) ≡ true
+pub outside_frame : (f : Proc × Activation) → is_some (block_in (Some f)) ≡ false → at_yield (rest_of f) ≡ true
 outside_frame f h = go (at_yield (rest_of f)) refl h
   where
     go : (b : Bool) → at_yield (rest_of f) ≡ b → is_some (if◌then◌else◌ {A = Option Rest} b None (Some (rest_of f))) ≡ false → at_yield (rest_of f) ≡ true
     go true e k = e
     go false e k = absurd (false≢true (sym k))
 
+-- where nothing is open nothing is challenged
+pub unchallenged : (program : Program) (layer : ℕ) (store : Store) {ms : List (Move Chosen)} {o : Option ℕ} {c : Config Store Running} → Staged (layer_system program layer store (challenged program layer store)) ms o c → o ≡ None → challenged program layer store (map plain_move ms) ≡ false
+unchallenged program layer store (begun h) e = h
+unchallenged program layer store (goes m d staged may step inside) e = absurd (none-some _ (sym e))
+unchallenged program layer store (ends m d staged may step inside h) e = h
+
 module _ (keep : ActionsKeepPermissions) (in_roots : SpawnsAreInRoots) (stages_are_runs : StagesAreRuns) (yields_step : YieldsStep) (program : Program) (layer : ℕ) (store : Store) (checked : IsChecked program layer store) where
   abbrev plain : Plain
   plain = program_at program layer
-
-  -- where nothing is open nothing is challenged
-  unchallenged : {ms : List (Move Chosen)} {o : Option ℕ} {c : Config Store Running} → Staged (layer_system program layer store (challenged program layer store)) ms o c → o ≡ None → challenged program layer store (map plain_move ms) ≡ false
-  unchallenged (begun h) e = h
-  unchallenged (goes m d staged may step inside) e = absurd (none-some _ (sym e))
-  unchallenged (ends m d staged may step inside h) e = h
 
   reached : {ms : List (Move Chosen)} {o : Option ℕ} {c : Config Store Running} → Staged (layer_system program layer store (challenged program layer store)) ms o c → (x : config.Config) → x ≡ plain_config c → IsReached program layer store x
   reached {ms = ms} {o = o} {c = c} staged x e =
@@ -159,7 +154,7 @@ module _ (keep : ActionsKeepPermissions) (in_roots : SpawnsAreInRoots) (stages_a
     step_leaves = by_open o refl was.beside standing may
       where
         by_open : (x : Option ℕ) → o ≡ x → Beside program layer (shadowed program layer store (map plain_move ms)) x → OneIsInside program layer c x → MayStep x m.thread → StepLeaves program layer (shadowed_step program layer (shadowed program layer store (map plain_move ms)) (plain_move m)) m.thread
-        by_open None e b n may = from_calm b n (unchallenged staged e)
+        by_open None e b n may = from_calm b n (unchallenged program layer store staged e)
         by_open (Some t) e b n may = from_open t may b.0 b.1 n
 
     -- ---- the moves with this one

@@ -40,7 +40,7 @@ use Rattle.civl_tree.proofs.Kept.{global_kept}
 use Rattle.civl_layers.specs.Cuts.{form_cut, proc_cuts}
 use Rattle.civl_conditions.specs.paths.NoteValues.{plain_note_values}
 use Rattle.civl_conditions.specs.paths.Paths.{Progress}
-use Rattle.civl_conditions.specs.paths.Runs.{layer_yields, layer_leads, yield_before}
+use Rattle.civl_conditions.specs.paths.Runs.{yield_before}
 use Rattle.civl_conditions.specs.paths.Ends.{is_rank_loop, cut_number}
 use Rattle.civl_conditions.specs.paths.Seen.{IsProcOf}
 use Rattle.civl_conditions.specs.Permissions.{in_store, held_at, of_held}
@@ -62,23 +62,13 @@ use Rattle.civl_reduction.proofs.open_blocks.Rounds.Coming.{rank_loops_come_late
 use Rattle.civl_reduction.specs.staged.Measures.{number_of, rank_at, count_of, level_of, step_base, word_base, measure, IsNear, IsNearer, HeldIsApart, OpenBlocksComeNearer}
 use Rattle.civl_reduction.proofs.staged.Measures.Numbers.{digits, word_falls}
 use Rattle.civl_reduction.proofs.staged.Measures.Ranks.{ranked_is, rank_small}
+use Rattle.civl_reduction.proofs.staged.Opened.Forms.{no_yield}
 
 -- ---- places
 
 pub none_or : (o u : Option ℕ) (n : ℕ) → o ≡ None → option_map_or (λ number. Some number) o u ≡ Some n → u ≡ Some n
 none_or None u n e f = f
 none_or (Some m) u n e f = absurd (none-some m (sym e))
-
--- before no yield
-pub no_yield : (r : Rest) → at_yield r ≡ false → yield_before r ≡ None
-no_yield [] e = refl
-no_yield (q ∷ k) e = by_form (out-Stmt q.1) e (no_yield k)
-  where
-    by_form : (d : stmt.Stmt-F Stmt) → layer_at_yield d (at_yield k) ≡ false → (at_yield k ≡ false → yield_before k ≡ None) → (if layer_yields d then Some q.0 else (if layer_leads d then yield_before k else None)) ≡ None
-    by_form (stmt.Yield i) e later = absurd (true≢false e)
-    by_form stmt.Commit e later = later e
-    by_form (stmt.Intro x v) e later = later e
-    by_form _ e later = refl
 
 abbrev found_so : ℕ → ℕ → Stmt → Rest → Spot → Type 0
 found_so end n t k s = Some (record { number = n; stmt = t; next = place_in end k }) ≡ Some s

@@ -1,9 +1,9 @@
 -- A call that makes a frame opens a block, where all is calm and nothing is challenged.
-use Rattle.std.proofs.Common.{◌≡◌, ◌≢◌, ℕ, ◌+◌, ◌-◌, ◌≤◌, Bool, true, false, not, ◌&&◌, List, [], ◌++◌, length, drop, map, get_or, Contains, Option, None, Some, slice_get, slice_set, refl, sym, ap, ◌∙◌, subst, arith}
+use Rattle.std.proofs.Common.{◌≡◌, ◌≢◌, ℕ, ◌+◌, ◌-◌, ◌≤◌, Bool, true, false, List, [], ◌++◌, length, drop, map, get_or, Contains, Option, None, Some, slice_get, slice_set, refl, sym, ap, ◌∙◌, subst, arith}
 use Rattle.std.specs.Prelude.{if◌then◌else◌}
-use Rattle.std.proofs.lemmas.Bool.{false≢true, or_parts}
+use Rattle.std.proofs.lemmas.Bool.{or_parts, not-false}
 use Rattle.std.proofs.lemmas.Option.{same_Some, none-some}
-use Rattle.std.proofs.lemmas.List.{length-append, length-map}
+use Rattle.std.proofs.lemmas.List.{length-map}
 use Rattle.civl_bits.specs.declared.value.Value.{Value}
 use Rattle.civl_firing.specs.values.Values.{HaveSorts, is_true}
 use Rattle.civl_tree.specs.declared.program.Proc.{Proc}
@@ -31,6 +31,7 @@ use Rattle.civl_firing.specs.declared.firing.Fired.{Fired}
 use Rattle.civl_firing.specs.declared.firing.Fired.TheVariants as fire
 use Rattle.civl_firing.specs.Fired.{gate_holds, choices_fit, fired}
 use Rattle.civl_firing.specs.Eval.{value_of, values_of}
+use Rattle.civl_firing.proofs.Having.{have_length}
 use Rattle.civl_tree.specs.declared.name.Name.{Name}
 use Rattle.civl_tree.specs.declared.stmt.Stmt.{Stmt, out-Stmt}
 use Rattle.civl_tree.specs.declared.stmt.Stmt.TheOpen as stmt
@@ -41,6 +42,7 @@ use Rattle.civl_meaning.specs.Step.{thread_after, state_after, enters, goes_on, 
 use Rattle.civl_meaning.specs.Failing.{IsMove}
 use Rattle.civl_meaning.specs.Layers.{program_at}
 use Rattle.civl_meaning.specs.Config.{IsStacked, StateIsStacked, AreWaiting}
+use Rattle.civl_meaning.proofs.Bindings.{frame_length}
 use Rattle.civl_soundness.proofs.Fitting.{all_at}
 use Rattle.civl_layers.specs.declared.cut.Cut.{Cut}
 use Rattle.civl_layers.specs.Cuts.{entry_cut, cuts_below}
@@ -49,10 +51,10 @@ use Rattle.civl_conditions.specs.Invariants.{invariants_hold}
 use Rattle.civl_conditions.specs.Values.{Begun}
 use Rattle.civl_conditions.specs.Variables.{passed_choices}
 use Rattle.civl_tree.specs.declared.action.Choice.{Choice}
+use Rattle.civl_tree.proofs.Bools.{five}
 use Rattle.civl_conditions.specs.Permissions.{in_store, held_at, of_held}
 use Rattle.civl_conditions.specs.Assumed.{inputs_of, owned}
 use Rattle.civl_condition_laws.specs.States.{frame_sorts, IsBegun, IsCutOf}
-use Rattle.civl_condition_laws.proofs.Gathering.{have_length}
 use Rattle.civl_condition_laws.proofs.Standing.{sorts_apart}
 use Rattle.civl_linear.specs.Cuts.{held_numbers, held_under}
 use Rattle.civl_linear.specs.Held.{entry_held}
@@ -256,29 +258,11 @@ called_so keep program layer store s m d f r e before after = by_change (change_
         spawn_none (Inside below g) h = same_frame program layer (Inside below g) g.locals place h
     by_change (change.Stays a) is x = absurd (none-some f (sym before ∙ (ap (λ (z : Stepped × Config). frame_at program (layer + 1) z.1.threads m.thread) x ∙ after)))
 
-five : (a b c d e : Bool) → a ≡ true → b ≡ true → c ≡ true → d ≡ true → e ≡ true → (a && (b && (c && (d && e)))) ≡ true
-five a b c d e p q r s t =
-    ap (λ (x : Bool). x && (b && (c && (d && e)))) p
-    ∙ (ap (λ (x : Bool). x && (c && (d && e))) q ∙ (ap (λ (x : Bool). x && (d && e)) r ∙ (ap (λ (x : Bool). x && e) s ∙ t)))
-
--- how many values a frame has
-frame_length : (proc : Proc) → length (frame_sorts proc) ≡ length proc.params + (length proc.outs + length proc.locals)
-frame_length proc =
-    length-append (map (λ p. p.sort) proc.params) (map (λ p. p.sort) proc.outs ++ map (λ l. l.sort) proc.locals)
-    ∙ (ap (λ (n : ℕ). n + length (map (λ p. p.sort) proc.outs ++ map (λ l. l.sort) proc.locals)) (length-map proc.params (λ p. p.sort))
-    ∙ ap (λ (n : ℕ). length proc.params + n)
-    (length-append (map (λ p. p.sort) proc.outs) (map (λ l. l.sort) proc.locals)
-    ∙ (ap (λ (n : ℕ). n + length (map (λ l. l.sort) proc.locals)) (length-map proc.outs (λ p. p.sort)) ∙ ap (λ (n : ℕ). length proc.outs + n) (length-map proc.locals (λ l. l.sort)))))
-
 -- the outputs among them have their sorts
 pub outs_sorted : (proc : Proc) (locals : List Value) → HaveSorts locals (frame_sorts proc) → HaveSorts (outs_in proc locals) (map (λ p. p.sort) proc.outs)
 outs_sorted proc locals h =
     let behind = (sorts_apart (map (λ p. p.sort) proc.params) (map (λ p. p.sort) proc.outs ++ map (λ l. l.sort) proc.locals) locals (length proc.params) (length-map proc.params (λ p. p.sort)) h).1 in
     (sorts_apart (map (λ p. p.sort) proc.outs) (map (λ l. l.sort) proc.locals) (drop (length proc.params) locals) (length proc.outs) (length-map proc.outs (λ p. p.sort)) behind).0
-
-unrefused : (b : Bool) → not b ≡ false → b ≡ true
-unrefused true e = refl
-unrefused false e = absurd (false≢true (sym e))
 
 module _ (keep : ActionsKeepPermissions) (program : Program) (layer : ℕ) (store : Store) (s : Shadowed) (m : Move) (d : Config) (f : Proc × Activation) (r : IsReached program layer store s.config) (mv : IsMove m) (e : step_of (program_at program layer) s.config m ≡ (answer.Moved, d))
     (calm : AllIsCalm program layer s) (unchallenged : is_challenged program layer s ≡ false) (before : frame_at program (layer + 1) s.config.threads m.thread ≡ None) (after : frame_at program (layer + 1) d.threads m.thread ≡ Some f) where
@@ -348,7 +332,7 @@ module _ (keep : ActionsKeepPermissions) (program : Program) (layer : ℕ) (stor
       let all = not_challenged program layer (seen program layer s) s.shadow.done s.config.threads m.thread k.thread unchallenged k.there in
       let one = (or_parts (call_challenged program (layer + 1) (seen program layer s) (doing (program_at program layer) k.thread)) _ all).0 in
       let two = sym (ap (call_challenged program (layer + 1) (seen program layer s)) k.calls) ∙ one in
-      unrefused (allows program (seen program layer s) f.0 f.1.locals) (sym (ap (refuses program (seen program layer s)) (framed_there program (layer + 1) f.1 f.0 top.of)) ∙ two)
+      not-false (allows program (seen program layer s) f.0 f.1.locals) (sym (ap (refuses program (seen program layer s)) (framed_there program (layer + 1) f.1 f.0 top.of)) ∙ two)
 
   -- what is held at the entry the thread owns behind the call
   held_owned : (p : ℕ) → carriers p (of_held (held_at program f.0 0) f.1.locals) ≤ owns program k.new k.new.state p

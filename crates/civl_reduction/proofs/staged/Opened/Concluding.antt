@@ -2,7 +2,7 @@
 use Rattle.std.proofs.Common.{◌≡◌, ◌≢◌, ℕ, ◌+◌, Bool, true, not, List, [], Option, None, Some, refl, sym, ap, ◌∙◌, subst, inl, inr, ◌⊎◌}
 use Rattle.std.specs.Prelude.{IsTrue, if◌then◌else◌}
 use Rattle.std.specs.Option.{option_map_or}
-use Rattle.std.proofs.lemmas.Bool.{false≢true, and_parts}
+use Rattle.std.proofs.lemmas.Bool.{and_parts}
 use Rattle.std.proofs.lemmas.Option.{same_Some}
 use Rattle.civl_bits.specs.declared.value.Value.{Value}
 use Rattle.civl_firing.specs.values.Values.{HaveSorts}
@@ -12,18 +12,17 @@ use Rattle.civl_firing.specs.declared.store.Store.{Store}
 use Rattle.civl_meaning.specs.declared.config.Activation.{Activation}
 use Rattle.civl_meaning.specs.Permissions.{pairwise_disjoint}
 use Rattle.civl_layers.specs.declared.cut.Cut.{Cut}
-use Rattle.civl_layers.specs.declared.cut.CutKind.{CutKind}
-use Rattle.civl_layers.specs.declared.cut.CutKind.TheVariants as kind
 use Rattle.civl_conditions.specs.paths.Seen.{lower_course}
 use Rattle.civl_firing.specs.declared.scope.Scope.{Scope}
 use Rattle.civl_meaning.specs.Rest.{rest_at}
 use Rattle.civl_conditions.specs.paths.NoteValues.{note_values, steady_note_values}
-use Rattle.civl_conditions.specs.paths.Ends.{is_rank_loop, is_yield_cut, ends_block}
+use Rattle.civl_conditions.specs.paths.Ends.{is_rank_loop, ends_block}
 use Rattle.civl_conditions.specs.Values.{Begun}
 use Rattle.civl_conditions.specs.Invariants.{invariants_hold}
 use Rattle.civl_conditions.specs.Assumed.{cut_invariant, note_holds, owned, assumed}
 use Rattle.civl_conditions.specs.Parts.{end_values}
 use Rattle.civl_conditions.specs.Targets.{yield_holds}
+use Rattle.civl_conditions.proofs.CutKinds.{yield_unranked}
 use Rattle.civl_condition_laws.specs.States.{frame_sorts}
 use Rattle.civl_reduction.specs.checked.Checked.{IsChecked, ActionsKeepPermissions}
 use Rattle.civl_reduction.specs.open_blocks.Ends.{Concludes}
@@ -90,15 +89,9 @@ module _ (keep : ActionsKeepPermissions) (program : Program) (layer : ℕ) (stor
 
   -- ---- at a yield
 
-  parts : (k : CutKind) → is_yield_cut k ≡ true → not (is_rank_loop k) ≡ true
-  parts kind.Entry y = refl
-  parts kind.Yield y = refl
-  parts kind.YieldLoop y = refl
-  parts kind.RankLoop y = absurd (false≢true y)
-
   module _ (there : StandsThere o) (y : ℕ) (cut : Cut) (stands : StandsAt program (layer + 1) o.f y cut) where
     ends : ends_block o.f.0 y ≡ true
-    ends = ap (λ (p : Option Cut). option_map_or (λ (k : Cut). not (is_rank_loop k.kind)) p true) stands.at.there ∙ parts cut.kind stands.yields
+    ends = ap (λ (p : Option Cut). option_map_or (λ (k : Cut). not (is_rank_loop k.kind)) p true) stands.at.there ∙ yield_unranked cut.kind stands.yields
 
     ahead : cut_ahead o.f.0.body o.here.place ≡ Some cut.statement
     ahead = subst (λ (p : ℕ). cut_ahead o.f.0.body p ≡ Some cut.statement) (sym there) (yield_ahead o.f.0.body o.f.1.place cut.statement stands.stmt stands.behind cut.kind stands.here stands.kind stands.yields)

@@ -1,7 +1,7 @@
 -- What the statements of a procedure of a layer do in the program of the layer below: they run no bodies and spawn nothing.
 use Rattle.std.proofs.Common.{◌≡◌, ℕ, suc, ◌+◌, ◌-◌, Bool, true, false, List, [], ◌∷◌, length, Option, None, Some, slice_get, refl, sym, ap, ◌∙◌, subst, arith}
 use Rattle.std.specs.Prelude.{if◌then◌else◌}
-use Rattle.std.proofs.lemmas.Bool.{false≢true, eq-eqb}
+use Rattle.std.proofs.lemmas.Bool.{false≢true}
 use Rattle.std.proofs.lemmas.Option.{same_Some, none-some}
 use Rattle.civl_bits.specs.declared.value.Value.{Value}
 use Rattle.civl_firing.specs.values.Values.{is_true}
@@ -29,18 +29,17 @@ use Rattle.civl_meaning.specs.Meaning.{Meaning, Does, Runs, Missing, called}
 use Rattle.civl_meaning.specs.Layers.{program_at}
 use Rattle.civl_meaning.specs.Change.{acted, layer_change, call_change, returned, returned_in, returned_at}
 use Rattle.civl_meaning.specs.Config.{IsBodyOf, LayerCalls, SpotCalls, ProcCalls, Waits, AreWaiting}
+use Rattle.civl_meaning.proofs.Safe.{bad_choices}
 use Rattle.civl_layers.specs.Layered.{IsLayered}
 use Rattle.civl_conditions.specs.paths.Seen.{IsProcOf}
 use Rattle.civl_conditions.specs.paths.Runs.{layer_yields, layer_leads, yield_before}
-use Rattle.civl_conditions.specs.Steps.{refines_at, has_layer}
+use Rattle.civl_conditions.specs.Steps.{has_layer}
+use Rattle.civl_conditions.proofs.Layered.{has_its_layer}
 use Rattle.civl_reduction.specs.permissions.Apart.{SpawnsStandInRoots}
 use Rattle.civl_reduction.specs.blocks.Blocks.{layer_at_yield, at_yield, framed_in}
 use Rattle.civl_reduction.proofs.blocks.Standing.Threads.{calls_run_no_bodies}
 use Rattle.civl_reduction.proofs.open_blocks.Open.Going.{spot_stands}
 use Rattle.civl_reduction.proofs.staged.Pausing.Holding.{Skips, stays, passes}
-
-pub has_its_layer : (program : Program) (number step : ℕ) (proc : Proc) → IsProcOf program number step proc → has_layer step proc ≡ true
-has_its_layer program number step proc of = ap (refines_at step) of.refined ∙ eq-eqb of.refines.layer step of.layered
 
 -- ---- what statements do
 
@@ -59,9 +58,6 @@ failing_not e = cc
 blocked_not : answer.Blocked ≡ answer.Moved → ⊥
 blocked_not e = cc
 
-choices_not : answer.BadChoices ≡ answer.Moved → ⊥
-choices_not e = cc
-
 module _ (program : Program) (layer : ℕ) (layered : IsLayered program) (roots : SpawnsStandInRoots program) (number : ℕ) (proc : Proc) (of : IsProcOf program number (layer + 1) proc) where
   abbrev plain : Plain
   plain = program_at program layer
@@ -74,7 +70,7 @@ module _ (program : Program) (layer : ℕ) (layered : IsLayered program) (roots 
   by_action true true fire.GateFalse ns ls rs next = failing_not
   by_action true true fire.Blocked ns ls rs next = blocked_not
   by_action true true (fire.Moved g outs) ns ls rs next = tt
-  by_action true false x ns ls rs next = choices_not
+  by_action true false x ns ls rs next = bad_choices
   by_action false c x ns ls rs next = failing_not
 
   by_call : (g : Store) (values : List Value) (ns : List Name) (ls : List Value) (rs : List Name) (at next : ℕ) (f : Name) (vs : List Value) → ((n : ℕ) (body : Proc) → called (program_at program layer) f ≡ Runs n body → ⊥) → (m : Meaning) → called (program_at program layer) f ≡ m

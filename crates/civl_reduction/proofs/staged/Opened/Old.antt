@@ -1,7 +1,7 @@
 -- An open block goes on: behind a step of its frame the path's state is the frame's, in the store with the shadow's values.
-use Rattle.std.proofs.Common.{◌≡◌, ℕ, zero, suc, ◌+◌, Bool, true, false, not, List, [], ◌∷◌, map, Option, None, Some, slice_get, slice_set, refl, sym, ap, ◌∙◌, subst, arith, Contains, nat_eq}
+use Rattle.std.proofs.Common.{◌≡◌, ℕ, ◌+◌, Bool, true, false, not, List, [], ◌∷◌, map, Option, None, Some, slice_get, refl, sym, ap, ◌∙◌, subst, arith, Contains, nat_eq}
 use Rattle.std.specs.Prelude.{if◌then◌else◌}
-use Rattle.std.proofs.lemmas.Bool.{false≢true, true≢false}
+use Rattle.std.proofs.lemmas.Bool.{false≢true}
 use Rattle.std.proofs.lemmas.Option.{same_Some, none-some}
 use Rattle.civl_bits.specs.declared.value.Value.{Value}
 use Rattle.civl_firing.specs.values.Values.{HaveSorts}
@@ -29,7 +29,7 @@ use Rattle.civl_conditions.specs.footprints.Agreement.{AgreeOn}
 use Rattle.civl_conditions.specs.paths.Paths.{Progress, committed, introduced}
 use Rattle.civl_conditions.specs.paths.Runs.{layer_led, led}
 use Rattle.civl_conditions.specs.paths.Seen.{IsProcOf, lower_course}
-use Rattle.civl_reduction.proofs.open_blocks.Following.Leading.{led_keeps}
+use Rattle.civl_reduction.proofs.open_blocks.Following.Leading.{led_keeps, set_unseen}
 use Rattle.civl_reduction.specs.blocks.Shadow.{merged_values, merged}
 
 -- ---- what isn't introduced stays
@@ -37,12 +37,6 @@ use Rattle.civl_reduction.specs.blocks.Shadow.{merged_values, merged}
 -- the globals that the step doesn't introduce
 abbrev pub is_old : ℕ → Global → Bool
 is_old step g = not (nat_eq g.first step)
-
-set_unseen : (test : Global → Bool) (gs : List Global) (vs ws : List Value) (i : ℕ) (x : Value) → ((g : Global) → slice_get gs i ≡ Some g → test g ≡ false) → AgreeOn test gs vs ws → AgreeOn test gs (slice_set vs i x) ws
-set_unseen test [] [] [] i x h a = tt
-set_unseen test (g ∷ gs) (v ∷ vs) (w ∷ ws) zero x h a = (λ f. absurd (true≢false (sym f ∙ h g refl)), a.1)
-set_unseen test (g ∷ gs) (v ∷ vs) (w ∷ ws) (suc i) x h a = (a.0, set_unseen test gs vs ws i x h a.1)
-set_unseen test _ _ _ i x h a = absurd a
 
 -- with its own values a list that agrees on what is old is itself
 merge_back : (step : ℕ) (gs : List Global) (vs ls : List Value) → AgreeOn (is_old step) gs ls vs → merged_values step gs vs ls ≡ ls

@@ -33,7 +33,7 @@ use Rattle.civl_conditions.specs.paths.Seen.{IsProcOf}
 use Rattle.civl_conditions.specs.Values.{Begun}
 use Rattle.civl_reduction.specs.checked.Checked.{ActionsKeepPermissions, SpawnsAreInRoots}
 use Rattle.civl_reduction.specs.blocks.Blocks.{framed_in, frame_of_layer}
-use Rattle.civl_reduction.specs.open_blocks.Following.{layer_head, head_there, cut_ahead, led_here, frame_does}
+use Rattle.civl_reduction.specs.open_blocks.Following.{cut_ahead, led_here, frame_does}
 use Rattle.civl_reduction.specs.open_blocks.Open.{IsTopmost, IsOpen, StepStaysOpen, choosing}
 use Rattle.civl_reduction.proofs.open_blocks.Open.Going.{thread_does, open_blocks_go_on}
 use Rattle.civl_reduction.specs.blocks.Cuts.{frame_in, frame_at}
@@ -49,6 +49,7 @@ use Rattle.civl_layers.specs.Names.{action_range}
 use Rattle.civl_tree.specs.declared.action.Action.{Action}
 use Rattle.civl_conditions.specs.Permissions.{held_at, of_held}
 use Rattle.civl_conditions.specs.Assumed.{owned}
+use Rattle.civl_conditions.proofs.Layered.{has_its_layer}
 use Rattle.civl_reduction.proofs.permissions.Staying.{IsKept}
 use Rattle.civl_reduction.proofs.blocks.Merged.Merging.{actions_act_as_there}
 use Rattle.civl_reduction.proofs.staged.Calm.Stepping.{Fires, acts_so}
@@ -57,7 +58,7 @@ use Rattle.civl_reduction.proofs.staged.Opened.Beginning.{BegunSo, BeganSo, Leav
 use Rattle.civl_reduction.proofs.staged.Opened.Noting.{bare}
 use Rattle.civl_reduction.proofs.staged.Opened.Concluding.{sound}
 use Rattle.civl_reduction.proofs.staged.Opened.Next.{leaves_open}
-use Rattle.civl_reduction.proofs.staged.Opened.Forms.{has_its_layer, IsOwn, own_step}
+use Rattle.civl_reduction.proofs.staged.Opened.Forms.{IsOwn, own_step}
 
 -- ---- lists and threads
 

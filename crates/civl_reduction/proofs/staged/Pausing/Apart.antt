@@ -1,9 +1,9 @@
 -- In a configuration that is reached what is held at the yield of one thread is apart from what another owns.
-use Rattle.std.proofs.Common.{◌≡◌, ◌≢◌, ℕ, zero, suc, ◌+◌, ◌≤◌, true, List, [], ◌∷◌, ◌++◌, refl, sym, ap, ◌∙◌, subst, arith, Option, Some, slice_get}
+use Rattle.std.proofs.Common.{◌≡◌, ◌≢◌, ℕ, ◌+◌, ◌≤◌, true, List, ◌++◌, sym, ap, ◌∙◌, subst, arith, Option, Some, slice_get}
 use Rattle.std.specs.Prelude.{flat_map, length, All}
 use Rattle.civl_tree.specs.Numbering.{sizes_of}
 use Rattle.civl_tree.specs.rules.Names.{names_in_proc}
-use Rattle.std.proofs.lemmas.Option.{same_Some, none-some}
+use Rattle.std.proofs.lemmas.Option.{same_Some}
 use Rattle.civl_tree.specs.declared.action.Action.{Action}
 use Rattle.civl_tree.specs.declared.program.Proc.{Proc}
 use Rattle.civl_tree.specs.declared.program.Program.{Program}
@@ -34,9 +34,9 @@ use Rattle.civl_reduction.specs.permissions.Stay.{KeepsPermissions}
 use Rattle.civl_reduction.proofs.permissions.Counting.{carriers, carriers_joined, counts_of, disjoint_by}
 use Rattle.civl_reduction.proofs.permissions.Changing.{Meant, owns}
 use Rattle.civl_reduction.proofs.permissions.Threads.{locals_count}
-use Rattle.civl_reduction.proofs.permissions.Staying.{IsKept, all_own, one_own, run_kept}
+use Rattle.civl_reduction.proofs.permissions.Staying.{IsKept, run_kept}
 use Rattle.civl_reduction.proofs.permissions.Reaching.{are_writable, meant_begins, start_kept}
-use Rattle.civl_reduction.proofs.permissions.Calls.{before_owns}
+use Rattle.civl_reduction.proofs.permissions.Calls.{before_owns, two_own}
 use Rattle.civl_reduction.specs.checked.Checked.{IsChecked, ActionsKeepPermissions}
 use Rattle.civl_reduction.specs.blocks.Blocks.{frame_of_layer, rest_of}
 use Rattle.civl_reduction.specs.staged.Pausing.{StandsAt, PausesAreApart}
@@ -44,25 +44,6 @@ use Rattle.civl_reduction.proofs.staged.Pausing.Cutting.{topmost}
 use Rattle.civl_reduction.proofs.staged.Pausing.Holding.{Skips, settled_skips, cut_owned}
 
 -- ---- two threads
-
--- what two threads own
-pub two_own : (program : Program) (threads : List Running) (t u : ℕ) (one other : Running) → t ≢ u → slice_get threads t ≡ Some one → slice_get threads u ≡ Some other → (p : ℕ) → owns program one one.state p + owns program other other.state p ≤ all_own program threads p
-two_own program [] t u one other n e f p = absurd (none-some one e)
-two_own program (r ∷ rs) zero zero one other n e f p = absurd (n refl)
-two_own program (r ∷ rs) zero (suc u) one other n e f p =
-    let joined = carriers_joined p (owned program r) (flat_map (owned program) rs) in
-    let is : carriers p (owned program r) ≡ carriers p (owned program one) = ap (λ (x : Running). carriers p (owned program x)) (same_Some r one e) in
-    let rest = one_own program rs u other f p in
-    omega (arith, joined, is, rest)
-two_own program (r ∷ rs) (suc t) zero one other n e f p =
-    let joined = carriers_joined p (owned program r) (flat_map (owned program) rs) in
-    let is : carriers p (owned program r) ≡ carriers p (owned program other) = ap (λ (x : Running). carriers p (owned program x)) (same_Some r other f) in
-    let rest = one_own program rs t one e p in
-    omega (arith, joined, is, rest)
-two_own program (r ∷ rs) (suc t) (suc u) one other n e f p =
-    let joined = carriers_joined p (owned program r) (flat_map (owned program) rs) in
-    let rest = two_own program rs t u one other (λ q. n (ap suc q)) e f p in
-    omega (arith, joined, rest)
 
 -- what owns no more than a thread does and what owns no more than another, with the linear globals
 pub apart_of_two : (program : Program) (layer : ℕ) (config : Config) → IsKept (program_at program layer) config → (t u : ℕ) (one other : Running) → t ≢ u → slice_get config.threads t ≡ Some one → slice_get config.threads u ≡ Some other

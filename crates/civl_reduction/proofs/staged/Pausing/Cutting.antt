@@ -1,6 +1,6 @@
 -- A frame that stands at a yield stands at the cut of its number.
 use Rattle.std.proofs.Common.{ℕ, zero, suc, ◌+◌, ◌≡◌, Bool, true, false, if◌then◌else◌, List, [], ◌∷◌, ◌++◌, length, take, Some, None, Option, slice_get, sym, refl, ap, ◌∙◌, subst, arith}
-use Rattle.std.proofs.lemmas.Bool.{false≢true, eqb-true}
+use Rattle.std.proofs.lemmas.Bool.{false≢true}
 use Rattle.std.proofs.lemmas.Option.{same_Some, none-some}
 use Rattle.civl_tree.specs.declared.stmt.Stmt.{Stmt, out-Stmt}
 use Rattle.civl_tree.specs.declared.stmt.Stmt.TheOpen as stmt
@@ -18,7 +18,8 @@ use Rattle.civl_layers.specs.Cuts.{form_cut, cut_kind, cut_at, cuts_among, proc_
 use Rattle.civl_conditions.specs.paths.Ends.{is_yield_cut, cut_number}
 use Rattle.civl_conditions.specs.paths.Seen.{IsProcOf}
 use Rattle.civl_conditions.proofs.paths.Each.{EachIn, each_own, rest_each}
-use Rattle.civl_conditions.specs.Steps.{refines_at, has_layer}
+use Rattle.civl_conditions.proofs.Layered.{of_layer}
+use Rattle.civl_conditions.specs.Steps.{has_layer}
 use Rattle.civl_reduction.specs.blocks.Blocks.{layer_at_yield, at_yield, framed_in, framed_state, rest_of}
 use Rattle.civl_reduction.specs.blocks.Cuts.{settled_layer, settled}
 use Rattle.civl_reduction.specs.staged.Pausing.{StandsAt, FramesStandAtCuts}
@@ -104,13 +105,6 @@ settled_each Holds (q ∷ k) h = by_layer (out-Stmt q.1) (settled_each Holds k h
     by_layer _ ih = h
 
 -- ---- a thread's frame
-
-of_layer : (program : Program) (number step : ℕ) (proc : Proc) → slice_get program.procs number ≡ Some proc → has_layer step proc ≡ true → IsProcOf program number step proc
-of_layer program number step proc at = by_refines proc.refines refl
-  where
-    by_refines : (o : Option Refines) → proc.refines ≡ o → refines_at step o ≡ true → IsProcOf program number step proc
-    by_refines None e h = absurd (false≢true h)
-    by_refines (Some r) e h = record { there = at; refines = r; refined = e; layered = eqb-true r.layer step h }
 
 -- the frame of a procedure of a layer, as the topmost of its thread
 pub record Topmost (program : Program) (step : ℕ) (state : State) (f : Proc × Activation) : Type 0 where

@@ -3,8 +3,9 @@ use Rattle.std.proofs.Common.{◌≡◌, ◌∙◌, ◌<◌, List, sym, ap, subs
 use Rattle.std.proofs.lemmas.Option.{slice_get_within}
 use Rattle.civl_tree.specs.declared.action.Action.{Action}
 use Rattle.civl_firing.specs.Truth.{place_of}
+use Rattle.civl_body.proofs.Calling.{few_actions}
 use Rattle.civl_refine.specs.Assuming.{IsRefined}
-use Rattle.civl_refine.proofs.Cutting.{is_refined, actions_few}
+use Rattle.civl_refine.proofs.Cutting.{is_refined}
 use Rattle.civl_refine.proofs.finding.refined_number.Goals as goal
 
 pub overflow_cast-result : goal.overflow_cast-result
@@ -13,7 +14,7 @@ overflow_cast-result c =
     let r = is_refined p c.requires.layered c.args.proc.now c.requires.proc c.in-Some.refines c.in-Some.is in
     let same : c.action.result ≡ place_of (map (λ a. a.name) p.actions) c.in-Some.refines.action = c.action.ensures ∙ ap (λ (xs : List Action). place_of (map (λ a. a.name) xs) c.in-Some.refines.action) c.as_slice.ensures in
     let within : place_of (map (λ a. a.name) p.actions) c.in-Some.refines.action < length p.actions = slice_get_within p.actions _ r.action r.is in
-    omega (arith, same, within, actions_few p c.requires.layered)
+    omega (arith, same, within, few_actions p c.requires.layered)
 
 pub returns : goal.returns
 returns c =

@@ -1,6 +1,6 @@
 use Rattle.civl_tree.specs.declared.expr.Sort.TheVariants.{Bool as Truth}
 use Rattle.civl_actions.proofs.Staying.{sorted_within}
-use Rattle.civl_refine.proofs.Assuming.{implied_test}
+use Rattle.civl_moves.proofs.States.{implied_test}
 use Rattle.civl_refine.proofs.gates.implied.Goals as goal
 
 pub two-requires-clause-a : goal.two-requires-clause-a

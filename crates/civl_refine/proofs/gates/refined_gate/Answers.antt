@@ -8,7 +8,8 @@ use Rattle.civl_actions.specs.Scopes.{AreOf}
 use Rattle.civl_conditions.specs.Assumed.{inputs_of}
 use Rattle.civl_states.specs.formula_parts.Said.{Env}
 use Rattle.civl_states.specs.formula_parts.Lists.{AreSaid}
-use Rattle.civl_refine.proofs.Assuming.{inputs_sorted, inputs_said, frame_long, same_some}
+use Rattle.civl_states.proofs.Picking.{same_some}
+use Rattle.civl_refine.proofs.Assuming.{inputs_sorted, inputs_said, frame_long}
 use Rattle.civl_refine.proofs.gates.refined_gate.Goals as goal
 
 pub input_ids-requires : goal.input_ids-requires

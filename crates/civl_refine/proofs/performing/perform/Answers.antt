@@ -15,7 +15,8 @@ use Rattle.civl_states.specs.formula_parts.Lists.{AreSaid}
 use Rattle.civl_states.proofs.formula_parts.Saying.{sort_stays, test_stays}
 use Rattle.civl_states.proofs.formula_parts.Listing.{sorts_stay, said_stay}
 use Rattle.civl_states.proofs.Runs.{of_some, if_some}
-use Rattle.civl_refine.proofs.Assuming.{inputs_sorted, inputs_said, frame_long, same_some}
+use Rattle.civl_states.proofs.Picking.{same_some}
+use Rattle.civl_refine.proofs.Assuming.{inputs_sorted, inputs_said, frame_long}
 use Rattle.civl_refine.proofs.Doing.{guard_said, store_said, outs_change}
 use Rattle.civl_refine.proofs.performing.perform.Goals as goal
 

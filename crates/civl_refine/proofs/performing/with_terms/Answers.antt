@@ -15,8 +15,8 @@ use Rattle.civl_conditions.specs.Weights.{note_weight}
 use Rattle.civl_states.specs.formula_parts.Said.{Env}
 use Rattle.civl_states.specs.formula_parts.Lists.{AreSaid}
 use Rattle.civl_states.proofs.formula_parts.Listing.{sorts_stay, said_stay}
+use Rattle.civl_states.proofs.Picking.{same_some}
 use Rattle.civl_meaning.specs.Config.{choice_sorts}
-use Rattle.civl_refine.proofs.Assuming.{same_some}
 use Rattle.civl_refine.proofs.Withs.{with_at, with_long, sorted_next, said_next, weigh_next, whole}
 use Rattle.civl_refine.proofs.performing.with_terms.Goals as goal
 

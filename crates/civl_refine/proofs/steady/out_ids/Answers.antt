@@ -1,6 +1,6 @@
 use Rattle.std.specs.Prelude.{List, ℕ, take, drop, length}
 use Rattle.std.proofs.Common.{◌∙◌, ◌-◌, ap, ap₂}
-use Rattle.civl_refine.proofs.Judging.{part_to}
+use Rattle.civl_tree.proofs.Parts.{part_to}
 use Rattle.civl_refine.proofs.steady.out_ids.Goals as goal
 
 pub returns : goal.returns

@@ -1,5 +1,6 @@
 use Rattle.std.specs.Prelude.{length, map, List, [], if◌then◌else◌}
 use Rattle.std.proofs.Common.{◌∙◌, ℕ, ◌+◌, ◌*◌, ◌≤◌, sym, ap, subst, arith}
+use Rattle.std.proofs.lemmas.List.{append-nil}
 use Rattle.civl_terms.proofs.Growing.{lengthens_trans, lengthened}
 use Rattle.civl_terms.specs.Weights.{graph_weight}
 use Rattle.civl_conditions.specs.paths.Ends.{is_rank_loop}
@@ -15,12 +16,12 @@ use Rattle.civl_states.proofs.Limits.{AreSorts}
 use Rattle.civl_refine.specs.Walked.{sorts_from, outcome_from}
 use Rattle.civl_refine.proofs.Begun.{begins_at}
 use Rattle.civl_refine.proofs.Cutting.{refines_some, some_is}
-use Rattle.civl_refine.proofs.Placing.{paths_long, paths_are, rank_some, append_end}
+use Rattle.civl_refine.proofs.Placing.{paths_long, paths_are, rank_some}
 use Rattle.civl_refine.proofs.Violating.{arrives_among, weighs_path}
 use Rattle.civl_refine.proofs.violations.path_at.Goals as goal
 
 pub walk_from-requires-clause-stand : goal.walk_from-requires-clause-stand
-walk_from-requires-clause-stand c = stand_first c.args.sorts.now (sorts_from c.args.start.now) [] (c.requires.sorts ∙ sym (append_end (sorts_from c.args.start.now)))
+walk_from-requires-clause-stand c = stand_first c.args.sorts.now (sorts_from c.args.start.now) [] (c.requires.sorts ∙ sym (append-nil (sorts_from c.args.start.now)))
 
 pub walk_from-requires-clause-limits : goal.walk_from-requires-clause-limits
 walk_from-requires-clause-limits c =

@@ -1,4 +1,5 @@
 use Rattle.std.proofs.Common.{◌∙◌, arith}
+use Rattle.civl_tree.proofs.Pairs.{contains_at}
 use Rattle.civl_terms.proofs.Growing.{lengthens_trans, lengthened}
 use Rattle.civl_layers.specs.Cuts.{proc_cuts}
 use Rattle.civl_conditions.specs.Values.{Begun, begun}
@@ -6,14 +7,14 @@ use Rattle.civl_states.specs.formula_parts.Said.{Env}
 use Rattle.civl_states.specs.formula_parts.Given.{given}
 use Rattle.civl_states.proofs.formula_parts.Giving.{variables_kept}
 use Rattle.civl_refine.proofs.Assuming.{begin_stays, begun_stays}
-use Rattle.civl_refine.proofs.Cutting.{cut_among, statements_few, refines_some}
+use Rattle.civl_refine.proofs.Cutting.{statements_few, refines_some}
 use Rattle.civl_refine.proofs.walking.walk_from.Goals as goal
 
 pub walk-requires-clause-cuts : goal.walk-requires-clause-cuts
 walk-requires-clause-cuts c = c.as_slice-cuts.ensures ∙ c.requires.body.cuts
 
 pub walk-requires-clause-there : goal.walk-requires-clause-there
-walk-requires-clause-there c = cut_among (proc_cuts c.args.start.now.proc.now) c.args.start.now.number c.args.start.now.cut c.requires.there
+walk-requires-clause-there c = contains_at (proc_cuts c.args.start.now.proc.now) c.args.start.now.number c.args.start.now.cut c.requires.there
 
 pub walk-requires-clause-refines : goal.walk-requires-clause-refines
 walk-requires-clause-refines c = refines_some c.args.start.now.program.now c.args.start.now.proc.now c.args.start.now.refined c.requires.start.refined

@@ -7,7 +7,7 @@ use Rattle.civl_tree.specs.declared.stmt.Stmt.{Stmt}
 use Rattle.civl_tree.specs.Numbering.{size_of, numbered}
 use Rattle.civl_meaning.specs.Rest.{Rest, rest_among, rest_inside}
 use Rattle.civl_shadows.specs.Rests.{rest_of}
-use Rattle.civl_shadows.proofs.Resting.{here_left, within_left, past_left, left_none}
+use Rattle.civl_meaning.proofs.Left.{here_left, within_left, past_left, left_none}
 use Rattle.civl_shadows.proofs.rests.+rest.Goals as goal
 
 pub push_among-returns-then-wanted-here : goal.push_among-returns-then-wanted-here

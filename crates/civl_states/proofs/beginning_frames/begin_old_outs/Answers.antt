@@ -3,13 +3,14 @@ use Rattle.std.proofs.Common.{◌≡◌, ◌∙◌, ◌-◌, sym, ap, ap₂, sub
 use Rattle.std.proofs.lemmas.List.{length-map}
 use Rattle.civl_tree.specs.declared.expr.Sort.{Sort}
 use Rattle.civl_tree.specs.rules.Uses.{param_sorts}
+use Rattle.civl_tree.proofs.Parts.{part_to}
 use Rattle.civl_conditions.specs.paths.Ends.{is_rank_loop}
 use Rattle.civl_meaning.specs.Change.{outs_in}
 use Rattle.civl_states.specs.formula_parts.Lists.{AreSaid}
 use Rattle.civl_states.specs.formula_parts.Given.{given, bits_of_sorts}
 use Rattle.civl_states.specs.Laying.{begun_locals, sorts_where}
 use Rattle.civl_states.proofs.Given.{stand_within, stand_counted}
-use Rattle.civl_states.proofs.Laying.{where_there, said_then, said_else, outs_said, part_to}
+use Rattle.civl_states.proofs.Laying.{where_there, said_then, said_else, outs_said}
 use Rattle.civl_states.proofs.beginning_frames.begin_old_outs.Goals as goal
 
 pub variables-requires-clause-within : goal.variables-requires-clause-within

@@ -3,7 +3,8 @@ use Rattle.civl_tree.specs.declared.program.Program.{Program}
 use Rattle.civl_tree.specs.rules.Rules.{Keeps}
 use Rattle.civl_tree.specs.rules.Typing.{typing_rules}
 use Rattle.civl_states.specs.Stores.{global_sorts}
-use Rattle.civl_maker.proofs.Making.{no_variables, initial_made}
+use Rattle.civl_states.proofs.formula_parts.Giving.{no_variables}
+use Rattle.civl_maker.proofs.Making.{initial_made}
 use Rattle.civl_maker.proofs.maker.MakerMakes.initial.Goals as goal
 
 pub initial-requires : goal.initial-requires

@@ -2,7 +2,8 @@ use Rattle.std.proofs.Common.{subst}
 use Rattle.civl_tree.specs.declared.program.Program.{Program}
 use Rattle.civl_tree.specs.rules.Rules.{Keeps}
 use Rattle.civl_tree.specs.rules.Typing.{typing_rules}
-use Rattle.civl_maker.proofs.Making.{no_variables, violation_made}
+use Rattle.civl_states.proofs.formula_parts.Giving.{no_variables}
+use Rattle.civl_maker.proofs.Making.{violation_made}
 use Rattle.civl_maker.proofs.maker.MakerMakes.violation.Goals as goal
 
 pub violation-requires-clause-variables : goal.violation-requires-clause-variables

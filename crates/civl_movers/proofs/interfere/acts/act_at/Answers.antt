@@ -9,8 +9,9 @@ use Rattle.civl_states.specs.formula_parts.Said.{Env, AreTests, all_true}
 use Rattle.civl_states.proofs.formula_parts.Saying.{sort_stays, test_stays, test_as, IsBool}
 use Rattle.civl_states.specs.Items.{comes_in}
 use Rattle.civl_states.specs.Stores.{AreStore}
-use Rattle.civl_movers.proofs.interfere.Telling.{five_bools, act_is}
+use Rattle.civl_movers.proofs.interfere.Telling.{act_is}
 use Rattle.civl_movers.proofs.interfere.acts.act_at.Goals as goal
+use Rattle.civl_movers.proofs.Alike.{five_bools}
 
 pub returns-in_err-lost-clause-grows : goal.returns-in_err-lost-clause-grows
 returns-in_err-lost-clause-grows c = grows_trans _ _ _ c.in_ok-acting.ensures.grows c.in_err-lost.ensures.grows

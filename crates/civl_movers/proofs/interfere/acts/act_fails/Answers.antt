@@ -1,5 +1,6 @@
 use Rattle.std.specs.Prelude.{◌+◌, ℕ, length, slice_get}
 use Rattle.std.proofs.Common.{◌≡◌, Some, refl, sym, ap, subst, arith}
+use Rattle.civl_tree.proofs.Lists.{get_there}
 use Rattle.civl_terms.proofs.Growing.{lengthens_trans, lengthened}
 use Rattle.civl_conditions.specs.declared.condition.Condition.TheVariants.{Act}
 use Rattle.civl_conditions.specs.declared.condition.Target.TheVariants as target
@@ -13,7 +14,6 @@ use Rattle.civl_states.specs.Existing.{existing_sorts}
 use Rattle.civl_states.specs.Runs.{instance_sorts, IsInvoked}
 use Rattle.civl_states.specs.Formulas.{sorts_of}
 use Rattle.civl_states.proofs.Variables.{existing_few}
-use Rattle.civl_states.proofs.Taking.{there}
 use Rattle.civl_states.proofs.Formulas.{formula_of}
 use Rattle.civl_states.proofs.Weighing.{gate_weighs, guard_weighs}
 use Rattle.civl_movers.proofs.interfere.Telling.{acts_are, acts_weigh, act_front, act_tail, act_small, act_limits, act_long, act_view}
@@ -22,19 +22,19 @@ use Rattle.civl_movers.proofs.interfere.acts.act_fails.Goals as goal
 pub store-requires-clause-stand : goal.store-requires-clause-stand
 store-requires-clause-stand c =
     let p = c.args.program.now in
-    let t = there p.actions c.args.action c.requires.action in
+    let t = get_there p.actions c.args.action c.requires.action in
     act_front p c.args.step c.args.action c.args.place t.0 t.1 c.requires.rules c.args.sorts.now c.requires.sorts
 
 pub store-requires-clause-small : goal.store-requires-clause-small
 store-requires-clause-small c =
     let p = c.args.program.now in
-    let t = there p.actions c.args.action c.requires.action in
+    let t = get_there p.actions c.args.action c.requires.action in
     act_small p c.args.step c.args.action c.args.place t.0 t.1 c.requires.rules c.args.sorts.now c.requires.sorts
 
 pub store-requires-clause-limits : goal.store-requires-clause-limits
 store-requires-clause-limits c =
     let p = c.args.program.now in
-    let t = there p.actions c.args.action c.requires.action in
+    let t = get_there p.actions c.args.action c.requires.action in
     act_limits p c.args.step c.args.action c.args.place t.0 t.1 c.requires.rules c.args.sorts.now c.requires.sorts
 
 pub overflow_cast-first : goal.overflow_cast-first
@@ -47,13 +47,13 @@ invocation-requires-clause-stand c = λ a at.
 pub invocation-requires-clause-small : goal.invocation-requires-clause-small
 invocation-requires-clause-small c =
     let p = c.args.program.now in
-    let t = there p.actions c.args.action c.requires.action in
+    let t = get_there p.actions c.args.action c.requires.action in
     act_small p c.args.step c.args.action c.args.place t.0 t.1 c.requires.rules c.args.sorts.now c.requires.sorts
 
 pub invocation-requires-clause-limits : goal.invocation-requires-clause-limits
 invocation-requires-clause-limits c =
     let p = c.args.program.now in
-    let t = there p.actions c.args.action c.requires.action in
+    let t = get_there p.actions c.args.action c.requires.action in
     act_limits p c.args.step c.args.action c.args.place t.0 t.1 c.requires.rules c.args.sorts.now c.requires.sorts
 
 pub act_at-requires-clause-globals : goal.act_at-requires-clause-globals
@@ -76,7 +76,7 @@ returns-clause-says c =
     let n1 = c.store.new.terms in
     let n2 = c.invocation.new.terms in
     let n3 = c.act_at.new.terms in
-    let t = there p.actions c.args.action c.requires.action in
+    let t = get_there p.actions c.args.action c.requires.action in
     let a = t.0 in
     let sorts = sorts_of p (Act k c.args.action (target.Invariant i)) in
     let long = act_long p k c.args.action i a t.1 c.requires.rules sorts refl in
@@ -92,7 +92,7 @@ returns-clause-weighs c =
     let p = c.args.program.now in
     let k = c.args.step in
     let i = c.args.place in
-    let t = there p.actions c.args.action c.requires.action in
+    let t = get_there p.actions c.args.action c.requires.action in
     let a = t.0 in
     let at = subst (λ n. slice_get p.actions n ≡ Some a) (sym c.in_ok-x.ensures.is) t.1 in
     omega (

@@ -2,6 +2,7 @@ use Rattle.std.specs.Prelude.{◌<◌, ◌≤◌, ◌+◌, ◌*◌, ℕ, length,
 use Rattle.std.proofs.Common.{◌≡◌, ◌∙◌, ◌++◌, Some, refl, sym, ap, subst, arith}
 use Rattle.civl_tree.specs.declared.expr.Sort.{Sort}
 use Rattle.civl_tree.specs.declared.program.Program.{Program}
+use Rattle.civl_tree.proofs.Lists.{get_there}
 use Rattle.civl_terms.proofs.Growing.{lengthens_trans, lengthened}
 use Rattle.civl_conditions.specs.declared.condition.Condition.TheVariants.{Act}
 use Rattle.civl_conditions.specs.declared.condition.Target.TheVariants as target
@@ -23,7 +24,6 @@ use Rattle.civl_states.specs.Existing.{existing_sorts}
 use Rattle.civl_states.specs.Runs.{instance_sorts, IsInvoked}
 use Rattle.civl_states.specs.Formulas.{sorts_of, IsViolation}
 use Rattle.civl_states.proofs.Variables.{existing_few}
-use Rattle.civl_states.proofs.Taking.{there}
 use Rattle.civl_states.proofs.Formulas.{formula_of}
 use Rattle.civl_states.proofs.Weighing.{gate_weighs, guard_weighs}
 use Rattle.civl_states.specs.Groups.{StandFrom}
@@ -38,21 +38,21 @@ pub kept_of-requires-clause-end : goal.kept_of-requires-clause-end
 kept_of-requires-clause-end c =
     let p = c.args.src.now in
     let y = target.Yield c.args.number c.args.place in
-    let t = there p.actions c.args.action c.requires.action in
+    let t = get_there p.actions c.args.action c.requires.action in
     record { front = existing_sorts (Near c.args.step) p ++ instance_sorts t.0; is = act_ends p c.args.step c.args.action y t.0 t.1 (rules_of c.program-program.result.now p c.program-program.ensures.keeps c.program-program.ensures.same) c.args.sorts.now c.requires.sorts }
 
 pub kept_of-requires-clause-limits : goal.kept_of-requires-clause-limits
 kept_of-requires-clause-limits c =
     let p = c.args.src.now in
     let y = target.Yield c.args.number c.args.place in
-    let t = there p.actions c.args.action c.requires.action in
+    let t = get_there p.actions c.args.action c.requires.action in
     act_limits p c.args.step c.args.action y t.0 t.1 (rules_of c.program-program.result.now p c.program-program.ensures.keeps c.program-program.ensures.same) c.args.sorts.now c.requires.sorts c.requires.there
 
 pub store-requires-clause-stand : goal.store-requires-clause-stand
 store-requires-clause-stand c =
     let p = c.args.src.now in
     let y = target.Yield c.args.number c.args.place in
-    let t = there p.actions c.args.action c.requires.action in
+    let t = get_there p.actions c.args.action c.requires.action in
     subst (λ (o : Program). StandFrom c.args.sorts.now 0 (existing_sorts (Near c.args.step) o)) (sym c.program-program.ensures.same)
     (act_front p c.args.step c.args.action y t.0 t.1 (rules_of c.program-program.result.now p c.program-program.ensures.keeps c.program-program.ensures.same) c.args.sorts.now c.requires.sorts)
 
@@ -60,7 +60,7 @@ pub store-requires-clause-limits : goal.store-requires-clause-limits
 store-requires-clause-limits c =
     let p = c.args.src.now in
     let y = target.Yield c.args.number c.args.place in
-    let t = there p.actions c.args.action c.requires.action in
+    let t = get_there p.actions c.args.action c.requires.action in
     act_limits p c.args.step c.args.action y t.0 t.1 (rules_of c.program-program.result.now p c.program-program.ensures.keeps c.program-program.ensures.same) c.args.sorts.now c.requires.sorts c.requires.there
 
 pub overflow_cast-first : goal.overflow_cast-first
@@ -78,7 +78,7 @@ pub invocation-requires-clause-limits : goal.invocation-requires-clause-limits
 invocation-requires-clause-limits c =
     let p = c.args.src.now in
     let y = target.Yield c.args.number c.args.place in
-    let t = there p.actions c.args.action c.requires.action in
+    let t = get_there p.actions c.args.action c.requires.action in
     act_limits p c.args.step c.args.action y t.0 t.1 (rules_of c.program-program.result.now p c.program-program.ensures.keeps c.program-program.ensures.same) c.args.sorts.now c.requires.sorts c.requires.there
 
 pub returns-in_err-globals-clause-lengthens : goal.returns-in_err-globals-clause-lengthens
@@ -116,7 +116,7 @@ returns-clause-says c =
     let n3 = c.invocation.new.terms in
     let n4 = c.act_loses.new.terms in
     let is = subst (λ (o : Program). IsTarget o y kept) (sym same) c.in_ok-kept.ensures.is in
-    let t = there p.actions x (subst (λ (o : Program). x < length o.actions) (sym same) c.requires.action) in
+    let t = get_there p.actions x (subst (λ (o : Program). x < length o.actions) (sym same) c.requires.action) in
     let a = t.0 in
     let sorts = sorts_of p (Act k x y) in
     let wanted : c.args.sorts.now ≡ sorts = c.requires.sorts ∙ ap (λ (o : Program). sorts_of o (Act k x y)) (sym same) in
@@ -147,7 +147,7 @@ returns-clause-weighs c =
     let y = target.Yield c.args.number c.args.place in
     let kept = c.in_ok-kept.kept in
     let is = c.in_ok-kept.ensures.is in
-    let t = there q.actions x c.requires.action in
+    let t = get_there q.actions x c.requires.action in
     let a = t.0 in
     let here = subst (λ (o : Program). slice_get o.actions x ≡ Some a) (sym same) t.1 in
     let at = subst (λ (m : ℕ). slice_get p.actions m ≡ Some a) (sym c.in_ok-x.ensures.is) here in

@@ -1,6 +1,6 @@
 use Rattle.std.proofs.Common.{arith}
+use Rattle.civl_meaning.proofs.Zipping.{zip_more}
 use Rattle.civl_weights.specs.sums.Sums.{OfAction}
-use Rattle.civl_weights.proofs.sums.Acting.{zip_more}
 use Rattle.civl_weights.proofs.sums.actions.action_sums.Goals as goal
 
 pub loop-action-preserved : goal.loop-action-preserved

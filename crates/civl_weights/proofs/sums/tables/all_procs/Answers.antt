@@ -1,6 +1,6 @@
 use Rattle.std.proofs.Common.{arith}
+use Rattle.civl_meaning.proofs.Zipping.{zip_more}
 use Rattle.civl_weights.specs.sums.Tables.{OfProc}
-use Rattle.civl_weights.proofs.sums.Acting.{zip_more}
 use Rattle.civl_weights.proofs.sums.tables.all_procs.Goals as goal
 
 pub loop-number-preserved : goal.loop-number-preserved

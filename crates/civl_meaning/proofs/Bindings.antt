@@ -1,28 +1,21 @@
 -- Names with their sorts: which binding a name finds among those of several lists.
-use Rattle.std.proofs.Common.{◌≡◌, ℕ, Bool, true, false, ◌||◌, List, [], ◌∷◌, ◌++◌, map, refl, sym, ap, ap₂, ◌∙◌, Option, None, Some, ◌⊎◌, inl, inr}
+use Rattle.std.proofs.Common.{◌≡◌, ℕ, ◌+◌, length, Bool, true, false, ◌||◌, List, [], ◌∷◌, ◌++◌, map, refl, sym, ap, ap₂, ◌∙◌, Option, None, Some, ◌⊎◌, inl, inr}
 use Rattle.std.specs.Prelude.{if◌then◌else◌}
 use Rattle.std.specs.List.{list_any}
 use Rattle.std.proofs.lemmas.Bool.{false≢true, or_parts}
-use Rattle.std.proofs.lemmas.List.{map-append}
-use Rattle.std.proofs.lemmas.List.Folds.{list_any-append}
-use Rattle.std.proofs.lemmas.Slice.Eq.{bytes_eq-Decides}
+use Rattle.std.proofs.lemmas.List.{map-append, length-append, length-map}
 use Rattle.civl_tree.specs.declared.name.Name.{Name}
 use Rattle.civl_tree.specs.declared.expr.Sort.{Sort}
+use Rattle.civl_tree.specs.declared.program.Global.{Global}
 use Rattle.civl_tree.specs.declared.program.Proc.{Proc}
-use Rattle.civl_tree.specs.rules.Names.{same_name, has_name, any_twice, names_in_proc}
-use Rattle.civl_tree.specs.rules.Scopes.{Binding, sort_in, bind_params, bind_locals, bind_proc}
+use Rattle.civl_tree.specs.declared.program.Program.{Program}
+use Rattle.civl_tree.specs.rules.Names.{same_name, has_name, any_twice, names_in_proc, global_names}
+use Rattle.civl_tree.specs.rules.Scopes.{Binding, sort_in, bind_globals, bind_params, bind_locals, bind_proc}
+use Rattle.civl_tree.proofs.Naming.{same_is, is_same, apart, twice_behind}
+use Rattle.civl_tree.specs.rules.Uses.{param_sorts}
 use Rattle.civl_meaning.specs.Config.{frame_sorts}
 
 -- ---- names
-
-abbrev named : List ℕ → Name
-named bytes = record { bytes = bytes }
-
-same_is : (a b : Name) → same_name a b ≡ true → a ≡ b
-same_is a b e = ap named ((bytes_eq-Decides a.bytes b.bytes).0 e)
-
-is_same : (a b : Name) → a ≡ b → same_name a b ≡ true
-is_same a b e = (bytes_eq-Decides a.bytes b.bytes).1 (ap (λ (n : Name). n.bytes) e)
 
 -- what isn't so of any of these names isn't so of one that stands among them
 pub none_of : (p : Name → Bool) (names : List Name) (name : Name) → list_any p names ≡ false → has_name names name ≡ true → p name ≡ false
@@ -32,22 +25,6 @@ none_of p (x ∷ xs) name n h = by_first (same_name name x) refl (λ k. none_of 
     by_first : (b : Bool) → same_name name x ≡ b → (has_name xs name ≡ true → p name ≡ false) → (b || has_name xs name) ≡ true → p name ≡ false
     by_first true e later k = ap p (same_is name x e) ∙ (or_parts (p x) (list_any p xs) n).0
     by_first false e later k = later k
-
--- of two lists in which no name stands twice
-pub apart : (xs ys : List Name) (name : Name) → any_twice (xs ++ ys) ≡ false → has_name xs name ≡ true → has_name ys name ≡ false
-apart [] ys name t h = absurd (false≢true h)
-apart (x ∷ xs) ys name t h = by_first (same_name name x) refl (λ k. apart xs ys name (or_parts (has_name (xs ++ ys) x) (any_twice (xs ++ ys)) t).1 k) h
-  where
-    first : (has_name xs x || has_name ys x) ≡ false
-    first = sym (list_any-append (same_name x) xs ys) ∙ (or_parts (has_name (xs ++ ys) x) (any_twice (xs ++ ys)) t).0
-
-    by_first : (b : Bool) → same_name name x ≡ b → (has_name xs name ≡ true → has_name ys name ≡ false) → (b || has_name xs name) ≡ true → has_name ys name ≡ false
-    by_first true e later k = ap (has_name ys) (same_is name x e) ∙ (or_parts (has_name xs x) (has_name ys x) first).1
-    by_first false e later k = later k
-
-pub twice_behind : (xs ys : List Name) → any_twice (xs ++ ys) ≡ false → any_twice ys ≡ false
-twice_behind [] ys t = t
-twice_behind (x ∷ xs) ys t = twice_behind xs ys (or_parts (has_name (xs ++ ys) x) (any_twice (xs ++ ys)) t).1
 
 -- a name isn't among these where it is among those
 pub not_both : (xs ys : List Name) (name : Name) → (has_name xs name ≡ true → has_name ys name ≡ false) → has_name ys name ≡ true → has_name xs name ≡ false
@@ -160,3 +137,16 @@ pub proc_sorts : (proc : Proc) → sorts_of (bind_proc proc) ≡ frame_sorts pro
 proc_sorts proc =
     joined (λ b. b.sort) (bind_params proc.params) (bind_params proc.outs ++ bind_locals proc.locals) _ _ (sorts_bound (λ p. p.name) (λ p. p.sort) proc.params)
     (joined (λ b. b.sort) (bind_params proc.outs) (bind_locals proc.locals) _ _ (sorts_bound (λ p. p.name) (λ p. p.sort) proc.outs) (sorts_bound (λ l. l.name) (λ l. l.sort) proc.locals))
+
+pub frame_length : (proc : Proc) → length (frame_sorts proc) ≡ length proc.params + (length proc.outs + length proc.locals)
+frame_length proc =
+    length-append (param_sorts proc.params) (param_sorts proc.outs ++ map (λ l. l.sort) proc.locals)
+    ∙ ap₂ (λ (m n : ℕ). m + n) (length-map proc.params (λ p. p.sort))
+    (length-append (param_sorts proc.outs) (map (λ l. l.sort) proc.locals) ∙ ap₂ (λ (m n : ℕ). m + n) (length-map proc.outs (λ p. p.sort)) (length-map proc.locals (λ l. l.sort)))
+
+module _ (program : Program) where
+  pub global_names_are : names_of (bind_globals program.globals) ≡ global_names program.globals
+  global_names_are = names_bound (λ (g : Global). g.name) (λ (g : Global). g.sort) program.globals
+
+  pub global_sorts_are : sorts_of (bind_globals program.globals) ≡ map (λ g. g.sort) program.globals
+  global_sorts_are = sorts_bound (λ (g : Global). g.name) (λ (g : Global). g.sort) program.globals

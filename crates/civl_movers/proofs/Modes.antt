@@ -1,16 +1,12 @@
 -- The outputs of actions have modes of outputs, where a text can spell the program.
-use Rattle.std.specs.Prelude.{slice_get, ◌==◌, IsTrue}
+use Rattle.std.specs.Prelude.{◌==◌, IsTrue}
 use Rattle.std.specs.List.{list_all}
-use Rattle.std.proofs.Common.{◌≡◌, ◌∙◌, ℕ, zero, suc, Bool, true, List, [], ◌∷◌, sym, ap, Some}
+use Rattle.std.proofs.Common.{Bool}
 use Rattle.std.proofs.lemmas.Bool.{and_parts}
 use Rattle.civl_tree.specs.SpellingDomain.{allows_name, allows_expr, allows_global, allows_invariant, allows_param, allows_out, allows_action, allows_program}
 use Rattle.civl_tree.specs.declared.program.Program.{Program}
+use Rattle.civl_tree.proofs.Lists.{all_get}
 use Rattle.civl_movers.specs.Settings.{HaveOutModes}
-
-all_get : {A : Type 0} (p : A → Bool) (xs : List A) (i : ℕ) (x : A) → list_all p xs ≡ true → slice_get xs i ≡ Some x → p x ≡ true
-all_get p [] i x h e = absurd (cc)
-all_get p (y ∷ ys) zero x h e = let same : y ≡ x = cc in ap p (sym same) ∙ (and_parts (p y) (list_all p ys) h).0
-all_get p (y ∷ ys) (suc i) x h e = all_get p ys i x (and_parts (p y) (list_all p ys) h).1 e
 
 pub have_out_modes : (program : Program) → IsTrue (allows_program program) → HaveOutModes program
 have_out_modes program written x a at =

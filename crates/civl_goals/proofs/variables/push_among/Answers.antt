@@ -1,5 +1,0 @@
-use Rattle.civl_conditions.proofs.Calls.{none_at}
-use Rattle.civl_goals.proofs.variables.push_among.Goals as goal
-
-pub returns-in-None : goal.returns-in-None
-returns-in-None c = none_at (λ stmt. stmt.now) c.args.list.now c.args.program.now c.args.program.now.layers c.args.flat.now c.args.number c.in-None.ensures.lookup.3
