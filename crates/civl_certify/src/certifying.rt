@@ -6,9 +6,9 @@ ghost use Rattle.civl_tree.specs.rules.Rules.{Keeps};
 ghost use Rattle.civl_linear.specs.LinearRules.{linear_rules};
 ghost use Rattle.civl_linear.specs.Cuts.{all_held};
 ghost use Rattle.civl_conditions.specs.Listed.{conditions};
-ghost use Rattle.civl_conditions.specs.Weights.{weight, initial_weight, weight_limit, heavy};
+ghost use Rattle.civl_conditions.specs.Weights.{weight, weight_limit, heavy};
 ghost use Rattle.civl_weights.specs.Heavy.{IsHeavy};
-ghost use Rattle.civl_verdicts.specs.Formulas.{initial_formula, violation_formula};
+ghost use Rattle.civl_verdicts.specs.Formulas.{violation_formula};
 ghost use Rattle.civl_verdicts.specs.decisions.Decided.{IsDecided, WasAsked};
 ghost use Rattle.civl_verdicts.specs.judging.Made.{IsMade};
 ghost use Rattle.civl_verdicts.specs.judging.Searches.{UnaskedWhereHeavy};
@@ -23,7 +23,7 @@ use civl_layers::{Held, Layered};
 use civl_portfolio::Prover;
 use civl_verdicts::Counter;
 use civl_verdicts::decisions::{Decision, decide};
-use civl_verdicts::judging::{Made, Makes, Memory};
+use civl_verdicts::judging::{Made, Makes, Memory, decide_initial};
 use civl_weights::{TooMuch, conditions as weighed_conditions};
 use std::alloc::Global;
 
@@ -42,29 +42,7 @@ fn violation_term<M: Makes>(
     ensures { IfOk result (IsMade (violation_formula src.now condition.now)) }
 {
     let bodies = bodies_of(alloc, src)?;
-    let made = makes.violation(alloc, src, held, &bodies, condition)?;
-    Ok(made)
-}
-
-/// Decides whether some store is initial.
-fn decide_initial<M: Makes>(
-    alloc: Global,
-    makes: &M,
-    src: &Layered,
-    provers: &mut Vec<Box<dyn Prover>>,
-    budget: u32,
-) -> Result<Decision, Memory>
-    requires light { initial_weight src.now ≤ weight_limit }
-    ensures decided { IfOk result (IsDecided budget (initial_formula src.now)) }
-    ensures asked { IfOk result (λ decision. WasAsked provers.old.items provers.new.items budget (record { asked = asked; lacks = lacks; honest = honest; plan = plan })) }
-{
-    let Made {
-        mut terms,
-        id,
-        sorts,
-    } = makes.initial(alloc, src)?;
-    let decision = decide(alloc, &mut terms, id, sorts.as_slice(), provers, budget)?;
-    Ok(decision)
+    makes.violation(alloc, src, held, &bodies, condition)
 }
 
 /// Decides whether some values violate a condition, without provers.

@@ -18,4 +18,5 @@ pub use condition::{Condition, Part, Target, Variable};
 pub use listing::listed;
 pub use naming::name;
 pub use variables_all::variables;
-pub use variables_calls::action_called;
+pub use variables_calls::{action_called, push_choices_at};
+pub use variables_groups::{push_globals, push_locals, push_params, push_variable};

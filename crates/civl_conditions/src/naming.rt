@@ -64,8 +64,7 @@ fn put_head(out: &mut Vec<u8>, kind: &[u8], step: u32) -> Result<(), Memory>
     put(out, kind)?;
     put(out, b" step ")?;
     put_number(out, step)?;
-    put(out, b" ")?;
-    Ok(())
+    put(out, b" ")
 }
 
 fn put_pair(out: &mut Vec<u8>, program: &Program, first: u32, second: u32) -> Result<(), Memory>
@@ -73,8 +72,7 @@ fn put_pair(out: &mut Vec<u8>, program: &Program, first: u32, second: u32) -> Re
 {
     put_action(out, program, first)?;
     put(out, b" ")?;
-    put_action(out, program, second)?;
-    Ok(())
+    put_action(out, program, second)
 }
 
 fn put_cut(out: &mut Vec<u8>, program: &Program, proc: u32, cut: u32) -> Result<(), Memory>
@@ -82,8 +80,7 @@ fn put_cut(out: &mut Vec<u8>, program: &Program, proc: u32, cut: u32) -> Result<
 {
     put_proc(out, program, proc)?;
     put(out, b" from ")?;
-    put_number(out, cut)?;
-    Ok(())
+    put_number(out, cut)
 }
 
 fn put_target(out: &mut Vec<u8>, program: &Program, target: Target) -> Result<(), Memory>
@@ -92,15 +89,13 @@ fn put_target(out: &mut Vec<u8>, program: &Program, target: Target) -> Result<()
     match target {
         Target::Invariant(invariant) => {
             put(out, b" invariant ")?;
-            put_number(out, invariant)?;
-            Ok(())
+            put_number(out, invariant)
         }
         Target::Yield(proc, cut) => {
             put(out, b" yield ")?;
             put_proc(out, program, proc)?;
             put(out, b" ")?;
-            put_number(out, cut)?;
-            Ok(())
+            put_number(out, cut)
         }
     }
 }

@@ -127,8 +127,7 @@ fn push_in(
     ensures { OnOk result (list.new ≡ list.old ++ option_map_or (path_variables src.now step proc.now) (slice_get (proc_cuts proc.now) cut) []) }
 {
     let cuts = cuts(alloc, src, number)?;
-    push_from(alloc, list, program(src), step, proc, cuts.as_slice(), cut)?;
-    Ok(())
+    push_from(alloc, list, program(src), step, proc, cuts.as_slice(), cut)
 }
 
 /// The paths from the cut with this number of the procedure with this number, where there are both.

@@ -76,8 +76,7 @@ fn push_called(
     match action_called(program, layer, callee) {
         Some(action) => {
             let front = front(alloc, number)?;
-            push_choices(alloc, list, front.as_slice(), action.choices.as_slice())?;
-            Ok(())
+            push_choices(alloc, list, front.as_slice(), action.choices.as_slice())
         }
         None => Ok(()),
     }
@@ -95,10 +94,7 @@ fn push_stmt(
     ensures { OnOk result (list.new ≡ list.old ++ of_choices (call_front number) (layer_choices (program_at program.now layer) (out-Stmt stmt.now))) }
 {
     match stmt {
-        Stmt::Call(callee, _, _) => {
-            push_called(alloc, list, program, layer, number, callee)?;
-            Ok(())
-        }
+        Stmt::Call(callee, _, _) => push_called(alloc, list, program, layer, number, callee),
         Stmt::Assign(_, _) => Ok(()),
         Stmt::Assert(_) => Ok(()),
         Stmt::If(_, _, _) => Ok(()),
@@ -112,8 +108,12 @@ fn push_stmt(
     }
 }
 
-/// The choices of the statement that has this number among these.
-fn push_number(
+/// The choices of the statement that has this number among these, where there is one, behind the others; in the program of this layer.
+///
+/// # Errors
+///
+/// For want of memory.
+pub fn push_choices_at(
     alloc: Global,
     list: &mut List<Variable>,
     program: &Program,
@@ -144,7 +144,7 @@ fn push_numbers(
     ensures { OnOk result (list.new ≡ list.old ++ flat_map (choices_at program.now layer (map (λ stmt. stmt.now) flat.now)) numbers.now) }
 {
     for number in numbers {
-        push_number(alloc, list, program, layer, *number, flat)?;
+        push_choices_at(alloc, list, program, layer, *number, flat)?;
     }
     Ok(())
 }

@@ -9,7 +9,11 @@ use civl_tree::{Action, Choice, Global, List, Local, Memory, Name, Param, Progra
 use std::alloc::Global as Alloc;
 
 /// Puts a variable behind the others, whose name has the front before it.
-fn push_variable(
+///
+/// # Errors
+///
+/// For want of memory.
+pub fn push_variable(
     alloc: Alloc,
     list: &mut List<Variable>,
     front: &[u8],
@@ -25,8 +29,7 @@ fn push_variable(
     list.push(Variable {
         name: Name { bytes },
         sort,
-    })?;
-    Ok(())
+    })
 }
 
 /// Puts a bool of this name behind the others.
@@ -37,11 +40,15 @@ pub(crate) fn push_flag(alloc: Alloc, list: &mut List<Variable>, bytes: &[u8]) -
     list.push(Variable {
         name,
         sort: Sort::Bool,
-    })?;
-    Ok(())
+    })
 }
 
-pub(crate) fn push_params(
+/// The parameters, behind the others.
+///
+/// # Errors
+///
+/// For want of memory.
+pub fn push_params(
     alloc: Alloc,
     list: &mut List<Variable>,
     front: &[u8],
@@ -55,6 +62,7 @@ pub(crate) fn push_params(
     Ok(())
 }
 
+/// The choices, behind the others.
 pub(crate) fn push_choices(
     alloc: Alloc,
     list: &mut List<Variable>,
@@ -69,7 +77,12 @@ pub(crate) fn push_choices(
     Ok(())
 }
 
-pub(crate) fn push_locals(
+/// The locals, behind the others.
+///
+/// # Errors
+///
+/// For want of memory.
+pub fn push_locals(
     alloc: Alloc,
     list: &mut List<Variable>,
     front: &[u8],
@@ -93,8 +106,7 @@ pub(crate) fn push_instance(
     ensures { OnOk result (list.new ≡ list.old ++ of_instance front.now action.now) }
 {
     push_params(alloc, list, front, action.params.as_slice())?;
-    push_choices(alloc, list, front, action.choices.as_slice())?;
-    Ok(())
+    push_choices(alloc, list, front, action.choices.as_slice())
 }
 
 // ---- globals
@@ -113,8 +125,12 @@ fn exists_near(step: u32, global: &Global) -> bool
     exists_at(step.saturating_sub(1), global) || exists_at(step, global)
 }
 
-/// All globals.
-pub(crate) fn push_globals(
+/// All globals, behind the others.
+///
+/// # Errors
+///
+/// For want of memory.
+pub fn push_globals(
     alloc: Alloc,
     list: &mut List<Variable>,
     globals: &[Global],
@@ -157,8 +173,7 @@ pub(crate) fn push_lower(
         list,
         step.saturating_sub(1),
         program.globals.as_slice(),
-    )?;
-    Ok(())
+    )
 }
 
 fn push_around(
@@ -188,6 +203,5 @@ pub(crate) fn push_near(
 ) -> Result<(), Memory>
     ensures { OnOk result (list.new ≡ list.old ++ near_globals front.now program.now step) }
 {
-    push_around(alloc, list, front, step, program.globals.as_slice())?;
-    Ok(())
+    push_around(alloc, list, front, step, program.globals.as_slice())
 }

@@ -213,8 +213,7 @@ fn add_noted(
     ensures { OnOk result (list.new.items ≡ list.old.items ++ noted_in program.now outline.now place proc.now) }
 {
     let flat = statements(alloc, &proc.body)?;
-    add_noted_among(list, program, outline, spots, place, flat.as_slice())?;
-    Ok(())
+    add_noted_among(list, program, outline, spots, place, flat.as_slice())
 }
 
 /// The same where the procedure is a root.
@@ -328,50 +327,17 @@ fn push_stmt(
     ensures { OnOk result (list.new ≡ list.old ++ form_goals program.now others.now proc statement (out-Stmt stmt.now)) }
 {
     match stmt {
-        Stmt::Call(_, _, _) => {
-            push_call(list, others, proc, statement)?;
-            Ok(())
-        }
-        Stmt::Assert(_) => {
-            push_assert(list, proc, statement)?;
-            Ok(())
-        }
-        Stmt::Spawn(callee, _) => {
-            push_spawn(list, program, callee, proc, statement)?;
-            Ok(())
-        }
-        Stmt::Assign(_, _) => {
-            push_next(list, proc, statement)?;
-            Ok(())
-        }
-        Stmt::If(_, _, _) => {
-            push_next(list, proc, statement)?;
-            Ok(())
-        }
-        Stmt::While(_, _) => {
-            push_next(list, proc, statement)?;
-            Ok(())
-        }
-        Stmt::YieldLoop(_, _, _) => {
-            push_next(list, proc, statement)?;
-            Ok(())
-        }
-        Stmt::RankLoop(_, _, _, _) => {
-            push_next(list, proc, statement)?;
-            Ok(())
-        }
-        Stmt::Yield(_) => {
-            push_next(list, proc, statement)?;
-            Ok(())
-        }
-        Stmt::Commit => {
-            push_next(list, proc, statement)?;
-            Ok(())
-        }
-        Stmt::Intro(_, _) => {
-            push_next(list, proc, statement)?;
-            Ok(())
-        }
+        Stmt::Call(_, _, _) => push_call(list, others, proc, statement),
+        Stmt::Assert(_) => push_assert(list, proc, statement),
+        Stmt::Spawn(callee, _) => push_spawn(list, program, callee, proc, statement),
+        Stmt::Assign(_, _) => push_next(list, proc, statement),
+        Stmt::If(_, _, _) => push_next(list, proc, statement),
+        Stmt::While(_, _) => push_next(list, proc, statement),
+        Stmt::YieldLoop(_, _, _) => push_next(list, proc, statement),
+        Stmt::RankLoop(_, _, _, _) => push_next(list, proc, statement),
+        Stmt::Yield(_) => push_next(list, proc, statement),
+        Stmt::Commit => push_next(list, proc, statement),
+        Stmt::Intro(_, _) => push_next(list, proc, statement),
     }
 }
 
@@ -405,8 +371,7 @@ fn push_root(
     ensures { OnOk result (list.new ≡ list.old ++ root_goals program.now others.now number proc.now) }
 {
     let flat = statements(alloc, &proc.body)?;
-    push_stmts(list, program, others, number, flat.as_slice())?;
-    Ok(())
+    push_stmts(list, program, others, number, flat.as_slice())
 }
 
 /// The same where the procedure is a root.

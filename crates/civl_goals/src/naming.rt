@@ -55,8 +55,7 @@ fn put_statement(
 {
     put_proc(out, program, proc)?;
     put(out, b" at ")?;
-    put_number(out, statement)?;
-    Ok(())
+    put_number(out, statement)
 }
 
 /// The kind, which is the text, and a statement of a procedure.
@@ -70,24 +69,21 @@ fn put_of(
     ensures { OnOk result (out.new.items ≡ out.old.items ++ kind.now ++ statement_text program.now proc statement) }
 {
     put(out, kind)?;
-    put_statement(out, program, proc, statement)?;
-    Ok(())
+    put_statement(out, program, proc, statement)
 }
 
 fn put_thread(out: &mut Vec<u8>, number: u32) -> Result<(), Memory>
     ensures { OnOk result (out.new.items ≡ out.old.items ++ codes "O1 thread " ++ decimal number) }
 {
     put(out, b"O1 thread ")?;
-    put_number(out, number)?;
-    Ok(())
+    put_number(out, number)
 }
 
 fn put_linear(out: &mut Vec<u8>, program: &Program, action: u32) -> Result<(), Memory>
     ensures { OnOk result (out.new.items ≡ out.old.items ++ codes "O1 linear " ++ action_text program.now action) }
 {
     put(out, b"O1 linear ")?;
-    put_action(out, program, action)?;
-    Ok(())
+    put_action(out, program, action)
 }
 
 /// Two statements: the second is before the note that the first keeps.
@@ -102,8 +98,7 @@ fn put_other(
     put(out, b"O3 ")?;
     put_statement(out, program, first.0, first.1)?;
     put(out, b" keeps ")?;
-    put_statement(out, program, second.0, second.1)?;
-    Ok(())
+    put_statement(out, program, second.0, second.1)
 }
 
 /// The printed name of a goal: `O1 invariant`, `O1 thread` with the thread's number, `O1 linear` with the action's name; `O2`

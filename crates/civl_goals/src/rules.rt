@@ -272,8 +272,7 @@ fn first_note_of(alloc: Global, program: &Program, outline: &Outline) -> Result<
     ensures { IfOk result (λ found. found ≡ first_of (misplaced program.now [] (length outline.now.holds) outline.now.notes)) }
 {
     let before = outline.holds.len();
-    let found = first_note(alloc, program, before, outline.notes.as_slice())?;
-    Ok(found)
+    first_note(alloc, program, before, outline.notes.as_slice())
 }
 
 /// The number of the first hold or note that doesn't fit, where these are numbered together from 0. A hold is a bool over the

@@ -1,10 +1,7 @@
 // The variables of goals.
-ghost use Rattle.std.specs.Prelude.{◌≡◌, ◌+◌, ◌<◌, ◌^◌, ◌++◌, ◌∷◌, [], map, codes, OnOk, IfOk};
-ghost use Rattle.civl_tree.specs.declared.stmt.Stmt.{out-Stmt};
+ghost use Rattle.std.specs.Prelude.{◌≡◌, ◌+◌, ◌<◌, ◌^◌, ◌++◌, [], codes, OnOk, IfOk};
 ghost use Rattle.civl_tree.specs.Numbering.{statements_of};
-ghost use Rattle.civl_meaning.specs.Layers.{topmost};
-ghost use Rattle.civl_meaning.specs.Meaning.{called};
-ghost use Rattle.civl_conditions.specs.Variables.{variable, of_globals, of_params, of_choices, of_locals, choices_of, layer_choices, call_front};
+ghost use Rattle.civl_conditions.specs.Variables.{of_globals};
 ghost use Rattle.civl_conditions.specs.Steps.{of_proc};
 ghost use Rattle.civl_conditions.specs.Passed.{choices_at};
 ghost use Rattle.civl_goals.specs.Outlines.{top_globals};
@@ -12,87 +9,16 @@ ghost use Rattle.civl_goals.specs.Variables.{of_names, of_frame, of_statement, v
 
 use crate::goal::Goal;
 use crate::sayings::exists_on_top;
-use civl_conditions::{Condition, Variable, action_called, variables as condition_variables};
+use civl_conditions::{
+    Condition, Variable, push_choices_at, push_globals, push_locals, push_params, push_variable,
+    variables as condition_variables,
+};
 use civl_layers::{Layered, program};
 use civl_names::walks::statements;
-use civl_tree::{Choice, Global, List, Local, Memory, Name, Param, Proc, Program, Sort, Stmt};
-use itoa::Buffer;
+use civl_tree::{List, Memory, Proc, Program};
 use std::alloc::Global as Alloc;
 
-// ---- groups
-
-/// Puts a variable behind the others, whose name has the front before it.
-fn push_variable(
-    alloc: Alloc,
-    list: &mut List<Variable>,
-    front: &[u8],
-    name: &Name,
-    sort: Sort,
-) -> Result<(), Memory>
-    ensures { OnOk result (list.new ≡ list.old ++ variable front.now name.now sort ∷ []) }
-{
-    let mut bytes = Vec::new(alloc);
-    bytes.extend_from_slice(front)?;
-    bytes.extend_from_slice(name.as_slice())?;
-    let bytes = List::from_vec(bytes);
-    list.push(Variable {
-        name: Name { bytes },
-        sort,
-    })?;
-    Ok(())
-}
-
-fn push_params(
-    alloc: Alloc,
-    list: &mut List<Variable>,
-    front: &[u8],
-    params: &[Param],
-) -> Result<(), Memory>
-    ensures { OnOk result (list.new ≡ list.old ++ of_params front.now params.now) }
-{
-    for param in params {
-        push_variable(alloc, list, front, &param.name, param.sort)?;
-    }
-    Ok(())
-}
-
-fn push_locals(
-    alloc: Alloc,
-    list: &mut List<Variable>,
-    front: &[u8],
-    locals: &[Local],
-) -> Result<(), Memory>
-    ensures { OnOk result (list.new ≡ list.old ++ of_locals front.now locals.now) }
-{
-    for local in locals {
-        push_variable(alloc, list, front, &local.name, local.sort)?;
-    }
-    Ok(())
-}
-
-fn push_choices(
-    alloc: Alloc,
-    list: &mut List<Variable>,
-    front: &[u8],
-    choices: &[Choice],
-) -> Result<(), Memory>
-    ensures { OnOk result (list.new ≡ list.old ++ of_choices front.now choices.now) }
-{
-    for choice in choices {
-        push_variable(alloc, list, front, &choice.name, choice.sort)?;
-    }
-    Ok(())
-}
-
-/// All globals.
-fn push_globals(alloc: Alloc, list: &mut List<Variable>, globals: &[Global]) -> Result<(), Memory>
-    ensures { OnOk result (list.new ≡ list.old ++ of_globals [] globals.now) }
-{
-    for global in globals {
-        push_variable(alloc, list, b"", &global.name, global.sort)?;
-    }
-    Ok(())
-}
+// ---- globals
 
 /// The globals of the topmost program.
 fn push_top(alloc: Alloc, list: &mut List<Variable>, program: &Program) -> Result<(), Memory>
@@ -145,85 +71,6 @@ fn push_frame(
 
 // ---- calls
 
-/// What stands before the names of the choices of the call with this number.
-fn front(alloc: Alloc, number: u32) -> Result<Vec<u8>, Memory>
-    ensures { IfOk result (λ front. front.items ≡ call_front number) }
-{
-    let mut front = Vec::new(alloc);
-    let mut buffer = Buffer::new();
-    front.extend_from_slice(b"call")?;
-    front.extend_from_slice(buffer.format(number).as_bytes())?;
-    front.extend_from_slice(b".")?;
-    Ok(front)
-}
-
-/// The choices of a call of this name, which has this number.
-fn push_called(
-    alloc: Alloc,
-    list: &mut List<Variable>,
-    program: &Program,
-    number: u32,
-    callee: &Name,
-) -> Result<(), Memory>
-    ensures { OnOk result (list.new ≡ list.old ++ of_choices (call_front number) (choices_of (called (topmost program.now) callee.now))) }
-{
-    match action_called(program, program.layers, callee) {
-        Some(action) => {
-            let front = front(alloc, number)?;
-            push_choices(alloc, list, front.as_slice(), action.choices.as_slice())?;
-            Ok(())
-        }
-        None => Ok(()),
-    }
-}
-
-/// The choices of a statement, which has this number.
-fn push_stmt(
-    alloc: Alloc,
-    list: &mut List<Variable>,
-    program: &Program,
-    number: u32,
-    stmt: &Stmt,
-) -> Result<(), Memory>
-    ensures { OnOk result (list.new ≡ list.old ++ of_choices (call_front number) (layer_choices (topmost program.now) (out-Stmt stmt.now))) }
-{
-    match stmt {
-        Stmt::Call(callee, _, _) => {
-            push_called(alloc, list, program, number, callee)?;
-            Ok(())
-        }
-        Stmt::Assign(_, _) => Ok(()),
-        Stmt::Assert(_) => Ok(()),
-        Stmt::If(_, _, _) => Ok(()),
-        Stmt::While(_, _) => Ok(()),
-        Stmt::YieldLoop(_, _, _) => Ok(()),
-        Stmt::RankLoop(_, _, _, _) => Ok(()),
-        Stmt::Yield(_) => Ok(()),
-        Stmt::Commit => Ok(()),
-        Stmt::Intro(_, _) => Ok(()),
-        Stmt::Spawn(_, _) => Ok(()),
-    }
-}
-
-/// The choices of the statement that has this number among these, where there is one.
-fn push_among(
-    alloc: Alloc,
-    list: &mut List<Variable>,
-    program: &Program,
-    number: u32,
-    flat: &[&Stmt],
-) -> Result<(), Memory>
-    ensures { OnOk result (list.new ≡ list.old ++ choices_at program.now program.now.layers (map (λ stmt. stmt.now) flat.now) number) }
-{
-    match flat.get(number as usize) {
-        Some(stmt) => {
-            push_stmt(alloc, list, program, number, stmt)?;
-            Ok(())
-        }
-        None => Ok(()),
-    }
-}
-
 /// The choices of the statement of a procedure that has this number.
 fn push_in(
     alloc: Alloc,
@@ -235,8 +82,14 @@ fn push_in(
     ensures { OnOk result (list.new ≡ list.old ++ choices_at program.now program.now.layers (statements_of proc.now.body) number) }
 {
     let flat = statements(alloc, &proc.body)?;
-    push_among(alloc, list, program, number, flat.as_slice())?;
-    Ok(())
+    push_choices_at(
+        alloc,
+        list,
+        program,
+        program.layers,
+        number,
+        flat.as_slice(),
+    )
 }
 
 /// The choices of a statement of the procedure with this number, where there are both.

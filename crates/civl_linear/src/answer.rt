@@ -29,8 +29,7 @@ fn first_of_rules(alloc: Global, program: &Program) -> Result<Option<Refusal>, M
     if let Some(refusal) = first_in_procs(alloc, &LostLocals, program)? {
         return Ok(Some(refusal));
     }
-    let last = first_in_procs(alloc, &MisassignedNames, program)?;
-    Ok(last)
+    first_in_procs(alloc, &MisassignedNames, program)
 }
 
 /// The first of the rules E40 to E43, by code, item and statement, that a program breaks, with its place, or `None` where
@@ -45,8 +44,7 @@ pub fn refusal(alloc: Global, program: &Program) -> Result<Option<Refusal>, Memo
     ensures same { IfOk result (λ refusal. refusal ≡ refusal_by linear_rules program.now) }
     ensures first { IfOk result (λ refusal. IsRefusal linear_rules program.now refusal) }
 {
-    let found = first_of_rules(alloc, program)?;
-    Ok(found)
+    first_of_rules(alloc, program)
 }
 
 /// What is held at the cuts of a layered program that keeps the rules E40 to E43: for each procedure and each of its cuts

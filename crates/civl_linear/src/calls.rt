@@ -75,13 +75,9 @@ pub(crate) fn call_held(
     match signature {
         Some(signature) => {
             let left = without_names(alloc, Want::Taken, signature.params, args, names, held)?;
-            let after = with_names(alloc, signature.outs, results, names, &left)?;
-            Ok(after)
+            with_names(alloc, signature.outs, results, names, &left)
         }
-        None => {
-            let after = copied(alloc, held)?;
-            Ok(after)
-        }
+        None => { copied(alloc, held) }
     }
 }
 
@@ -97,12 +93,8 @@ pub(crate) fn spawn_held(
 {
     match signature {
         Some(signature) => {
-            let after = without_names(alloc, Want::Passed, signature.params, args, names, held)?;
-            Ok(after)
+            without_names(alloc, Want::Passed, signature.params, args, names, held)
         }
-        None => {
-            let after = copied(alloc, held)?;
-            Ok(after)
-        }
+        None => { copied(alloc, held) }
     }
 }

@@ -14,4 +14,6 @@ mod rules;
 mod tracing;
 
 pub use answer::{held, refusal};
-pub use listing::held_in;
+pub use listing::{held_in, held_numbers};
+pub use places::names_in_proc;
+pub use tracing::flags_before;

@@ -13,8 +13,12 @@ use civl_names::walks::statements;
 use civl_tree::{List, Memory, Name, Proc, Program, Stmt};
 use std::alloc::Global;
 
-/// The numbers of those of these names that are held.
-fn held_numbers(alloc: Global, names: &[&Name], held: &List<bool>) -> Result<List<u32>, Memory>
+/// The numbers of those of these names that are held, rising. They count the names from 0.
+///
+/// # Errors
+///
+/// For want of memory.
+pub fn held_numbers(alloc: Global, names: &[&Name], held: &List<bool>) -> Result<List<u32>, Memory>
     requires { length names.now < 2 ^ 32 }
     ensures { IfOk result (λ numbers. numbers ≡ held_numbers 0 (map (λ name. name.now) names.now) held.now) }
 {

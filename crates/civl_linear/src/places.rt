@@ -10,8 +10,12 @@ use civl_tree::{List, Memory, Name, Param, Proc};
 use civl_types::names::same_name;
 use std::alloc::Global;
 
-/// The names of a procedure: its parameters, outputs and locals.
-pub(crate) fn names_in_proc<'a>(alloc: Global, proc: &'a Proc) -> Result<Vec<&'a Name>, Memory>
+/// The names of a procedure: its parameters, outputs and locals, in this order.
+///
+/// # Errors
+///
+/// For want of memory.
+pub fn names_in_proc<'a>(alloc: Global, proc: &'a Proc) -> Result<Vec<&'a Name>, Memory>
     ensures { IfOk result (λ names. map (λ name. name.now) names.items ≡ names_in_proc proc.now) }
 {
     let mut names = Vec::new(alloc);

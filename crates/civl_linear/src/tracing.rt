@@ -42,41 +42,36 @@ fn trace(
             losses.push(false)?;
             let one = trace_all(alloc, program, names, first, held, befores, losses)?;
             let other = trace_all(alloc, program, names, second, held, befores, losses)?;
-            let both = both_held(alloc, &one, &other)?;
-            Ok(both)
+            both_held(alloc, &one, &other)
         }
         Stmt::While(_, body) | Stmt::YieldLoop(_, _, body) | Stmt::RankLoop(_, _, _, body) => {
             let mut inner = Vec::new(alloc);
             let end = trace_all(alloc, program, names, body, held, befores, &mut inner)?;
             losses.push(!covers(held, &end))?;
             append(losses, &inner)?;
-            let after = copied(alloc, held)?;
-            Ok(after)
+            copied(alloc, held)
         }
         Stmt::Call(callee, args, results) => {
             losses.push(false)?;
             let signature = callee_signature(program, callee);
-            let after = call_held(
+            call_held(
                 alloc,
                 names,
                 signature,
                 args.as_slice(),
                 results.as_slice(),
                 held,
-            )?;
-            Ok(after)
+            )
         }
         Stmt::Spawn(callee, args) => {
             losses.push(false)?;
             let signature = proc_signature(program, callee);
-            let after = spawn_held(alloc, names, signature, args.as_slice(), held)?;
-            Ok(after)
+            spawn_held(alloc, names, signature, args.as_slice(), held)
         }
         Stmt::Assign(_, _) | Stmt::Assert(_) | Stmt::Yield(_) | Stmt::Commit | Stmt::Intro(_, _) =>
             {
                 losses.push(false)?;
-                let after = copied(alloc, held)?;
-                Ok(after)
+                copied(alloc, held)
             }
     }
 }
@@ -137,4 +132,24 @@ pub(crate) fn traced_proc(alloc: Global, program: &Program, proc: &Proc) -> Resu
         befores,
         losses,
     })
+}
+
+/// What a procedure holds before each of its statements, in text order: for each a flag for each name of the procedure, its
+/// parameters, outputs and locals.
+///
+/// A local is held where the linear value that it stands for is this thread's: the linear permissions of layered programs
+/// (Kragl and Qadeer, CAV 2018).
+///
+/// # Errors
+///
+/// For want of memory.
+pub fn flags_before(
+    alloc: Global,
+    program: &Program,
+    proc: &Proc,
+) -> Result<Vec<List<bool>>, Memory>
+    ensures { IfOk result (λ befores. befores.items ≡ (traced_proc program.now proc.now).befores) }
+{
+    let traced = traced_proc(alloc, program, proc)?;
+    Ok(traced.befores)
 }

@@ -8,7 +8,9 @@ ghost use Rattle.civl_tree.specs.declared.expr.Expr.{Expr as OfExpr};
 ghost use Rattle.civl_tree.specs.declared.expr.One.TheVariants.{Not};
 ghost use Rattle.civl_trial.specs.Phrases.{Makes};
 
-use civl_tree::{Boxed, Expr, List, Local, Memory, Mode, Name, One, Param, Sort, Two, Update};
+use civl_tree::{
+    Boxed, Expr, List, Local, Memory, Mode, Name, One, Param, Sort, Two, Update, both,
+};
 use itoa::Buffer;
 use std::alloc::Global as Alloc;
 
@@ -19,25 +21,21 @@ pub fn together<A: Drop, B: Drop>(
 ) -> Result<(A, B), Memory>
     ensures { (a : A) (b : B) → Makes first a → Makes second b → Makes result (a, b) }
 {
-    let first = first?;
-    let second = second?;
-    Ok((first, second))
+    both(first, second)
 }
 
 /// The part in a box.
 fn boxed<T: Drop>(alloc: Alloc, part: Result<T, Memory>) -> Result<Boxed<T>, Memory>
     ensures { (a : T) → Makes part a → Makes result a }
 {
-    let part = Boxed::new(alloc, part?)?;
-    Ok(part)
+    Boxed::new(alloc, part?)
 }
 
 /// Puts a part behind all others.
 pub fn pushed<T: Drop>(parts: &mut List<T>, part: Result<T, Memory>) -> Result<(), Memory>
     ensures { (a : T) → Makes part a → OnOk result (parts.new ≡ parts.old ++ a ∷ []) }
 {
-    parts.push(part?)?;
-    Ok(())
+    parts.push(part?)
 }
 
 /// The list of one part.
@@ -78,8 +76,7 @@ pub fn followed<T: Drop>(
 pub fn named(alloc: Alloc, text: &[u8]) -> Result<Name, Memory>
     ensures { IfOk result (λ it. it ≡ record { bytes = text.now }) }
 {
-    let name = Name::from_slice(alloc, text)?;
-    Ok(name)
+    Name::from_slice(alloc, text)
 }
 
 /// The name of a global, an action or a procedure in a copy: `_` and the copy's number stand behind it.

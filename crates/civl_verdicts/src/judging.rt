@@ -10,4 +10,4 @@ mod verifying;
 pub use formula::{Made, Makes};
 pub use memory::Memory;
 pub use surveying::survey;
-pub use verifying::verify;
+pub use verifying::{decide_initial, verify};

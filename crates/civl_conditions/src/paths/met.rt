@@ -93,16 +93,14 @@ fn enter(met: &mut Met, head: u32, from: Option<u32>) -> Result<(), Memory>
         pass(met, head)?;
         return Ok(());
     }
-    end(met, head)?;
-    Ok(())
+    end(met, head)
 }
 
 /// Behind the body of a loop paths come to its head again, and end.
 fn close(met: &mut Met, again: u32) -> Result<(), Memory>
     ensures { IfOk result (λ done. met.new ≡ met_ending again met.old) }
 {
-    end(met, again)?;
-    Ok(())
+    end(met, again)
 }
 
 /// Behind the statement from which the paths begin they go on.

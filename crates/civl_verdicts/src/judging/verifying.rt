@@ -26,8 +26,12 @@ use civl_tree::List;
 use civl_weights::{TooMuch, conditions as weighed_conditions};
 use std::alloc::Global;
 
-/// Decides whether some store is initial.
-pub(crate) fn decide_initial<M: Makes>(
+/// Decides whether some store is initial. At most the budget of learned clauses is spent on it.
+///
+/// # Errors
+///
+/// For want of memory.
+pub fn decide_initial<M: Makes>(
     alloc: Global,
     makes: &M,
     src: &Layered,
@@ -131,8 +135,7 @@ fn judge_all<M: Makes>(
     ensures searched { IfOk result (λ verdict. SearchedOn src.now verdict budget provers.old.items provers.new.items (record { asked = asked; lacks = lacks; honest = honest; plan = plan })) }
 {
     let bodies = bodies_of(alloc, src)?;
-    let verdict = judge_conditions(alloc, makes, src, held, &bodies, list, provers, budget)?;
-    Ok(verdict)
+    judge_conditions(alloc, makes, src, held, &bodies, list, provers, budget)
 }
 
 /// The verdict on a layered program none of whose formulas weighs too much.
