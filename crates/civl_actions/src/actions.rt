@@ -41,15 +41,14 @@ pub fn gate(
     ensures grows { Grows terms.old terms.new }
 {
     let action = program.actions.get(action as usize);
-    let id = gate_of(
+    gate_of(
         alloc,
         terms,
         program,
         action,
         globals.as_slice(),
         inputs.as_slice(),
-    )?;
-    Ok(id)
+    )
 }
 
 /// The term of the guard of the action with this number, at these terms for the globals, for its parameters and for its
@@ -80,7 +79,7 @@ pub fn guard(
     ensures grows { Grows terms.old terms.new }
 {
     let action = program.actions.get(action as usize);
-    let id = guard_of(
+    guard_of(
         alloc,
         terms,
         program,
@@ -88,8 +87,7 @@ pub fn guard(
         globals.as_slice(),
         inputs.as_slice(),
         choices.as_slice(),
-    )?;
-    Ok(id)
+    )
 }
 
 /// The terms of the values that the action with this number offers for its choices, one for each in their order, at these
@@ -118,15 +116,14 @@ pub fn offers(
     ensures grows { Grows terms.old terms.new }
 {
     let action = program.actions.get(action as usize);
-    let ids = offers_of(
+    offers_of(
         alloc,
         terms,
         program,
         action,
         globals.as_slice(),
         inputs.as_slice(),
-    )?;
-    Ok(ids)
+    )
 }
 
 /// The terms of the globals and of the outputs after the updates of the action with this number, which are all made at once,
@@ -158,7 +155,7 @@ pub fn updates(
     ensures grows { Grows terms.old terms.new }
 {
     let action = program.actions.get(action as usize);
-    let changed = updates_of(
+    updates_of(
         alloc,
         terms,
         program,
@@ -166,8 +163,7 @@ pub fn updates(
         globals.as_slice(),
         inputs.as_slice(),
         choices.as_slice(),
-    )?;
-    Ok(changed)
+    )
 }
 
 /// The terms of this action.
@@ -230,7 +226,7 @@ pub fn instance(
     ensures grows { Grows terms.old terms.new }
 {
     let action = program.actions.get(action as usize);
-    let made = instance_of(
+    instance_of(
         alloc,
         terms,
         program,
@@ -238,6 +234,5 @@ pub fn instance(
         globals.as_slice(),
         inputs.as_slice(),
         choices.as_slice(),
-    )?;
-    Ok(made)
+    )
 }

@@ -185,6 +185,5 @@ pub fn place_at(
     if at >= config.threads.len() {
         return Ok(Place::Between);
     }
-    let place = stands(alloc, program, layer, config.threads.get(at))?;
-    Ok(place)
+    stands(alloc, program, layer, config.threads.get(at))
 }

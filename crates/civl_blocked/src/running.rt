@@ -77,6 +77,5 @@ pub fn block_run(
 {
     let _layers = program(src).layers;
     let plain = at(alloc, src, layer)?;
-    let blocked = turned(alloc, &plain, layer, store, moves)?;
-    Ok(blocked)
+    turned(alloc, &plain, layer, store, moves)
 }

@@ -69,8 +69,7 @@ fn front_behind(
         return Ok(None);
     }
     let behind = &moves[at + 1..];
-    let front = failing_front(alloc, ground, from, thread, behind)?;
-    Ok(front)
+    failing_front(alloc, ground, from, thread, behind)
 }
 
 /// The moves up to one of another thread without which, and without all others behind it, something fails.

@@ -98,18 +98,15 @@ fn push_inside<'a>(
         }
         Stmt::While(_, a) => {
             push_among(rest, a, at + 1, wanted)?;
-            push_one(rest, stmt, at)?;
-            Ok(())
+            push_one(rest, stmt, at)
         }
         Stmt::YieldLoop(_, _, a) => {
             push_among(rest, a, at + 1, wanted)?;
-            push_one(rest, stmt, at)?;
-            Ok(())
+            push_one(rest, stmt, at)
         }
         Stmt::RankLoop(_, _, _, a) => {
             push_among(rest, a, at + 1, wanted)?;
-            push_one(rest, stmt, at)?;
-            Ok(())
+            push_one(rest, stmt, at)
         }
         Stmt::Assign(_, _) => Ok(()),
         Stmt::Assert(_) => Ok(()),

@@ -209,8 +209,7 @@ impl Order {
         if place < self.phases.len() {
             self.phases[place] = lit.positive();
         }
-        self.enqueue(lit.variable())?;
-        Ok(())
+        self.enqueue(lit.variable())
     }
 
     /// Notes that the literals of these steps are taken back, from a place on.

@@ -134,6 +134,5 @@ pub fn solve(alloc: Global, cnf: &Cnf, budget: u32) -> Result<Outcome, Memory>
     ensures unsat { IfOk result (λ outcome. (log : List (List Literal)) → outcome ≡ Outcome.Unsat log → RefutesWithin cnf.now budget log) }
     ensures spent { IfOk result (λ outcome. (log : List (List Literal)) → outcome ≡ Outcome.Spent log → SpendsWhole cnf.now budget log) }
 {
-    let outcome = run(alloc, cnf, budget)?;
-    Ok(outcome)
+    run(alloc, cnf, budget)
 }

@@ -84,8 +84,7 @@ impl Circuit {
         ensures err { OnErr result (self.new ≡ self.old) }
         ensures extends { Extends self.old self.new }
     {
-        let output = and_of(&mut self.gates, &mut self.outputs, self.one, a, b)?;
-        Ok(output)
+        and_of(&mut self.gates, &mut self.outputs, self.one, a, b)
     }
 
     /// A literal that is true where exactly one of them is. It takes at most one variable, and none where one of them is constant or they are equal or opposite. The set may have at most 2^30 variables before.
@@ -103,8 +102,7 @@ impl Circuit {
         ensures err { OnErr result (self.new ≡ self.old) }
         ensures extends { Extends self.old self.new }
     {
-        let output = xor_of(&mut self.gates, &mut self.outputs, self.one, a, b)?;
-        Ok(output)
+        xor_of(&mut self.gates, &mut self.outputs, self.one, a, b)
     }
 
     /// A choice that is no simpler gate.
@@ -136,6 +134,10 @@ impl Circuit {
     }
 
     /// A literal with the value of `a` where `c` is true, and of `b` elsewhere. It takes at most one variable. The set may have at most 2^30 variables before.
+    ///
+    /// # Errors
+    ///
+    /// For want of memory.
     #[tactic(auto, using(crate::proofs::Words::extending))]
     pub fn ite(&mut self, c: Lit, a: Lit, b: Lit) -> Result<Lit, Memory>
         requires room { self.old.variables ≤ 2 ^ 30 }

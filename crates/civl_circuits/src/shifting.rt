@@ -70,14 +70,8 @@ pub(crate) fn moved(
     let kept = a.len() - distance;
     let zeros = repeated(alloc, zero, distance)?;
     match direction {
-        Direction::Up => {
-            let word = join(alloc, &a[..kept], zeros.as_slice())?;
-            Ok(word)
-        }
-        Direction::Down => {
-            let word = join(alloc, zeros.as_slice(), &a[distance..])?;
-            Ok(word)
-        }
+        Direction::Up => { join(alloc, &a[..kept], zeros.as_slice()) }
+        Direction::Down => { join(alloc, zeros.as_slice(), &a[distance..]) }
     }
 }
 
@@ -171,8 +165,7 @@ pub fn shift_left(
         (λ v. left_shift_at (length a.now) (number v a.now) (number v b.now))) }
     ensures extends { Extends gates.old gates.new }
 {
-    let word = shift(gates, alloc, one, Direction::Up, a, b)?;
-    Ok(word)
+    shift(gates, alloc, one, Direction::Up, a, b)
 }
 
 /// The word moved down by the number of another of the same width, at most 32 bits; 0 from the width on. It takes at most seven variables for each bit.
@@ -198,8 +191,7 @@ pub fn shift_right(
         (λ v. right_shift_at (length a.now) (number v a.now) (number v b.now))) }
     ensures extends { Extends gates.old gates.new }
 {
-    let word = shift(gates, alloc, one, Direction::Down, a, b)?;
-    Ok(word)
+    shift(gates, alloc, one, Direction::Down, a, b)
 }
 
 /// The word moved down by the number of another of the same width, 1 to 32 bits, with copies of the top bit above. It takes at most nine variables for each bit.

@@ -24,6 +24,10 @@ impl Model for Bits {
 
 impl Bits {
     /// So many bits, all false.
+    ///
+    /// # Errors
+    ///
+    /// For want of memory.
     pub fn new(alloc: Global, length: u32) -> Result<Bits, Memory>
         ensures { IfOk result (λ bits. bits ≡ replicate length false) }
     {

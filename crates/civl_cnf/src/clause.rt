@@ -23,6 +23,10 @@ impl Model for Clause {
 
 impl Clause {
     /// The clause of these literals. Up to four stand in the value itself.
+    ///
+    /// # Errors
+    ///
+    /// For want of memory.
     pub fn from_slice(alloc: Global, lits: &[Lit]) -> Result<Clause, Memory>
         ensures { IfOk result (λ clause. clause ≡ lits.now) }
     {

@@ -50,6 +50,10 @@ impl Cnf {
     }
 
     /// Adds a clause over the set's variables at the end.
+    ///
+    /// # Errors
+    ///
+    /// For want of memory; nothing is changed then.
     pub fn push(&mut self, clause: Clause) -> Result<(), Memory>
         requires { IsBelow self.old.variables clause }
         ensures ok { OnOk result (self.new ≡ record self.old { clauses = self.old.clauses ++ clause ∷ [] }) }

@@ -45,6 +45,10 @@ impl Gates {
     }
 
     /// A literal that is true where both are. It takes one variable and three clauses. The set may have at most 2^30 variables before.
+    ///
+    /// # Errors
+    ///
+    /// For want of memory; nothing is changed then.
     pub fn and(&mut self, a: Lit, b: Lit) -> Result<Lit, Memory>
         requires room { self.old.variables ≤ 2 ^ 30 }
         requires a { a.variable < self.old.variables }
@@ -66,6 +70,10 @@ impl Gates {
     }
 
     /// A literal that is true where exactly one of them is. It takes one variable and four clauses. The set may have at most 2^30 variables before.
+    ///
+    /// # Errors
+    ///
+    /// For want of memory; nothing is changed then.
     pub fn xor(&mut self, a: Lit, b: Lit) -> Result<Lit, Memory>
         requires room { self.old.variables ≤ 2 ^ 30 }
         requires a { a.variable < self.old.variables }
@@ -92,6 +100,10 @@ impl Gates {
     }
 
     /// A literal with the value of `a` where `c` is true, and of `b` elsewhere. It takes one variable and four clauses. The set may have at most 2^30 variables before.
+    ///
+    /// # Errors
+    ///
+    /// For want of memory; nothing is changed then.
     pub fn ite(&mut self, c: Lit, a: Lit, b: Lit) -> Result<Lit, Memory>
         requires room { self.old.variables ≤ 2 ^ 30 }
         requires c { c.variable < self.old.variables }
@@ -188,6 +200,10 @@ impl Gates {
     }
 
     /// A full adder: the sum and the carry of three bits. It takes two variables and fourteen clauses. The set may have at most 2^30 variables before.
+    ///
+    /// # Errors
+    ///
+    /// For want of memory; nothing is changed then.
     pub fn adder(&mut self, a: Lit, b: Lit, c: Lit) -> Result<(Lit, Lit), Memory>
         requires room { self.old.variables ≤ 2 ^ 30 }
         requires a { a.variable < self.old.variables }

@@ -44,6 +44,10 @@ impl Log {
     }
 
     /// Adds a clause at the end, without hints.
+    ///
+    /// # Errors
+    ///
+    /// For want of memory; nothing is changed then.
     pub fn push(&mut self, clause: Clause) -> Result<(), Memory>
         ensures ok { OnOk result (self.new ≡ self.old ++ clause ∷ []) }
         ensures err { OnErr result (self.new ≡ self.old) }
@@ -52,6 +56,10 @@ impl Log {
     }
 
     /// Adds a clause at the end, with these hints: clauses by their numbers, those of the clause set first, from 0, and those of the log behind them.
+    ///
+    /// # Errors
+    ///
+    /// For want of memory; nothing is changed then.
     pub fn push_hinted(&mut self, clause: Clause, hints: &[u32]) -> Result<(), Memory>
         ensures ok { OnOk result (self.new ≡ self.old ++ clause ∷ []) }
         ensures err { OnErr result (self.new ≡ self.old) }

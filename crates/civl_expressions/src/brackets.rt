@@ -24,8 +24,7 @@ pub fn open_bracket<'t, 'a>(
     ensures read { Gives (λ rest. spelled rest.now) result (enter (Sign text.now) most (spelled tokens.now)) }
     ensures room { IfOk result (λ _. 0 < most) }
 {
-    let rest = open(tokens, text, most)?;
-    Ok(rest)
+    open(tokens, text, most)
 }
 
 /// A comma, a number and the closing bracket.

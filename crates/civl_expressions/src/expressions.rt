@@ -597,6 +597,10 @@ pub fn args<'t, 'a>(
 }
 
 /// An expression and a semicolon, and the tokens behind them.
+///
+/// # Errors
+///
+/// Where the text is at fault, with the place, and for want of memory.
 #[tactic(auto, unfolding(civl_phrases::specs::Reader::then_token, civl_phrases::specs::Reader::mapped, civl_phrases::specs::Reader::both, civl_phrases::specs::Reader::after, civl_phrases::specs::Reader::done))]
 pub fn ended_expr<'t, 'a>(
     alloc: Global,

@@ -161,8 +161,7 @@ pub fn transition(
     ) {
         return Ok(Fired::Blocked);
     }
-    let fired = moved(alloc, globals, store, action, inputs, chosen)?;
-    Ok(fired)
+    moved(alloc, globals, store, action, inputs, chosen)
 }
 
 /// What comes of the action with this number in a store, with these values for its parameters and its choices.
@@ -190,13 +189,12 @@ pub fn fire(
     if !gate(globals, store, action, inputs.as_slice()) {
         return Ok(Fired::GateFalse);
     }
-    let fired = transition(
+    transition(
         alloc,
         globals,
         store,
         action,
         inputs.as_slice(),
         choices.as_slice(),
-    )?;
-    Ok(fired)
+    )
 }

@@ -39,11 +39,9 @@ fn named(alloc: Global, names: &List<Name>, name: &Name, size: usize) -> Result<
 {
     let at = place(names, name);
     if at < names.len() {
-        let values = bits(alloc, size, at)?;
-        Ok(values)
+        bits(alloc, size, at)
     } else {
-        let values = constant(alloc, size, false)?;
-        Ok(values)
+        constant(alloc, size, false)
     }
 }
 

@@ -31,8 +31,7 @@ pub fn with_values(
         None => Ok(List::new(alloc)),
         Some(refines) => {
             let exprs = refines.with.as_slice();
-            let found = note_values(alloc, program, proc, locals, values, exprs)?;
-            Ok(found)
+            note_values(alloc, program, proc, locals, values, exprs)
         }
     }
 }

@@ -18,8 +18,7 @@ pub fn put_place(out: &mut Vec<u8>, text: &[u8], place: usize) -> Result<(), Mem
 {
     put(out, text)?;
     put_number(out, place)?;
-    put(out, b"\n")?;
-    Ok(())
+    put(out, b"\n")
 }
 
 /// A line with the code, the place and the number of a fault.
@@ -70,8 +69,7 @@ fn put_refusal(out: &mut Vec<u8>, refusal: Refusal) -> Result<(), Memory>
     put_number(out, refusal.item as usize)?;
     put(out, b" statement ")?;
     put_number(out, refusal.statement as usize)?;
-    put(out, b"\n")?;
-    Ok(())
+    put(out, b"\n")
 }
 
 /// What is reported of a program that breaks a static rule.

@@ -140,8 +140,7 @@ pub(crate) fn begins_at(
 {
     match at.stmt {
         Stmt::Spawn(callee, args) => {
-            let id = spawns_at(alloc, terms, program, outline, at, callee, args, setting)?;
-            Ok(id)
+            spawns_at(alloc, terms, program, outline, at, callee, args, setting)
         }
         _ => unreachable!(),
     }

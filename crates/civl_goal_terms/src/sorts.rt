@@ -84,8 +84,7 @@ fn push_existing(sorts: &mut Vec<Sort>, layer: u32, globals: &[Global]) -> Resul
 fn push_top(sorts: &mut Vec<Sort>, program: &Program) -> Result<(), Memory>
     ensures { OnOk result (sorts.new.items ≡ sorts.old.items ++ top_sorts program.now) }
 {
-    push_existing(sorts, program.layers, program.globals.as_slice())?;
-    Ok(())
+    push_existing(sorts, program.layers, program.globals.as_slice())
 }
 
 /// The parameters and choices of an action.
@@ -93,8 +92,7 @@ fn push_instance(sorts: &mut Vec<Sort>, action: &Action) -> Result<(), Memory>
     ensures { OnOk result (sorts.new.items ≡ sorts.old.items ++ instance_sorts action.now) }
 {
     push_params(sorts, action.params.as_slice())?;
-    push_choices(sorts, action.choices.as_slice())?;
-    Ok(())
+    push_choices(sorts, action.choices.as_slice())
 }
 
 /// The parameters and choices of the action with this number, where there is one.
@@ -116,8 +114,7 @@ fn push_frame(sorts: &mut Vec<Sort>, proc: &Proc) -> Result<(), Memory>
 {
     push_params(sorts, proc.params.as_slice())?;
     push_params(sorts, proc.outs.as_slice())?;
-    push_locals(sorts, proc.locals.as_slice())?;
-    Ok(())
+    push_locals(sorts, proc.locals.as_slice())
 }
 
 /// Those of the procedure with this number, where there is one.
@@ -195,8 +192,7 @@ fn push_in(
     ensures { OnOk result (sorts.new.items ≡ sorts.old.items ++ map (λ c. c.sort) (choices_in program.now proc.now number)) }
 {
     let flat = flat_statements(alloc, proc)?;
-    push_choices(sorts, number_choices(program, flat.as_slice(), number))?;
-    Ok(())
+    push_choices(sorts, number_choices(program, flat.as_slice(), number))
 }
 
 /// The choices of a statement of the procedure with this number, where there are both.
@@ -232,8 +228,7 @@ fn push_statement(
 {
     push_top(sorts, program)?;
     push_frame_of(sorts, program, proc)?;
-    push_chosen(alloc, sorts, program, proc, statement)?;
-    Ok(())
+    push_chosen(alloc, sorts, program, proc, statement)
 }
 
 /// The sorts of a goal's variables, group by group.
@@ -247,39 +242,19 @@ fn push_groups(
     ensures { OnOk result (sorts.new.items ≡ sorts.old.items ++ grouped_sorts program.now goal.now) }
 {
     match *goal {
-        Goal::Invariant => {
-            push_globals(sorts, program.globals.as_slice())?;
-            Ok(())
-        }
-        Goal::Thread(_) => {
-            push_globals(sorts, program.globals.as_slice())?;
-            Ok(())
-        }
+        Goal::Invariant => push_globals(sorts, program.globals.as_slice()),
+        Goal::Thread(_) => push_globals(sorts, program.globals.as_slice()),
         Goal::Linear(action) => {
             push_top(sorts, program)?;
-            push_action(sorts, program, action)?;
-            Ok(())
+            push_action(sorts, program, action)
         }
-        Goal::Safe(proc, statement) => {
-            push_statement(alloc, sorts, program, proc, statement)?;
-            Ok(())
-        }
-        Goal::Keep(proc, statement) => {
-            push_statement(alloc, sorts, program, proc, statement)?;
-            Ok(())
-        }
-        Goal::Spawn(proc, statement) => {
-            push_statement(alloc, sorts, program, proc, statement)?;
-            Ok(())
-        }
-        Goal::Next(proc, statement) => {
-            push_statement(alloc, sorts, program, proc, statement)?;
-            Ok(())
-        }
+        Goal::Safe(proc, statement) => push_statement(alloc, sorts, program, proc, statement),
+        Goal::Keep(proc, statement) => push_statement(alloc, sorts, program, proc, statement),
+        Goal::Spawn(proc, statement) => push_statement(alloc, sorts, program, proc, statement),
+        Goal::Next(proc, statement) => push_statement(alloc, sorts, program, proc, statement),
         Goal::Other(proc, statement, other, _) => {
             push_statement(alloc, sorts, program, proc, statement)?;
-            push_frame_of(sorts, program, other)?;
-            Ok(())
+            push_frame_of(sorts, program, other)
         }
     }
 }

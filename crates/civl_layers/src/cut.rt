@@ -51,8 +51,7 @@ fn push_cut(cuts: &mut List<Cut>, stmt: &Stmt, number: u32) -> Result<(), Memory
             cuts.push(Cut {
                 statement: number,
                 kind,
-            })?;
-            Ok(())
+            })
         }
         None => Ok(()),
     }
@@ -84,8 +83,7 @@ fn push_inner(cuts: &mut List<Cut>, stmt: &Stmt, number: u32) -> Result<u32, Mem
     match stmt {
         Stmt::If(_, first, second) => {
             let next = push_cuts(cuts, first, number)?;
-            let end = push_cuts(cuts, second, next)?;
-            Ok(end)
+            push_cuts(cuts, second, next)
         }
         Stmt::While(_, body) => push_cuts(cuts, body, number),
         Stmt::YieldLoop(_, _, body) => push_cuts(cuts, body, number),

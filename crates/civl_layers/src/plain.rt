@@ -55,8 +55,7 @@ pub fn low(alloc: Global, src: &Layered) -> Result<Plain, Memory>
     ensures same { IfOk result (λ plain. plain ≡ lowest src.now) }
     ensures keeps { IfOk result (λ plain. IsPlain plain) }
 {
-    let plain = at(alloc, src, 0)?;
-    Ok(plain)
+    at(alloc, src, 0)
 }
 
 /// The topmost program, that of the last layer: each procedure but the roots means the action that it refines.
@@ -68,6 +67,5 @@ pub fn top(alloc: Global, src: &Layered) -> Result<Plain, Memory>
     ensures same { IfOk result (λ plain. plain ≡ topmost src.now) }
     ensures keeps { IfOk result (λ plain. IsPlain plain) }
 {
-    let plain = at(alloc, src, program(src).layers)?;
-    Ok(plain)
+    at(alloc, src, program(src).layers)
 }

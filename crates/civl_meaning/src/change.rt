@@ -129,8 +129,7 @@ fn call_of_action(
         return Ok(Change::Stays(Stepped::BadChoices));
     }
     let fired = transition(alloc, globals, store, action, args, chosen)?;
-    let change = done_by(alloc, after, fired)?;
-    Ok(change)
+    done_by(alloc, after, fired)
 }
 
 /// A call that stands at the place `at`.
@@ -152,10 +151,7 @@ fn call(
             let frame = frame_of_call(alloc, number, proc, args)?;
             Ok(Change::Enters(frame, at))
         }
-        Callee::Does(action) => {
-            let change = call_of_action(alloc, plain, store, chosen, after, action, args)?;
-            Ok(change)
-        }
+        Callee::Does(action) => { call_of_action(alloc, plain, store, chosen, after, action, args) }
     }
 }
 
@@ -183,8 +179,7 @@ pub fn first_call(
         results: &[],
         next: 0,
     };
-    let change = call(alloc, plain, store, chosen, &after, 0, callee, args)?;
-    Ok(change)
+    call(alloc, plain, store, chosen, &after, 0, callee, args)
 }
 
 /// The frame goes on at a place.
@@ -240,8 +235,7 @@ fn values_in(
 {
     let globals = standing.plain.program.globals.as_slice();
     let setting = in_frame(globals, standing.proc, standing.locals);
-    let values = values(alloc, &setting, exprs.as_slice())?;
-    Ok(values)
+    values(alloc, &setting, exprs.as_slice())
 }
 
 /// A spawn.
@@ -311,8 +305,7 @@ fn asserted(
     if !holds_in(standing, expr) {
         return Ok(Change::Stays(Stepped::Failing));
     }
-    let change = goes(alloc, standing.locals, next)?;
-    Ok(change)
+    goes(alloc, standing.locals, next)
 }
 
 /// A call in a procedure.
@@ -337,7 +330,7 @@ fn calling(
         results: results.as_slice(),
         next,
     };
-    let change = call(
+    call(
         alloc,
         standing.plain,
         store,
@@ -346,8 +339,7 @@ fn calling(
         at,
         callee,
         args.as_slice(),
-    )?;
-    Ok(change)
+    )
 }
 
 /// A statement that was found.
@@ -368,23 +360,19 @@ pub fn statement(
         Stmt::Assert(expr) => asserted(alloc, standing, next, expr),
         Stmt::If(test, a, b) => {
             let place = branch(standing, at, next, test, a, b, found.second);
-            let change = goes(alloc, standing.locals, place)?;
-            Ok(change)
+            goes(alloc, standing.locals, place)
         }
         Stmt::While(test, body) => {
             let place = turn(standing, at, next, test, body);
-            let change = goes(alloc, standing.locals, place)?;
-            Ok(change)
+            goes(alloc, standing.locals, place)
         }
         Stmt::YieldLoop(test, _, body) => {
             let place = turn(standing, at, next, test, body);
-            let change = goes(alloc, standing.locals, place)?;
-            Ok(change)
+            goes(alloc, standing.locals, place)
         }
         Stmt::RankLoop(test, _, _, body) => {
             let place = turn(standing, at, next, test, body);
-            let change = goes(alloc, standing.locals, place)?;
-            Ok(change)
+            goes(alloc, standing.locals, place)
         }
         Stmt::Call(name, args, results) => {
             calling(

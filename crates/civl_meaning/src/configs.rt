@@ -93,8 +93,7 @@ impl Part for Value {
 
 impl Part for Activation {
     fn copy_of(&self, alloc: Global) -> Result<Activation, Memory> {
-        let frame = copied_frame(alloc, self)?;
-        Ok(frame)
+        copied_frame(alloc, self)
     }
 
     fn is_same(&self, other: &Activation) -> bool {

@@ -87,18 +87,15 @@ fn push_inside(
         }
         Stmt::While(_, a) => {
             push_among(alloc, rest, a, at + 1, wanted)?;
-            push_copy(alloc, rest, stmt)?;
-            Ok(())
+            push_copy(alloc, rest, stmt)
         }
         Stmt::YieldLoop(_, _, a) => {
             push_among(alloc, rest, a, at + 1, wanted)?;
-            push_copy(alloc, rest, stmt)?;
-            Ok(())
+            push_copy(alloc, rest, stmt)
         }
         Stmt::RankLoop(_, _, _, a) => {
             push_among(alloc, rest, a, at + 1, wanted)?;
-            push_copy(alloc, rest, stmt)?;
-            Ok(())
+            push_copy(alloc, rest, stmt)
         }
         Stmt::Assign(_, _) => Ok(()),
         Stmt::Assert(_) => Ok(()),
@@ -187,8 +184,7 @@ fn frame_above(
         let frame = frame_in(alloc, plain, &below[at])?;
         return Ok(frame);
     }
-    let frame = frame_in(alloc, plain, top)?;
-    Ok(frame)
+    frame_in(alloc, plain, top)
 }
 
 /// A thread's frame at a place.
@@ -203,8 +199,7 @@ fn frame_at(alloc: Global, plain: &Plain, thread: &Running, at: usize) -> Result
                 let frame = first_frame(alloc, plain, thread)?;
                 return Ok(frame);
             }
-            let frame = frame_above(alloc, plain, below.as_slice(), top, at - 1)?;
-            Ok(frame)
+            frame_above(alloc, plain, below.as_slice(), top, at - 1)
         }
     }
 }
@@ -233,6 +228,5 @@ pub fn frame(
     requires at { IfSome (slice_get config.now.threads thread) (λ t. at < depth_of t) }
     ensures { IfOk result (λ f. IfSome (slice_get config.now.threads thread) (λ t. slice_get (frames_of plain.now t) at ≡ Some f)) }
 {
-    let frame = frame_at(alloc, plain, config.threads.get(thread as usize), at)?;
-    Ok(frame)
+    frame_at(alloc, plain, config.threads.get(thread as usize), at)
 }

@@ -97,8 +97,7 @@ fn returned(
     }
     let proc = &procs[frame.procedure];
     let found = found_at(plain, places, frame.procedure, proc, frame.place);
-    let after = returned_found(alloc, proc, outs, frame, found)?;
-    Ok(after)
+    returned_found(alloc, proc, outs, frame, found)
 }
 
 /// The end of the topmost frame, above these.
@@ -167,13 +166,9 @@ fn found_change(
     match found {
         None => {
             let outs = outputs(standing.proc, standing.locals);
-            let change = leave(alloc, standing.plain, places, outs, below)?;
-            Ok(change)
+            leave(alloc, standing.plain, places, outs, below)
         }
-        Some(found) => {
-            let change = statement(alloc, standing, store, chosen, &found)?;
-            Ok(change)
-        }
+        Some(found) => { statement(alloc, standing, store, chosen, &found) }
     }
 }
 
@@ -201,8 +196,7 @@ fn top_change(
         proc,
         locals: frame.locals.as_slice(),
     };
-    let change = found_change(alloc, &standing, places, store, chosen, below, frame, found)?;
-    Ok(change)
+    found_change(alloc, &standing, places, store, chosen, below, frame, found)
 }
 
 /// What a step of this thread does, with these values for the choices.
@@ -221,12 +215,10 @@ pub fn change_of(
         State::After => Ok(Change::Stays(Stepped::Ended)),
         State::Before => {
             let callee = of_proc(plain, thread.callee);
-            let change = first_call(alloc, plain, store, chosen, callee, thread.args.as_slice())?;
-            Ok(change)
+            first_call(alloc, plain, store, chosen, callee, thread.args.as_slice())
         }
         State::Inside(below, frame) => {
-            let change = top_change(alloc, plain, places, store, chosen, below.as_slice(), frame)?;
-            Ok(change)
+            top_change(alloc, plain, places, store, chosen, below.as_slice(), frame)
         }
     }
 }

@@ -256,6 +256,5 @@ pub fn step(
         chosen.choices.as_slice(),
         thread,
     )?;
-    let answer = apply(alloc, config, at, change)?;
-    Ok(answer)
+    apply(alloc, config, at, change)
 }

@@ -201,18 +201,11 @@ pub fn violation(
 {
     let program = program(src);
     match *condition {
-        Condition::Keep(step, action) => {
-            let id = keep_fails(alloc, terms, program, sorts, step, action)?;
-            Ok(id)
-        }
+        Condition::Keep(step, action) => keep_fails(alloc, terms, program, sorts, step, action),
         Condition::Pair(number, step, x, y) => {
-            let id = pair_fails(alloc, terms, program, sorts, number, step, x, y)?;
-            Ok(id)
+            pair_fails(alloc, terms, program, sorts, number, step, x, y)
         }
-        Condition::Fire(step, action) => {
-            let id = fire_fails(alloc, terms, program, sorts, step, action)?;
-            Ok(id)
-        }
+        Condition::Fire(step, action) => fire_fails(alloc, terms, program, sorts, step, action),
         _ => unreachable!(),
     }
 }

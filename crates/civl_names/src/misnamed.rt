@@ -83,8 +83,7 @@ fn first_by_sets<'a>(
         actions,
         procs,
     };
-    let unknown = first_unknown(alloc, &sets, program)?;
-    Ok(unknown)
+    first_unknown(alloc, &sets, program)
 }
 
 /// The refusal of the first place at which E10 is broken, else of the first at which E11 is.
@@ -112,6 +111,5 @@ pub fn first_misnamed(alloc: Global, program: &Program) -> Result<Option<Refusal
     ensures same { IfOk result (λ refusal. refusal ≡ refusal_by (twice_rule ∷ unknown_rule ∷ []) program.now) }
     ensures first { IfOk result (λ refusal. IsRefusal (twice_rule ∷ unknown_rule ∷ []) program.now refusal) }
 {
-    let refusal = first_of_both(alloc, program)?;
-    Ok(refusal)
+    first_of_both(alloc, program)
 }

@@ -108,8 +108,7 @@ pub(crate) fn with_all<'a, T: Named>(
 pub(crate) fn set_of<'a, T: Named>(alloc: Global, items: &'a [T]) -> Result<NameSet<'a>, Memory>
     ensures { IfOk result (λ set. names_in set ≡ set_of (map T.name_of items.now)) }
 {
-    let set = with_all(NameSet::new(alloc), items)?;
-    Ok(set)
+    with_all(NameSet::new(alloc), items)
 }
 
 /// Whether two of these have one name.
@@ -117,8 +116,7 @@ pub(crate) fn any_twice<T: Named>(alloc: Global, items: &[T]) -> Result<bool, Me
     ensures { IfOk result (λ twice. twice ≡ any_twice (map T.name_of items.now)) }
 {
     let mut set = NameSet::new(alloc);
-    let twice = add_new(&mut set, items)?;
-    Ok(twice)
+    add_new(&mut set, items)
 }
 
 /// Adds the names of these and of those behind them to a set, up to the first that is there already. The answer is whether
@@ -139,8 +137,7 @@ fn add_lists<'a, A: Named, B: Named, C: Named>(
     if add_new(set, second)? {
         return Ok(true);
     }
-    let twice = add_new(set, third)?;
-    Ok(twice)
+    add_new(set, third)
 }
 
 /// Whether two of all these have one name.

@@ -28,8 +28,7 @@ fn inner_names<'a>(alloc: Global, proc: &'a Proc) -> Result<NameSet<'a>, Memory>
 {
     let names = set_of(alloc, proc.params.as_slice())?;
     let names = with_all(names, proc.outs.as_slice())?;
-    let names = with_all(names, proc.locals.as_slice())?;
-    Ok(names)
+    with_all(names, proc.locals.as_slice())
 }
 
 fn own_names<'a>(alloc: Global, proc: &'a Proc) -> Result<Own<'a>, Memory>

@@ -17,26 +17,24 @@ use std::alloc::Global;
 fn action_names_twice(alloc: Global, action: &Action) -> Result<bool, Memory>
     ensures { IfOk result (λ twice. twice ≡ any_twice (names_in_action action.now)) }
 {
-    let twice = any_twice_in(
+    any_twice_in(
         alloc,
         action.params.as_slice(),
         action.outs.as_slice(),
         action.choices.as_slice(),
-    )?;
-    Ok(twice)
+    )
 }
 
 /// Whether a procedure declares a name twice.
 fn proc_names_twice(alloc: Global, proc: &Proc) -> Result<bool, Memory>
     ensures { IfOk result (λ twice. twice ≡ any_twice (names_in_proc proc.now)) }
 {
-    let twice = any_twice_in(
+    any_twice_in(
         alloc,
         proc.params.as_slice(),
         proc.outs.as_slice(),
         proc.locals.as_slice(),
-    )?;
-    Ok(twice)
+    )
 }
 
 /// Whether an action declares a name of the set.
@@ -78,8 +76,7 @@ pub(crate) fn action_twice(
     if action_names_in(globals, action) {
         return Ok(true);
     }
-    let twice = any_twice(alloc, action.updates.as_slice())?;
-    Ok(twice)
+    any_twice(alloc, action.updates.as_slice())
 }
 
 /// Whether a procedure breaks E10, outside its statements, where these are the names of the globals, the actions and
@@ -107,10 +104,7 @@ fn stmt_twice(alloc: Global, stmt: &Stmt) -> Result<bool, Memory>
     ensures { IfOk result (λ twice. twice ≡ stmt_twice stmt.now) }
 {
     match stmt {
-        Stmt::Call(_, _, results) => {
-            let twice = any_twice(alloc, results.as_slice())?;
-            Ok(twice)
-        }
+        Stmt::Call(_, _, results) => { any_twice(alloc, results.as_slice()) }
         Stmt::Assign(_, _) | Stmt::Assert(_) | Stmt::If(_, _, _) | Stmt::While(_, _) => Ok(false),
         Stmt::YieldLoop(_, _, _)
         | Stmt::RankLoop(_, _, _, _)

@@ -83,8 +83,7 @@ impl Notes {
         ensures { OnOk result (IsNoted program.now proc.now note.now self.old self.new) }
     {
         let weight = weight_of(&View::Note(program, proc), &note.expr);
-        self.put(spot_of(note), weight)?;
-        Ok(())
+        self.put(spot_of(note), weight)
     }
 
     /// Puts the weight of a note to its place, where it stands in a procedure.
@@ -94,10 +93,7 @@ impl Notes {
         ensures { OnOk result (IsAdded program.now note.now self.old self.new) }
     {
         match item_proc(program, note.item) {
-            Some(proc) => {
-                self.insert(program, proc, note)?;
-                Ok(())
-            }
+            Some(proc) => self.insert(program, proc, note),
             None => Ok(()),
         }
     }

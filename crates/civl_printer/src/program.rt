@@ -26,8 +26,7 @@ fn put_header_number(out: &mut Vec<u8>, word: &[u8], number: u32) -> Result<(), 
 {
     put_word(out, word)?;
     put_number(out, number)?;
-    put_sign(out, b";")?;
-    Ok(())
+    put_sign(out, b";")
 }
 
 /// `civl number ; layers number ; permissions number ;`
@@ -37,8 +36,7 @@ fn put_header(out: &mut Vec<u8>, program: &Program) -> Result<(), Memory>
 {
     put_header_number(out, b"civl", printed_version(program.version))?;
     put_header_number(out, b"layers", program.layers)?;
-    put_header_number(out, b"permissions", program.permissions)?;
-    Ok(())
+    put_header_number(out, b"permissions", program.permissions)
 }
 
 /// `global* init invariant* action* proc* thread*`
@@ -51,8 +49,7 @@ fn put_declarations(out: &mut Vec<u8>, program: &Program) -> Result<(), Memory>
     put_each(out, &program.invariants)?;
     put_each(out, &program.actions)?;
     put_each(out, &program.procs)?;
-    put_each(out, &program.threads)?;
-    Ok(())
+    put_each(out, &program.threads)
 }
 
 fn put_program(out: &mut Vec<u8>, program: &Program) -> Result<(), Memory>

@@ -31,8 +31,7 @@ pub(crate) fn put_typed(out: &mut Vec<u8>, name: &Name, sort: Sort) -> Result<()
 {
     put_name(out, name)?;
     put_sign(out, b":")?;
-    put_sort(out, sort)?;
-    Ok(())
+    put_sort(out, sort)
 }
 
 /// A parameter. An output is spelled as a parameter is: `mode name : sort`.
@@ -42,8 +41,7 @@ impl Phrase for Param {
     #[tactic(auto, using(crate::proofs::Writing::joins))]
     fn put(&self, out: &mut Vec<u8>) -> Result<(), Memory> {
         put_mode(out, self.mode)?;
-        put_typed(out, &self.name, self.sort)?;
-        Ok(())
+        put_typed(out, &self.name, self.sort)
     }
 }
 
@@ -55,8 +53,7 @@ impl Phrase for Choice {
     fn put(&self, out: &mut Vec<u8>) -> Result<(), Memory> {
         put_typed(out, &self.name, self.sort)?;
         put_sign(out, b"=")?;
-        put_expr(out, &self.offer)?;
-        Ok(())
+        put_expr(out, &self.offer)
     }
 }
 
@@ -77,8 +74,7 @@ impl Phrase for Update {
     ghost spell = { spell_update };
 
     fn put(&self, out: &mut Vec<u8>) -> Result<(), Memory> {
-        put_assignment(out, &self.target, &self.expr)?;
-        Ok(())
+        put_assignment(out, &self.target, &self.expr)
     }
 }
 
@@ -95,8 +91,7 @@ pub(crate) fn put_signature(
     put_name(out, name)?;
     put_list(out, params)?;
     put_sign(out, b"->")?;
-    put_list(out, outs)?;
-    Ok(())
+    put_list(out, outs)
 }
 
 /// `layers number to number`
@@ -107,8 +102,7 @@ pub(crate) fn put_layers(out: &mut Vec<u8>, first: u32, last: u32) -> Result<(),
     put_word(out, b"layers")?;
     put_number(out, first)?;
     put_word(out, b"to")?;
-    put_number(out, last)?;
-    Ok(())
+    put_number(out, last)
 }
 
 /// `gate expr guard expr`
@@ -119,8 +113,7 @@ fn put_conditions(out: &mut Vec<u8>, gate: &Expr, guard: &Expr) -> Result<(), Me
     put_word(out, b"gate")?;
     put_expr(out, gate)?;
     put_word(out, b"guard")?;
-    put_expr(out, guard)?;
-    Ok(())
+    put_expr(out, guard)
 }
 
 /// `choose ( list(choice) )`
@@ -129,8 +122,7 @@ fn put_choices(out: &mut Vec<u8>, choices: &List<Choice>) -> Result<(), Memory>
     ensures { OnOk result (out.new.items ≡ out.old.items ++ written (choices_of choices.now)) }
 {
     put_word(out, b"choose")?;
-    put_list(out, choices)?;
-    Ok(())
+    put_list(out, choices)
 }
 
 /// `{ update* }`
@@ -140,8 +132,7 @@ fn put_updates(out: &mut Vec<u8>, updates: &List<Update>) -> Result<(), Memory>
 {
     put_sign(out, b"{")?;
     put_each(out, updates)?;
-    put_sign(out, b"}")?;
-    Ok(())
+    put_sign(out, b"}")
 }
 
 /// An action.

@@ -37,11 +37,14 @@ impl Phrase for GlobalVar {
 }
 
 /// `init expr ;`
+///
+/// # Errors
+///
+/// For want of memory.
 pub fn put_init(out: &mut Vec<u8>, init: &Expr) -> Result<(), Memory>
     ensures { OnOk result (out.new.items ≡ out.old.items ++ written (spell_init init.now)) }
 {
-    put_fact(out, b"init", init)?;
-    Ok(())
+    put_fact(out, b"init", init)
 }
 
 /// `invariant number expr ;`
@@ -62,7 +65,6 @@ impl Phrase for Thread {
     ghost spell = { spell_thread };
 
     fn put(&self, out: &mut Vec<u8>) -> Result<(), Memory> {
-        put_start(out, b"thread", &self.callee, &self.args)?;
-        Ok(())
+        put_start(out, b"thread", &self.callee, &self.args)
     }
 }

@@ -18,6 +18,10 @@ pub trait Phrase {
 }
 
 /// `X*`
+///
+/// # Errors
+///
+/// For want of memory.
 #[tactic(auto, using(crate::proofs::Writing::joins))]
 pub fn put_each<P: Phrase>(out: &mut Vec<u8>, phrases: &List<P>) -> Result<(), Memory>
     ensures { OnOk result (out.new.items ≡ out.old.items ++ written (joined (map P.spell phrases.now))) }
@@ -49,8 +53,7 @@ fn put_separated<P: Phrase>(out: &mut Vec<u8>, phrases: &[P]) -> Result<(), Memo
         None => Ok(()),
         Some((first, others)) => {
             first.put(out)?;
-            put_others(out, others)?;
-            Ok(())
+            put_others(out, others)
         }
     }
 }
@@ -62,6 +65,5 @@ pub(crate) fn put_list<P: Phrase>(out: &mut Vec<u8>, phrases: &List<P>) -> Resul
 {
     put_sign(out, b"(")?;
     put_separated(out, phrases.as_slice())?;
-    put_sign(out, b")")?;
-    Ok(())
+    put_sign(out, b")")
 }

@@ -20,8 +20,7 @@ fn put_refines(out: &mut Vec<u8>, refines: &Refines) -> Result<(), Memory>
     put_word(out, b"with")?;
     put_list(out, &refines.with)?;
     put_word(out, b"layer")?;
-    put_number(out, refines.layer)?;
-    Ok(())
+    put_number(out, refines.layer)
 }
 
 /// `root`, or what is refined
@@ -30,14 +29,8 @@ fn put_rank_of(out: &mut Vec<u8>, refines: &Option<Refines>) -> Result<(), Memor
     ensures { OnOk result (out.new.items ≡ out.old.items ++ written (spell_rank_of refines.now)) }
 {
     match refines {
-        None => {
-            put_word(out, b"root")?;
-            Ok(())
-        }
-        Some(refines) => {
-            put_refines(out, refines)?;
-            Ok(())
-        }
+        None => put_word(out, b"root"),
+        Some(refines) => put_refines(out, refines),
     }
 }
 
@@ -60,8 +53,7 @@ impl Phrase for Local {
     fn put(&self, out: &mut Vec<u8>) -> Result<(), Memory> {
         put_kind(out, self.linear)?;
         put_typed(out, &self.name, self.sort)?;
-        put_sign(out, b";")?;
-        Ok(())
+        put_sign(out, b";")
     }
 }
 
@@ -73,8 +65,7 @@ fn put_body(out: &mut Vec<u8>, locals: &List<Local>, body: &List<Stmt>) -> Resul
     put_sign(out, b"{")?;
     put_each(out, locals)?;
     put_stmts(out, body)?;
-    put_sign(out, b"}")?;
-    Ok(())
+    put_sign(out, b"}")
 }
 
 /// A procedure.

@@ -23,8 +23,7 @@ impl Phrase for Name {
 
     #[tactic(auto, using(crate::proofs::Writing::joins))]
     fn put(&self, out: &mut Vec<u8>) -> Result<(), Memory> {
-        put_name(out, self)?;
-        Ok(())
+        put_name(out, self)
     }
 }
 
@@ -36,8 +35,7 @@ pub(crate) fn put_assignment(out: &mut Vec<u8>, target: &Name, value: &Expr) -> 
     put_name(out, target)?;
     put_sign(out, b":=")?;
     put_expr(out, value)?;
-    put_sign(out, b";")?;
-    Ok(())
+    put_sign(out, b";")
 }
 
 /// A word, and then `expr ;`
@@ -47,8 +45,7 @@ pub(crate) fn put_fact(out: &mut Vec<u8>, word: &[u8], fact: &Expr) -> Result<()
 {
     put_word(out, word)?;
     put_expr(out, fact)?;
-    put_sign(out, b";")?;
-    Ok(())
+    put_sign(out, b";")
 }
 
 /// `name ( list(expr) )`
@@ -57,8 +54,7 @@ pub(crate) fn put_callee(out: &mut Vec<u8>, callee: &Name, args: &List<Expr>) ->
     ensures { OnOk result (out.new.items ≡ out.old.items ++ written (name_token callee.now ∷ enclosed spell_expr args.now)) }
 {
     put_name(out, callee)?;
-    put_list(out, args)?;
-    Ok(())
+    put_list(out, args)
 }
 
 /// `call name ( list(expr) ) -> ( list(name) ) ;`
@@ -78,8 +74,7 @@ fn put_call(
     put_callee(out, callee, args)?;
     put_sign(out, b"->")?;
     put_list(out, results)?;
-    put_sign(out, b";")?;
-    Ok(())
+    put_sign(out, b";")
 }
 
 /// A word, and then `name ( list(expr) ) ;`
@@ -96,8 +91,7 @@ pub(crate) fn put_start(
 {
     put_word(out, word)?;
     put_callee(out, callee, args)?;
-    put_sign(out, b";")?;
-    Ok(())
+    put_sign(out, b";")
 }
 
 /// `yield expr inv expr`
@@ -110,8 +104,7 @@ fn put_yield(out: &mut Vec<u8>, test: &Expr, inv: &Expr) -> Result<(), Memory>
     put_word(out, b"yield")?;
     put_expr(out, test)?;
     put_word(out, b"inv")?;
-    put_expr(out, inv)?;
-    Ok(())
+    put_expr(out, inv)
 }
 
 /// `rank expr by expr inv expr`
@@ -127,8 +120,7 @@ fn put_rank(out: &mut Vec<u8>, test: &Expr, rank: &Expr, inv: &Expr) -> Result<(
     put_word(out, b"by")?;
     put_expr(out, rank)?;
     put_word(out, b"inv")?;
-    put_expr(out, inv)?;
-    Ok(())
+    put_expr(out, inv)
 }
 
 /// A statement.
@@ -138,62 +130,41 @@ fn put_stmt(out: &mut Vec<u8>, stmt: &Stmt) -> Result<(), Memory>
     ensures { OnOk result (out.new.items ≡ out.old.items ++ written (spell_stmt stmt.now)) }
 {
     match stmt {
-        Stmt::Assign(target, value) => {
-            put_assignment(out, target, value)?;
-            Ok(())
-        }
-        Stmt::Assert(fact) => {
-            put_fact(out, b"assert", fact)?;
-            Ok(())
-        }
+        Stmt::Assign(target, value) => put_assignment(out, target, value),
+        Stmt::Assert(fact) => put_fact(out, b"assert", fact),
         Stmt::If(test, first, second) => {
             put_word(out, b"if")?;
             put_expr(out, test)?;
             put_block(out, first)?;
             put_word(out, b"else")?;
-            put_block(out, second)?;
-            Ok(())
+            put_block(out, second)
         }
         Stmt::While(test, body) => {
             put_word(out, b"while")?;
             put_expr(out, test)?;
-            put_block(out, body)?;
-            Ok(())
+            put_block(out, body)
         }
         Stmt::YieldLoop(test, inv, body) => {
             put_word(out, b"while")?;
             put_yield(out, test, inv)?;
-            put_block(out, body)?;
-            Ok(())
+            put_block(out, body)
         }
         Stmt::RankLoop(test, rank, inv, body) => {
             put_word(out, b"while")?;
             put_rank(out, test, rank, inv)?;
-            put_block(out, body)?;
-            Ok(())
+            put_block(out, body)
         }
-        Stmt::Call(callee, args, results) => {
-            put_call(out, callee, args, results)?;
-            Ok(())
-        }
-        Stmt::Yield(inv) => {
-            put_fact(out, b"yield", inv)?;
-            Ok(())
-        }
+        Stmt::Call(callee, args, results) => put_call(out, callee, args, results),
+        Stmt::Yield(inv) => put_fact(out, b"yield", inv),
         Stmt::Commit => {
             put_word(out, b"commit")?;
-            put_sign(out, b";")?;
-            Ok(())
+            put_sign(out, b";")
         }
         Stmt::Intro(target, value) => {
             put_word(out, b"intro")?;
-            put_assignment(out, target, value)?;
-            Ok(())
+            put_assignment(out, target, value)
         }
-        Stmt::Spawn(callee, args) => {
-            put_start(out, b"spawn", callee, args)?;
-            Ok(())
-        }
+        Stmt::Spawn(callee, args) => put_start(out, b"spawn", callee, args),
     }
 }
 
@@ -207,8 +178,7 @@ fn put_block(out: &mut Vec<u8>, stmts: &List<Stmt>) -> Result<(), Memory>
 {
     put_sign(out, b"{")?;
     put_stmts(out, stmts)?;
-    put_sign(out, b"}")?;
-    Ok(())
+    put_sign(out, b"}")
 }
 
 /// `stmt*`: a list in a recursion has a loop of its own.

@@ -8,6 +8,10 @@ use civl_tree::{Memory, Name};
 use itoa::Buffer;
 
 /// A reserved word.
+///
+/// # Errors
+///
+/// For want of memory.
 #[tactic(auto, using(std::proofs::lemmas::Grind::common_steps), unfolding(crate::specs::Written::written_token))]
 pub fn put_word(out: &mut Vec<u8>, word: &[u8]) -> Result<(), Memory>
     ensures { OnOk result (out.new.items ≡ out.old.items ++ written_token (Reserved word.now)) }
@@ -28,6 +32,10 @@ pub(crate) fn put_name(out: &mut Vec<u8>, name: &Name) -> Result<(), Memory>
 }
 
 /// A number in decimal.
+///
+/// # Errors
+///
+/// For want of memory.
 #[tactic(auto, using(std::proofs::lemmas::Grind::common_steps), unfolding(crate::specs::Written::written_token))]
 pub fn put_number(out: &mut Vec<u8>, number: u32) -> Result<(), Memory>
     ensures { OnOk result (out.new.items ≡ out.old.items ++ written_token (Number number)) }
@@ -40,6 +48,10 @@ pub fn put_number(out: &mut Vec<u8>, number: u32) -> Result<(), Memory>
 }
 
 /// A sign. A line ends behind `;`, `{` and `}`.
+///
+/// # Errors
+///
+/// For want of memory.
 #[tactic(auto, using(std::proofs::lemmas::Grind::common_steps), unfolding(crate::specs::Written::written_token))]
 pub fn put_sign(out: &mut Vec<u8>, sign: &[u8]) -> Result<(), Memory>
     ensures { OnOk result (out.new.items ≡ out.old.items ++ written_token (Sign sign.now)) }

@@ -35,8 +35,7 @@ fn put_lit(out: &mut Vec<u8>, lit: Lit) -> Result<(), Memory>
 {
     put_sign(out, lit.positive())?;
     put_number(out, lit.variable() as usize + 1)?;
-    put(out, b" ")?;
-    Ok(())
+    put(out, b" ")
 }
 
 /// The line of a clause.
@@ -46,8 +45,7 @@ fn put_clause(out: &mut Vec<u8>, clause: &[Lit]) -> Result<(), Memory>
     for lit in clause {
         put_lit(out, *lit)?;
     }
-    put(out, b"0\n")?;
-    Ok(())
+    put(out, b"0\n")
 }
 
 /// The lines of clauses.

@@ -131,8 +131,7 @@ impl Trail {
     {
         let place = self.steps.len();
         self.starts.push(place)?;
-        self.push(lit, None)?;
-        Ok(())
+        self.push(lit, None)
     }
 
     /// Takes back the start of the last level.

@@ -96,13 +96,12 @@ pub fn swap(
     if run_alike(alloc, plain, from, moves.as_slice(), turned.as_slice())? {
         return Ok(Swapped::Same(turned));
     }
-    let swapped = shortened(
+    shortened(
         alloc,
         plain,
         from,
         moves.as_slice(),
         turned.as_slice(),
         place,
-    )?;
-    Ok(swapped)
+    )
 }

@@ -226,10 +226,7 @@ pub(crate) fn invariant_at(
     ensures weighs { OnOk result (graph_weight terms.new + 2 ≤ graph_weight terms.old + 4 * part_weight start.now.program.now start.now.step start.now.proc.now start.now.cut Invariant way.now.end) }
 {
     match cuts.get(way.end as usize) {
-        Some(cut) => {
-            let asked = invariant_there(alloc, terms, start, beginning, way, flat, *cut)?;
-            Ok(asked)
-        }
+        Some(cut) => invariant_there(alloc, terms, start, beginning, way, flat, *cut),
         None => Ok(None),
     }
 }

@@ -135,10 +135,9 @@ pub fn violation(
 {
     match *condition {
         Condition::Path(part, step, number, place) => {
-            let id = path_fails(
+            path_fails(
                 alloc, terms, src, held, bodies, sorts, part, step, number, place,
-            )?;
-            Ok(id)
+            )
         }
         _ => unreachable!(),
     }

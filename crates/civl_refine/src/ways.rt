@@ -51,26 +51,11 @@ fn kept_at(
 {
     match part {
         Part::Gate => Ok(None),
-        Part::Invariant => {
-            let asked = invariant_at(alloc, terms, start, beginning, way, cuts, flat)?;
-            Ok(asked)
-        }
-        Part::Once => {
-            let asked = once_at(alloc, terms, start, beginning, way, cuts)?;
-            Ok(asked)
-        }
-        Part::Stutter => {
-            let asked = stutter_at(alloc, terms, start, beginning, way, cuts)?;
-            Ok(asked)
-        }
-        Part::Perform => {
-            let asked = perform_at(alloc, terms, start, beginning, way, cuts)?;
-            Ok(asked)
-        }
-        Part::Rank => {
-            let asked = rank_at(alloc, terms, start, beginning, way, flat)?;
-            Ok(asked)
-        }
+        Part::Invariant => invariant_at(alloc, terms, start, beginning, way, cuts, flat),
+        Part::Once => once_at(alloc, terms, start, beginning, way, cuts),
+        Part::Stutter => stutter_at(alloc, terms, start, beginning, way, cuts),
+        Part::Perform => perform_at(alloc, terms, start, beginning, way, cuts),
+        Part::Rank => rank_at(alloc, terms, start, beginning, way, flat),
     }
 }
 

@@ -180,10 +180,9 @@ fn statement_challenged(
 {
     match stmt {
         Stmt::Call(name, args, results) => {
-            let challenged = call_challenged(
+            call_challenged(
                 alloc, plain, layer, store, proc, locals, name, args, results,
-            )?;
-            Ok(challenged)
+            )
         }
         Stmt::Assign(_, _) => Ok(false),
         Stmt::Assert(_) => Ok(false),
@@ -293,8 +292,7 @@ fn thread_challenged(
         return Ok(true);
     }
     let framed = frame_of_layer(&plain.program, layer + 1, thread);
-    let challenged = frame_challenged(alloc, &plain.program, store, done, framed)?;
-    Ok(challenged)
+    frame_challenged(alloc, &plain.program, store, done, framed)
 }
 
 /// Whether one of these threads is challenged.
@@ -342,13 +340,12 @@ pub fn is_challenged(
     let seen = Store {
         values: List::from_vec(values),
     };
-    let challenged = some_challenged(
+    some_challenged(
         alloc,
         plain,
         layer,
         &seen,
         &shadowed.shadow.done,
         shadowed.config.threads.as_slice(),
-    )?;
-    Ok(challenged)
+    )
 }

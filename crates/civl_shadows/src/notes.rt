@@ -113,8 +113,7 @@ pub fn note_values(
     ensures { IfOk result (λ vs. vs ≡ values_of (plain_note_values program.now.globals proc.now (record { values = values.now }) locals.now) exprs.now) }
 {
     let setting = in_note(program.globals.as_slice(), proc, locals, values);
-    let found = expressions::values(alloc, &setting, exprs)?;
-    Ok(found)
+    expressions::values(alloc, &setting, exprs)
 }
 
 /// A commit.

@@ -217,8 +217,7 @@ fn begin_done(
         let id = terms.constant(Constant::Bool(false))?;
         return Ok(id);
     }
-    let id = flag(terms, sorts, places.done)?;
-    Ok(id)
+    flag(terms, sorts, places.done)
 }
 
 /// The old `done`: a variable of its own at a rank loop, and else the present one.

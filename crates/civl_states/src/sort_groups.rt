@@ -40,8 +40,7 @@ pub(crate) fn push_instance(sorts: &mut Vec<Sort>, action: &Action) -> Result<()
     ensures { OnOk result (sorts.new.items ≡ sorts.old.items ++ instance_sorts action.now) }
 {
     push_params(sorts, action.params.as_slice())?;
-    push_choices(sorts, action.choices.as_slice())?;
-    Ok(())
+    push_choices(sorts, action.choices.as_slice())
 }
 
 /// Those of the globals among these.
@@ -64,6 +63,5 @@ pub(crate) fn push_globals(
 ) -> Result<(), Memory>
     ensures { OnOk result (sorts.new.items ≡ sorts.old.items ++ existing_sorts which program.now) }
 {
-    push_passing(sorts, which, program.globals.as_slice())?;
-    Ok(())
+    push_passing(sorts, which, program.globals.as_slice())
 }

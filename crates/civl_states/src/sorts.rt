@@ -51,8 +51,7 @@ fn push_inputs(sorts: &mut Vec<Sort>, program: &Program, number: u32) -> Result<
 fn push_lower(sorts: &mut Vec<Sort>, program: &Program, step: u32) -> Result<(), Memory>
     ensures { OnOk result (sorts.new.items ≡ sorts.old.items ++ lower_sorts program.now step) }
 {
-    push_globals(sorts, program, Existing::Layer(step.saturating_sub(1)))?;
-    Ok(())
+    push_globals(sorts, program, Existing::Layer(step.saturating_sub(1)))
 }
 
 // ---- procedures
@@ -173,40 +172,31 @@ fn push_groups(
 {
     let program = program(src);
     match *condition {
-        Condition::Start(_, _) => {
-            push_globals(sorts, program, Existing::All)?;
-            Ok(())
-        }
+        Condition::Start(_, _) => push_globals(sorts, program, Existing::All),
         Condition::Keep(step, action) => {
             push_lower(sorts, program, step)?;
-            push_action(sorts, program, action)?;
-            Ok(())
+            push_action(sorts, program, action)
         }
         Condition::Pair(_, step, first, second) => {
             push_lower(sorts, program, step)?;
             push_action(sorts, program, first)?;
-            push_action(sorts, program, second)?;
-            Ok(())
+            push_action(sorts, program, second)
         }
         Condition::Fire(step, action) => {
             push_lower(sorts, program, step)?;
-            push_inputs(sorts, program, action)?;
-            Ok(())
+            push_inputs(sorts, program, action)
         }
         Condition::Path(_, step, proc, cut) => {
-            push_cut(alloc, sorts, src, bodies, step, proc, cut)?;
-            Ok(())
+            push_cut(alloc, sorts, src, bodies, step, proc, cut)
         }
         Condition::Block(step, proc, cut, target) => {
             push_cut(alloc, sorts, src, bodies, step, proc, cut)?;
-            push_other(sorts, program, target)?;
-            Ok(())
+            push_other(sorts, program, target)
         }
         Condition::Act(step, action, target) => {
             push_globals(sorts, program, Existing::Near(step))?;
             push_action(sorts, program, action)?;
-            push_other(sorts, program, target)?;
-            Ok(())
+            push_other(sorts, program, target)
         }
     }
 }

@@ -41,10 +41,7 @@ pub fn unary(
 {
     match a {
         Symbolic::Bool(lit) => Ok(Symbolic::Bool(lit.negate())),
-        Symbolic::Word(lits) => {
-            let made = unary_of_word(gates, alloc, one, op, lits.as_slice())?;
-            Ok(made)
-        }
+        Symbolic::Word(lits) => { unary_of_word(gates, alloc, one, op, lits.as_slice()) }
     }
 }
 

@@ -50,18 +50,12 @@ pub fn binary(
 {
     match a {
         Symbolic::Bool(x) => match b {
-            Symbolic::Bool(y) => {
-                let made = of_bools(gates, one, op, *x, *y)?;
-                Ok(made)
-            }
+            Symbolic::Bool(y) => { of_bools(gates, one, op, *x, *y) }
             Symbolic::Word(_) => unreachable!(),
         },
         Symbolic::Word(xs) => match b {
             Symbolic::Bool(_) => unreachable!(),
-            Symbolic::Word(ys) => {
-                let made = of_words(gates, alloc, one, op, xs.as_slice(), ys.as_slice())?;
-                Ok(made)
-            }
+            Symbolic::Word(ys) => { of_words(gates, alloc, one, op, xs.as_slice(), ys.as_slice()) }
         },
     }
 }
@@ -198,10 +192,7 @@ pub fn pick(
     ensures extends { Extends gates.old gates.new }
 {
     match c {
-        Symbolic::Bool(test) => {
-            let made = pick_by(gates, alloc, *test, a, b)?;
-            Ok(made)
-        }
+        Symbolic::Bool(test) => { pick_by(gates, alloc, *test, a, b) }
         Symbolic::Word(_) => unreachable!(),
     }
 }

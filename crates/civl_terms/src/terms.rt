@@ -172,14 +172,10 @@ impl Terms {
     {
         let _count = self.len();
         match folded {
-            Folded::New => {
-                let id = self.add(node, sort)?;
-                Ok(id)
-            }
+            Folded::New => { self.add(node, sort) }
             Folded::Constant(value) => {
                 let sort = sort_of(&value);
-                let id = self.add(Node::Constant(value), sort)?;
-                Ok(id)
+                self.add(Node::Constant(value), sort)
             }
             Folded::First => Ok(operands.0),
             Folded::Second => Ok(operands.1),

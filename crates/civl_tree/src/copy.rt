@@ -129,8 +129,7 @@ pub fn copy_expr(alloc: Alloc, expr: &Expr) -> Result<Expr, Memory>
 
 impl TryClone for Expr {
     fn try_clone(&self, alloc: Alloc) -> Result<Expr, Memory> {
-        let copy = copy_expr(alloc, self)?;
-        Ok(copy)
+        copy_expr(alloc, self)
     }
 }
 

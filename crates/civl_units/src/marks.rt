@@ -26,6 +26,10 @@ impl Model for Marks {
 
 impl Marks {
     /// No marks on so many variables.
+    ///
+    /// # Errors
+    ///
+    /// For want of memory.
     pub fn new(alloc: Global, variables: u32) -> Result<Marks, Memory>
         ensures { IfOk result (λ marks. marks ≡ record { values = replicate variables None; trail = [] }) }
     {
@@ -60,6 +64,10 @@ impl Marks {
     }
 
     /// Gives the literal's variable, which has no value, the one that makes the literal true.
+    ///
+    /// # Errors
+    ///
+    /// For want of memory; nothing is changed then.
     pub fn set(&mut self, lit: Lit) -> Result<(), Memory>
         requires below { lit.variable < length self.old.values }
         requires free { IsOpen self.old.values lit }

@@ -88,6 +88,10 @@ fn is_single(clause: &[Lit]) -> bool
 
 impl Occurrences {
     /// Empty lists, for so many variables.
+    ///
+    /// # Errors
+    ///
+    /// For want of memory.
     pub fn new(alloc: Global, variables: u32) -> Result<Occurrences, Memory>
         ensures { IfOk result (λ lists. lists ≡ record { variables = replicate variables nowhere; units = [] }) }
     {
@@ -111,6 +115,10 @@ impl Occurrences {
     }
 
     /// Adds a clause under its number. Where memory is wanting, a front of its literals may be listed.
+    ///
+    /// # Errors
+    ///
+    /// For want of memory.
     pub fn add(&mut self, clause: &[Lit], number: usize) -> Result<(), Memory>
         requires { IsBelow (length self.old.variables) clause.now }
         ensures size { length self.new.variables ≡ length self.old.variables }
@@ -144,6 +152,10 @@ impl Occurrences {
 }
 
 /// Where the literals stand in the clause set, its clauses numbered from 0.
+///
+/// # Errors
+///
+/// For want of memory.
 pub fn occurrences_of(alloc: Global, cnf: &Cnf) -> Result<Occurrences, Memory>
     ensures size { IfOk result (λ lists. length lists.variables ≡ cnf.now.variables) }
     ensures lists { IfOk result (AreOccurrences cnf.now.clauses) }

@@ -95,6 +95,10 @@ fn visit_variable(
 }
 
 /// Propagates units from the marks, until a clause is falsified or none forces anything: whether one is falsified. The clauses to look at are those that force a literal by themselves, and then, along the trail, those in which a literal became false.
+///
+/// # Errors
+///
+/// For want of memory.
 pub fn propagate(
     marks: &mut Marks,
     occurrences: &Occurrences,
@@ -126,6 +130,10 @@ pub fn propagate(
 }
 
 /// Marks each literal of a clause as false, unless a variable is unknown or stands twice.
+///
+/// # Errors
+///
+/// For want of memory.
 pub fn assume(marks: &mut Marks, clause: &[Lit]) -> Result<bool, Memory>
     requires none { All (λ m. m ≡ None) marks.old.values }
     ensures yes { IfOk result (λ all. IsTrue all → AreAssumed marks.new.values clause.now) }

@@ -211,6 +211,10 @@ fn found(matches: &ArgMatches) -> Option<Command>
 }
 
 /// The command that the words after the program's name are those of; None, where they are those of none. The error is want of memory.
+///
+/// # Errors
+///
+/// For want of memory.
 pub fn command_of(alloc: Global, words: &Vec<String>) -> Result<Option<Command>, Memory>
     ensures { IfOk result (λ it. it ≡ command_of (map string_bytes words.now.items)) }
 {

@@ -45,8 +45,7 @@ pub fn refusal(alloc: Global, program: &Program) -> Result<Option<Refusal>, Memo
     ensures same { IfOk result (λ refusal. refusal ≡ refusal_by yield_rules program.now) }
     ensures first { IfOk result (λ refusal. IsRefusal yield_rules program.now refusal) }
 {
-    let found = first_of_rules(alloc, program)?;
-    Ok(found)
+    first_of_rules(alloc, program)
 }
 
 /// The phases before the calls of a layered program that keeps the rules E50 to E53: for each procedure and each of its

@@ -14,21 +14,11 @@ fn add_insides(stmt: &Stmt, inside: bool, flags: &mut Vec<bool>) -> Result<(), M
     match stmt {
         Stmt::If(_, first, second) => {
             add_insides_all(first, inside, flags)?;
-            add_insides_all(second, inside, flags)?;
-            Ok(())
+            add_insides_all(second, inside, flags)
         }
-        Stmt::While(_, body) => {
-            add_insides_all(body, inside, flags)?;
-            Ok(())
-        }
-        Stmt::YieldLoop(_, _, body) => {
-            add_insides_all(body, inside, flags)?;
-            Ok(())
-        }
-        Stmt::RankLoop(_, _, _, body) => {
-            add_insides_all(body, true, flags)?;
-            Ok(())
-        }
+        Stmt::While(_, body) => add_insides_all(body, inside, flags),
+        Stmt::YieldLoop(_, _, body) => add_insides_all(body, inside, flags),
+        Stmt::RankLoop(_, _, _, body) => add_insides_all(body, true, flags),
         Stmt::Assign(_, _) => Ok(()),
         Stmt::Assert(_) => Ok(()),
         Stmt::Call(_, _, _) => Ok(()),

@@ -35,8 +35,7 @@ fn phases_of(alloc: Global, program: &Program, proc: &Proc) -> Result<List<bool>
         Some(_) => {
             let flat = statements(alloc, &proc.body)?;
             let phases = phases_before(alloc, program, &proc.body)?;
-            let left = before_calls(alloc, &flat, &phases)?;
-            Ok(left)
+            before_calls(alloc, &flat, &phases)
         }
         None => Ok(List::new(alloc)),
     }

@@ -61,18 +61,9 @@ fn two(
     ensures made { IfOk result (λ ids. MakesCells terms.old terms.new table.now (node.Two op a b) at ids) }
 {
     match op {
-        Two::Eq => {
-            let ids = rowed::compare(alloc, terms, table, at, Two::Eq, Two::And, a, b)?;
-            Ok(ids)
-        }
-        Two::Ne => {
-            let ids = rowed::compare(alloc, terms, table, at, Two::Ne, Two::Or, a, b)?;
-            Ok(ids)
-        }
-        _ => {
-            let ids = plain::two(alloc, terms, table, at, op, a, b)?;
-            Ok(ids)
-        }
+        Two::Eq => rowed::compare(alloc, terms, table, at, Two::Eq, Two::And, a, b),
+        Two::Ne => rowed::compare(alloc, terms, table, at, Two::Ne, Two::Or, a, b),
+        _ => plain::two(alloc, terms, table, at, op, a, b),
     }
 }
 
@@ -91,50 +82,17 @@ fn operation(
     ensures made { IfOk result (λ ids. MakesCells terms.old terms.new table.now node at ids) }
 {
     match node {
-        Node::Constant(value) => {
-            let ids = constant(alloc, terms, table, at, value)?;
-            Ok(ids)
-        }
-        Node::One(op, a) => {
-            let ids = plain::one(alloc, terms, table, at, op, a)?;
-            Ok(ids)
-        }
-        Node::Two(op, a, b) => {
-            let ids = two(alloc, terms, table, at, op, a, b)?;
-            Ok(ids)
-        }
-        Node::Pick(c, a, b) => {
-            let ids = rowed::pick(alloc, terms, table, at, c, a, b)?;
-            Ok(ids)
-        }
-        Node::Get(row, index) => {
-            let ids = rowed::get(alloc, terms, table, at, row, index)?;
-            Ok(ids)
-        }
-        Node::Set(row, index, cell) => {
-            let ids = rowed::set(alloc, terms, table, at, row, index, cell)?;
-            Ok(ids)
-        }
-        Node::Fill(index, cell) => {
-            let ids = rowed::fill(alloc, terms, table, at, index, cell)?;
-            Ok(ids)
-        }
-        Node::Slice(a, high, low) => {
-            let ids = plain::slice(alloc, terms, table, at, a, high, low)?;
-            Ok(ids)
-        }
-        Node::Widen(a, width) => {
-            let ids = plain::widen(alloc, terms, table, at, a, width)?;
-            Ok(ids)
-        }
-        Node::Join(a, b) => {
-            let ids = plain::join(alloc, terms, table, at, a, b)?;
-            Ok(ids)
-        }
-        Node::Variable(_, _) => {
-            let ids = single(alloc, at)?;
-            Ok(ids)
-        }
+        Node::Constant(value) => constant(alloc, terms, table, at, value),
+        Node::One(op, a) => plain::one(alloc, terms, table, at, op, a),
+        Node::Two(op, a, b) => two(alloc, terms, table, at, op, a, b),
+        Node::Pick(c, a, b) => rowed::pick(alloc, terms, table, at, c, a, b),
+        Node::Get(row, index) => rowed::get(alloc, terms, table, at, row, index),
+        Node::Set(row, index, cell) => rowed::set(alloc, terms, table, at, row, index, cell),
+        Node::Fill(index, cell) => rowed::fill(alloc, terms, table, at, index, cell),
+        Node::Slice(a, high, low) => plain::slice(alloc, terms, table, at, a, high, low),
+        Node::Widen(a, width) => plain::widen(alloc, terms, table, at, a, width),
+        Node::Join(a, b) => plain::join(alloc, terms, table, at, a, b),
+        Node::Variable(_, _) => single(alloc, at),
     }
 }
 

@@ -49,8 +49,7 @@ fn visit(
     }
     let _count = terms.len();
     let node = *terms.node(at);
-    let ids = step(alloc, terms, table, cells, first, at, node)?;
-    Ok(ids)
+    step(alloc, terms, table, cells, first, at, node)
 }
 
 /// A term without rows that has the same value as a boolean term, and the variables that stand for the cells of the

@@ -39,13 +39,9 @@ pub fn violation(
 {
     let program = program(src);
     match *condition {
-        Condition::Start(step, place) => {
-            let id = start_fails(alloc, terms, program, sorts, step, place)?;
-            Ok(id)
-        }
+        Condition::Start(step, place) => start_fails(alloc, terms, program, sorts, step, place),
         Condition::Act(step, action, Target::Invariant(place)) => {
-            let id = act_fails(alloc, terms, program, sorts, step, action, place)?;
-            Ok(id)
+            act_fails(alloc, terms, program, sorts, step, action, place)
         }
         _ => unreachable!(),
     }

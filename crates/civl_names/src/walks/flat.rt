@@ -25,21 +25,11 @@ fn add_inner<'a>(flat: &mut Vec<&'a Stmt>, stmt: &'a Stmt) -> Result<(), Memory>
     match stmt {
         Stmt::If(_, first, second) => {
             add_all(flat, first)?;
-            add_all(flat, second)?;
-            Ok(())
+            add_all(flat, second)
         }
-        Stmt::While(_, body) => {
-            add_all(flat, body)?;
-            Ok(())
-        }
-        Stmt::YieldLoop(_, _, body) => {
-            add_all(flat, body)?;
-            Ok(())
-        }
-        Stmt::RankLoop(_, _, _, body) => {
-            add_all(flat, body)?;
-            Ok(())
-        }
+        Stmt::While(_, body) => { add_all(flat, body) }
+        Stmt::YieldLoop(_, _, body) => { add_all(flat, body) }
+        Stmt::RankLoop(_, _, _, body) => { add_all(flat, body) }
         Stmt::Assign(_, _)
         | Stmt::Assert(_)
         | Stmt::Call(_, _, _)

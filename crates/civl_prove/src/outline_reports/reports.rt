@@ -45,8 +45,7 @@ fn put_goal(alloc: Global, out: &mut Vec<u8>, src: &Layered, goal: &Goal) -> Res
     ensures { OnOk result (out.new.items ≡ out.old.items ++ goal_text src.now goal.now) }
 {
     let name = goal_name(alloc, src, goal)?;
-    put(out, name.as_slice())?;
-    Ok(())
+    put(out, name.as_slice())
 }
 
 /// The first goal that weighs too much.
@@ -69,8 +68,7 @@ fn put_safe(out: &mut Vec<u8>, conditions: usize, goals: usize) -> Result<(), Me
     let mut buffer = Buffer::new();
     put(out, b"safe ")?;
     put(out, buffer.format(all).as_bytes())?;
-    put(out, b" conditions\n")?;
-    Ok(())
+    put(out, b" conditions\n")
 }
 
 /// A line for each variable, with its value.
@@ -101,8 +99,7 @@ fn put_unproved(
     put(out, b"unproved ")?;
     put_goal(alloc, out, src, goal)?;
     put(out, b"\n")?;
-    put_lines(out, &variables, values)?;
-    Ok(())
+    put_lines(out, &variables, values)
 }
 
 /// The goal that isn't decided, and the budget of its search.
@@ -119,8 +116,7 @@ fn put_open(
     put_goal(alloc, out, src, goal)?;
     put(out, b" after ")?;
     put_number(out, budget as usize)?;
-    put(out, b"\n")?;
-    Ok(())
+    put(out, b"\n")
 }
 
 /// What is found of the goals of a program with so many conditions.
@@ -157,14 +153,12 @@ fn put_proving(
         Proving::Roots(item, statement) => put_roots(out, *item, *statement),
         Proving::Heavy(first) => {
             let text = report_heavy(alloc, src, *first)?;
-            put(out, text.as_slice())?;
-            Ok(())
+            put(out, text.as_slice())
         }
         Proving::HeavyGoal(goal) => put_heavy(alloc, out, src, goal),
         Proving::Judged(verdict) => {
             let text = report_verdict(alloc, src, budget, verdict)?;
-            put(out, text.as_slice())?;
-            Ok(())
+            put(out, text.as_slice())
         }
         Proving::Decided(count, proved) => put_proved(alloc, out, src, budget, *count, proved),
     }

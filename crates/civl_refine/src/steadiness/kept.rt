@@ -149,9 +149,6 @@ pub(crate) fn word_ids(alloc: Alloc, kept: &Kept<'_>) -> Result<Vec<Id>, Memory>
 {
     match kept {
         Kept::Invariant(_) => Ok(Vec::new(alloc)),
-        Kept::Yield(place, frame) => {
-            let ids = held_ids(alloc, frame.locals.as_slice(), place.held)?;
-            Ok(ids)
-        }
+        Kept::Yield(place, frame) => held_ids(alloc, frame.locals.as_slice(), place.held),
     }
 }

@@ -182,25 +182,19 @@ pub fn violation(
     ensures lengthens { Lengthens terms.old terms.new }
 {
     match *condition {
-        Condition::Start(_, _) => {
-            let id = interference(alloc, terms, src, sorts, condition)?;
-            Ok(id)
-        }
+        Condition::Start(_, _) => interference(alloc, terms, src, sorts, condition),
         Condition::Act(_, _, Target::Invariant(_)) => {
-            let id = interference(alloc, terms, src, sorts, condition)?;
-            Ok(id)
+            interference(alloc, terms, src, sorts, condition)
         }
         Condition::Act(step, action, Target::Yield(number, place)) => {
-            let id = act_fails(
+            act_fails(
                 alloc, terms, src, held, bodies, sorts, step, action, number, place,
-            )?;
-            Ok(id)
+            )
         }
         Condition::Block(step, number, place, target) => {
-            let id = block_fails(
+            block_fails(
                 alloc, terms, src, held, bodies, sorts, step, number, place, target,
-            )?;
-            Ok(id)
+            )
         }
         _ => unreachable!(),
     }

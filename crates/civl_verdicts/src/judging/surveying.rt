@@ -103,8 +103,7 @@ fn find_all<M: Makes>(
     ensures asked { IfOk result (λ found. WereAsked provers.old.items provers.new.items (length list.now) budget (record { asked = asked; lacks = lacks; honest = honest; plan = plan })) }
 {
     let bodies = bodies_of(alloc, src)?;
-    let findings = find_each(alloc, makes, src, held, &bodies, list, provers, budget)?;
-    Ok(findings)
+    find_each(alloc, makes, src, held, &bodies, list, provers, budget)
 }
 
 /// What is found of a layered program none of whose formulas weighs too much.

@@ -28,8 +28,7 @@ fn put_word(out: &mut Vec<u8>, word: Word) -> Result<(), Memory>
 {
     put_number(out, word.value())?;
     put(out, b":")?;
-    put_number(out, word.width())?;
-    Ok(())
+    put_number(out, word.width())
 }
 
 /// The cells of a row, with `, ` between them.
@@ -60,8 +59,7 @@ pub fn put_value_text(out: &mut Vec<u8>, value: &Value) -> Result<(), Memory>
         Value::Row(row) => {
             put(out, b"[")?;
             put_cells(out, row)?;
-            put(out, b"]")?;
-            Ok(())
+            put(out, b"]")
         }
     }
 }

@@ -21,8 +21,7 @@ fn put_initial(out: &mut Vec<u8>, budget: u32, initial: &Option<Log>) -> Result<
         None => put(out, b"initial: found\n"),
         Some(_) => {
             put(out, b"initial")?;
-            put_undecided(out, budget)?;
-            Ok(())
+            put_undecided(out, budget)
         }
     }
 }
@@ -33,8 +32,7 @@ fn put_undecided(out: &mut Vec<u8>, budget: u32) -> Result<(), Memory>
 {
     put(out, b": undecided after ")?;
     put_number(out, budget as usize)?;
-    put(out, b"\n")?;
-    Ok(())
+    put(out, b"\n")
 }
 
 /// The lines of a condition: what is found of it, and the values where it fails.
@@ -54,8 +52,7 @@ fn put_found(
         Found::Holds => put(out, b": holds\n"),
         Found::Fails(counter) => {
             put(out, b": fails\n")?;
-            put_values(alloc, out, src, b"  ", condition, &counter.values)?;
-            Ok(())
+            put_values(alloc, out, src, b"  ", condition, &counter.values)
         }
         Found::Undecided(_) => put_undecided(out, budget),
     }
@@ -94,8 +91,7 @@ fn put_count(out: &mut Vec<u8>, findings: &List<Found>) -> Result<(), Memory>
     put_number(out, count(Kind::Fails, findings.as_slice()))?;
     put(out, b" fail, ")?;
     put_number(out, count(Kind::Undecided, findings.as_slice()))?;
-    put(out, b" undecided\n")?;
-    Ok(())
+    put(out, b" undecided\n")
 }
 
 /// What is reported of a program and a survey of its conditions under a budget: what the search for an initial store came to; then

@@ -25,8 +25,7 @@ pub fn put_formula(
         None => put(out, b"initial"),
         Some(condition) => {
             let name = name(alloc, src, &condition)?;
-            put(out, name.as_slice())?;
-            Ok(())
+            put(out, name.as_slice())
         }
     }
 }

@@ -41,6 +41,5 @@ pub fn put_values(
     ensures { OnOk result (out.new.items ≡ out.old.items ++ value_lines indentation.now (variables src.now condition.now) values.now) }
 {
     let variables = variables_of(alloc, src, condition)?;
-    put_lines(out, indentation, &variables, values)?;
-    Ok(())
+    put_lines(out, indentation, &variables, values)
 }

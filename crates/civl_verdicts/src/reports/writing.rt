@@ -49,6 +49,5 @@ pub fn put_value(
     put(out, name.as_slice())?;
     put(out, b" = ")?;
     put_value_text(out, value)?;
-    put(out, b"\n")?;
-    Ok(())
+    put(out, b"\n")
 }

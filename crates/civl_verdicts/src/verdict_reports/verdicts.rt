@@ -32,8 +32,7 @@ fn put_rejected(
     put(out, b"rejected ")?;
     put(out, name.as_slice())?;
     put(out, b"\n")?;
-    put_values(alloc, out, src, b"", &counter.condition, &counter.values)?;
-    Ok(())
+    put_values(alloc, out, src, b"", &counter.condition, &counter.values)
 }
 
 /// What isn't decided, and the budget of its search.
@@ -50,8 +49,7 @@ fn put_undecided(
     put_formula(alloc, out, src, formula)?;
     put(out, b" after ")?;
     put_number(out, budget as usize)?;
-    put(out, b"\n")?;
-    Ok(())
+    put(out, b"\n")
 }
 
 fn put_verdict(

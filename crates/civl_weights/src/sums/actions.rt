@@ -86,6 +86,10 @@ fn sums_of(program: &Program, action: &Action) -> ActionSums
 }
 
 /// The sums of each action.
+///
+/// # Errors
+///
+/// For want of memory.
 pub fn action_sums(alloc: Global, program: &Program) -> Result<List<ActionSums>, Memory>
     ensures { IfOk result (AllZip (OfAction program.now) program.now.actions) }
 {

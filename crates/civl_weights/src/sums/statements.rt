@@ -89,8 +89,7 @@ fn add_called<'a>(
 {
     match action_called(program, layer, callee) {
         Some(action) => {
-            add_updated(names, program.globals.as_slice(), action.updates.as_slice())?;
-            Ok(())
+            add_updated(names, program.globals.as_slice(), action.updates.as_slice())
         }
         None => Ok(()),
     }
@@ -156,8 +155,7 @@ fn add_all_written<'a>(
     ensures { OnOk result (map (λ n. n.now) names.new.items ≡ map (λ n. n.now) names.old.items ++ flat_map (λ s. layer_written (program_at program.now layer) (out-Stmt s)) (statements_of stmts.now)) }
 {
     let flat = statements(alloc, stmts)?;
-    add_each(names, program, layer, flat.as_slice())?;
-    Ok(())
+    add_each(names, program, layer, flat.as_slice())
 }
 
 // ---- their bits

@@ -76,14 +76,21 @@ fn step_sums(alloc: Global, program: &Program, step: u32) -> Result<StepSums, Me
 }
 
 /// The sums of the step before the first, of which nothing is asked.
+///
+/// # Errors
+///
+/// For want of memory.
 pub fn first_sums(alloc: Global, src: &Layered) -> Result<StepSums, Memory>
     ensures { IfOk result (OfStep src.now) }
 {
-    let sums = step_sums(alloc, program(src), 0)?;
-    Ok(sums)
+    step_sums(alloc, program(src), 0)
 }
 
 /// The sums of this step: those at hand, where they are its, or else new ones.
+///
+/// # Errors
+///
+/// For want of memory.
 pub fn sums_at(alloc: Global, src: &Layered, sums: StepSums, step: u32) -> Result<StepSums, Memory>
     requires { OfStep src.now sums }
     ensures same { IfOk result (λ sums. sums.step ≡ step) }
@@ -92,6 +99,5 @@ pub fn sums_at(alloc: Global, src: &Layered, sums: StepSums, step: u32) -> Resul
     if sums.step == step {
         return Ok(sums);
     }
-    let sums = step_sums(alloc, program(src), step)?;
-    Ok(sums)
+    step_sums(alloc, program(src), step)
 }

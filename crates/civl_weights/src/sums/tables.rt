@@ -101,6 +101,10 @@ fn own_step(refines: &Option<Refines>) -> u32
 }
 
 /// The sums of the cuts of the procedure with this number, at a step.
+///
+/// # Errors
+///
+/// For want of memory.
 pub fn cuts_at(
     alloc: Global,
     src: &Layered,
@@ -147,8 +151,7 @@ fn notes_at(
 {
     let cuts = cuts(alloc, src, number)?;
     let flat = statements(alloc, &proc.body)?;
-    let notes = note_sums(alloc, program(src), proc, &flat, &cuts, held)?;
-    Ok(notes)
+    note_sums(alloc, program(src), proc, &flat, &cuts, held)
 }
 
 /// The sums of the procedure with this number, at its own step, which these sums are of.
@@ -205,6 +208,10 @@ fn all_procs(
 }
 
 /// All that is worked out once, where these locals are held.
+///
+/// # Errors
+///
+/// For want of memory.
 pub fn work_out(alloc: Global, src: &Layered, held: &Held) -> Result<Tables, Memory>
     requires { held.now.cuts ≡ all_held src.now }
     ensures { IfOk result (OfProgram src.now) }
