@@ -1,28 +1,12 @@
-//! Tests of the terms of formulas: at all values of their variables they are true exactly where the formula is, which is worked out
-//! apart, from the words of the language, by firing actions in stores and by steps of bodies.
+//! Tests of the terms of formulas: how many there are, at how many of the values of their variables they are true, and at which, as a
+//! sum of numbers, is what bench/oracle.py works out, a program in Python that knows neither the code nor its definitions.
 #![tactic(auto)]
 
 #[cfg(test)]
-mod actions;
-#[cfg(test)]
-mod blocks;
-#[cfg(test)]
-mod bodies;
-#[cfg(test)]
-mod comparing;
+mod counting;
 #[cfg(test)]
 mod kinds;
 #[cfg(test)]
 mod models;
 #[cfg(test)]
-mod notes;
-#[cfg(test)]
-mod owned;
-#[cfg(test)]
-mod paths;
-#[cfg(test)]
-mod reading;
-#[cfg(test)]
-mod stores;
-#[cfg(test)]
-mod walking;
+mod valuations;

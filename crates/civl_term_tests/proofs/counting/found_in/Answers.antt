@@ -1,6 +1,6 @@
 use Rattle.std.proofs.Common.{sym, subst, IsTrue, IfSome}
 use Rattle.civl_tree.specs.SpellingDomain.{allows_program}
-use Rattle.civl_term_tests.proofs.comparing.found_in.Goals as goal
+use Rattle.civl_term_tests.proofs.counting.found_in.Goals as goal
 
 pub lines_of-requires : goal.lines_of-requires
 lines_of-requires c = record {

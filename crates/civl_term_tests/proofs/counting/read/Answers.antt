@@ -3,7 +3,7 @@ use Rattle.civl_tree.specs.Token.{Token}
 use Rattle.civl_lex.specs.Spelled.{spelled}
 use Rattle.civl_lex.specs.Text.{HasTokens}
 use Rattle.civl_script.proofs.Counting.{text_numbers}
-use Rattle.civl_term_tests.proofs.comparing.read.Goals as goal
+use Rattle.civl_term_tests.proofs.counting.read.Goals as goal
 
 pub returns-clause-written : goal.returns-clause-written
 returns-clause-written c = c.in_ok-program.ensures.right.fits

@@ -4,7 +4,7 @@ use Rattle.civl_tree.specs.rules.Rules.{Keeps}
 use Rattle.civl_linear.specs.LinearRules.{linear_rules}
 use Rattle.civl_yields.specs.YieldRules.{yield_rules}
 use Rattle.civl_yields.proofs.verify.Admitting.{keeps_first}
-use Rattle.civl_term_tests.proofs.comparing.lines_of.Goals as goal
+use Rattle.civl_term_tests.proofs.counting.lines_of.Goals as goal
 
 pub lines-requires-clause-linear : goal.lines-requires-clause-linear
 lines-requires-clause-linear c = subst (λ (p : Program). Keeps linear_rules p) (sym c.source-src.ensures.same) (keeps_first linear_rules yield_rules c.args.admitted.now c.source-src.ensures.keeps)
