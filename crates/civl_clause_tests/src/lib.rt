@@ -2,8 +2,6 @@
 #![tactic(auto)]
 
 #[cfg(test)]
-mod certificate_bytes;
-#[cfg(test)]
 mod certificate_texts;
 #[cfg(test)]
 mod circuits;

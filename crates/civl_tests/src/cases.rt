@@ -5,13 +5,15 @@
 // a file that comes first, `edits` are made in it, and `text` stands behind it, or `lines` with their ends (`texts`); the number of a `read`
 // or `write` that fails, and the sink's `room`; the `provers`. What is wanted is a `report`, or one that `begins` so, `has` this in it, or has
 // this `line`; a `status` other than the report's own; how many `bytes` the report has, and how many provers are `left` (`wanted`).
+// Where the head says `signs: yes`, signs in the text stand for line feeds, tabs, carriage returns and blanks (`texts`). Where there is
+// `next`, each of the 256 bytes is put behind the text, and the first fault is that byte but where it is one of these, or they are `any`.
 // Where there are `from` and `to`, the words are asked on each front of the text of so many bytes. Where there is `then`, these words are
 // asked on the report of the first ones, or, beside a `store` and `threads`, on the moves that this report lifted (`lifted`).
 
 use crate::asking::{Given, NOTHING, asked, report_of};
 use crate::case::{Case, number_at, text_at, value};
 use crate::lifted::unlifted;
-use crate::texts::text_of;
+use crate::texts::{plain, text_of};
 use crate::wanted::{is_begun, is_wanted};
 use std::alloc::{AllocError, Global};
 use std::{fs, io};
@@ -43,6 +45,47 @@ fn unwanted_front(
     Ok(None)
 }
 
+/// Whether a report says that a certificate has its first fault at this byte.
+fn is_fault_at(alloc: Global, report: &str, place: usize) -> Result<bool, AllocError> {
+    let fault = format!(in alloc; "refused E82 at byte {place}")?;
+    Ok(report.trim() == fault.as_str())
+}
+
+/// Whether the report is right on a text that ends behind `place` with a byte that may stand there, or may not: there it has its first
+/// fault, or else no fault before its end.
+fn is_right_at(
+    alloc: Global,
+    report: &str,
+    place: usize,
+    may_stand: bool,
+) -> Result<bool, AllocError> {
+    if may_stand {
+        return Ok(
+            !report.starts_with("refused") || is_fault_at(alloc, report, place.saturating_add(1))?,
+        );
+    }
+    is_fault_at(alloc, report, place)
+}
+
+/// What is given where some byte behind a text isn't read as is wanted.
+fn unwanted_next(
+    alloc: Global,
+    case: Case<'_>,
+    front: &str,
+    next: &str,
+) -> Result<Option<Given>, AllocError> {
+    for byte in 0..=255_u8 {
+        let mut text = front.as_bytes().to_vec(alloc)?;
+        text.push(byte)?;
+        let given = asked(alloc, case, text_at(case, "words"), text.as_slice())?;
+        let may_stand = next == "any" || next.as_bytes().contains(&byte);
+        if !is_right_at(alloc, report_of(&given), front.len(), may_stand)? {
+            return Ok(Some(given));
+        }
+    }
+    Ok(None)
+}
+
 /// What is given where the report on a text doesn't begin as is said, or where the second command gives what isn't wanted to this report.
 fn unwanted_then(alloc: Global, case: Case<'_>, text: &[u8]) -> Result<Option<Given>, AllocError> {
     let first = asked(alloc, case, text_at(case, "words"), text)?;
@@ -66,6 +109,10 @@ fn unwanted_then(alloc: Global, case: Case<'_>, text: &[u8]) -> Result<Option<Gi
 fn failure(alloc: Global, case: Case<'_>, text: &str) -> Result<Option<Given>, AllocError> {
     if let Some(from) = number_at(case, "from") {
         return unwanted_front(alloc, case, text.as_bytes(), from);
+    }
+    if value(case, "next").is_some() {
+        let next = plain(alloc, case, "next")?;
+        return unwanted_next(alloc, case, text, next.as_str());
     }
     if value(case, "threads").is_some() {
         return unlifted(alloc, case, text);

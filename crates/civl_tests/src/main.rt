@@ -28,104 +28,104 @@ use cases::{line, line_of};
 use std::alloc::{AllocError, Global};
 use std::{fs, io};
 
-/// The designs, in the order of the book.
-const DESIGNS: &[&str] = &[
-    "tas",
-    "ttas",
-    "ticket_lock",
-    "array_lock",
-    "sleep_lock",
-    "readers_writer",
-    "peterson",
-    "bakery",
-    "seqlock",
-    "semaphore",
-    "barrier",
-    "once",
-    "reference_count",
-    "event_flags",
-    "ring",
-    "ticket_queue",
-    "treiber",
-    "bitmap",
-    "free_list",
-    "deque",
-    "two_phase_commit",
-];
+/// The designs, in the order of the book, each in a line.
+const DESIGNS: &str = "\
+tas
+ttas
+ticket_lock
+array_lock
+sleep_lock
+readers_writer
+peterson
+bakery
+seqlock
+semaphore
+barrier
+once
+reference_count
+event_flags
+ring
+ticket_queue
+treiber
+bitmap
+free_list
+deque
+two_phase_commit";
 
-/// The files of cases.
-const CASES: &[&str] = &[
-    "words",
-    "programs",
-    "broken_rules",
-    "gates_guards_and_updates",
-    "initial_stores",
-    "procedures_threads_and_comments",
-    "first_faults",
-    "whole_texts",
-    "limits_of_brackets",
-    "limits_of_threads",
-    "limits_of_bytes",
-    "limits_of_widths_and_locals",
-    "many_globals",
-    "fronts_of_the_flag_program",
-    "printed_programs",
-    "printed_texts",
-    "rules_on_names",
-    "rules_on_sorts",
-    "rules_on_layers",
-    "rules_on_linear",
-    "rules_on_yields",
-    "rules_that_are_kept",
-    "no_budget",
-    "usual_budget",
-    "greatest_budget",
-    "flags_are_proved",
-    "reads_are_proved",
-    "refusals_come_first",
-    "texts_are_read",
-    "tokens_at_fault",
-    "scripts_at_fault",
-    "schedules_of_the_flag_program",
-    "scripts_that_do_not_fit",
-    "schedules_of_additions",
-    "schedules_of_all_statements",
-    "an_accepted_program_that_fails",
-    "a_lock_that_fails_below_alone",
-    "a_counter_that_fails_below_alone",
-    "a_cell_that_fails_below_alone",
-    "a_flag_that_fails_twice",
-    "conditions_on_actions",
-    "conditions_on_flags",
-    "lines_of_surveys",
-    "a_permission_that_is_given",
-    "budgets_of_surveys",
-    "a_formula_weighs_too_much",
-    "a_survey_is_cut_short",
-    "devices_fail_under_surveys",
-    "all_conditions_of_a_spinlock",
-    "conditions_of_a_spinlock_that_fail",
-    "certificates_of_the_flag_program",
-    "a_certificate_with_a_search",
-    "certificates_of_a_spinlock",
-    "conditions_by_number",
-    "certificates_by_hand",
-    "each_read_fails",
-    "a_write_fails",
-    "rooms_are_too_small",
-    "a_trial_reads_nothing",
-    "one_liar",
-    "liars_about_a_spinlock",
-    "many_liars",
-    "scripts_are_answered",
-    "other_words_are_refused",
-    "blocks_are_gathered_and_completed",
-    "schedules_go_through_three_layers",
-    "waits_for_a_lock_are_lifted",
-    "choices_are_what_blocks_did",
-    "threads_that_are_started_are_lifted",
-    "blocks_that_go_on_are_told",
-];
+/// The files of cases, each in a line.
+const CASES: &str = "\
+words
+programs
+broken_rules
+gates_guards_and_updates
+initial_stores
+procedures_threads_and_comments
+first_faults
+whole_texts
+limits_of_brackets
+limits_of_threads
+limits_of_bytes
+limits_of_widths_and_locals
+many_globals
+fronts_of_the_flag_program
+printed_programs
+printed_texts
+rules_on_names
+rules_on_sorts
+rules_on_layers
+rules_on_linear
+rules_on_yields
+rules_that_are_kept
+no_budget
+usual_budget
+greatest_budget
+flags_are_proved
+reads_are_proved
+refusals_come_first
+texts_are_read
+tokens_at_fault
+scripts_at_fault
+schedules_of_the_flag_program
+scripts_that_do_not_fit
+schedules_of_additions
+schedules_of_all_statements
+an_accepted_program_that_fails
+a_lock_that_fails_below_alone
+a_counter_that_fails_below_alone
+a_cell_that_fails_below_alone
+a_flag_that_fails_twice
+conditions_on_actions
+conditions_on_flags
+lines_of_surveys
+a_permission_that_is_given
+budgets_of_surveys
+a_formula_weighs_too_much
+a_survey_is_cut_short
+devices_fail_under_surveys
+all_conditions_of_a_spinlock
+conditions_of_a_spinlock_that_fail
+certificates_of_the_flag_program
+a_certificate_with_a_search
+certificates_of_a_spinlock
+conditions_by_number
+certificates_by_hand
+texts_of_certificates
+bytes_of_certificates
+each_read_fails
+a_write_fails
+rooms_are_too_small
+a_trial_reads_nothing
+one_liar
+liars_about_a_spinlock
+many_liars
+scripts_are_answered
+other_words_are_refused
+blocks_are_gathered_and_completed
+schedules_go_through_three_layers
+waits_for_a_lock_are_lifted
+choices_are_what_blocks_did
+threads_that_are_started_are_lifted
+blocks_that_go_on_are_told";
 
 /// Calls that no command makes, each with the file of a program.
 const CALLS: &[(&str, &str)] = &[
@@ -196,16 +196,16 @@ fn put_design(rt: &HostRuntime, design: &str) -> io::Result<()> {
 }
 
 /// Writes the lines of these designs.
-fn put_designs(rt: &HostRuntime, designs: &[&str]) -> io::Result<()> {
-    for design in designs {
+fn put_designs(rt: &HostRuntime, designs: &str) -> io::Result<()> {
+    for design in designs.split("\n") {
         put_design(rt, design)?;
     }
     Ok(())
 }
 
 /// Writes the lines of these files of cases.
-fn put_cases(rt: &HostRuntime, names: &[&str]) -> io::Result<()> {
-    for name in names {
+fn put_cases(rt: &HostRuntime, names: &str) -> io::Result<()> {
+    for name in names.split("\n") {
         put(rt, line_of(rt, name))?;
     }
     Ok(())

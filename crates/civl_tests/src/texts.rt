@@ -1,6 +1,6 @@
 // The texts of cases.
 
-use crate::case::{Case, text_at};
+use crate::case::{Case, text_at, value};
 use std::alloc::{AllocError, Global};
 use std::{fs, io};
 
@@ -41,6 +41,31 @@ fn put(text: &mut String, behind: &str) -> Result<(), AllocError> {
     Ok(())
 }
 
+/// What a sign stands for, where signs do.
+fn meant(sign: char) -> char {
+    match sign {
+        '/' => '\n',
+        '~' => '\t',
+        '^' => '\r',
+        '_' => ' ',
+        other => other,
+    }
+}
+
+/// The value of a name; where the head says `signs: yes`, each `/` in it stands for a line feed, `~` for a tab, `^` for a carriage return
+/// and `_` for a blank.
+pub(crate) fn plain(alloc: Global, case: Case<'_>, name: &str) -> Result<String, AllocError> {
+    let said = text_at(case, name);
+    if value(case, "signs").is_none() {
+        return String::from_str(alloc, said);
+    }
+    let mut text = String::new(alloc);
+    for sign in said.chars() {
+        text.push(meant(sign))?;
+    }
+    Ok(text)
+}
+
 /// The text of a file, if one is named.
 pub(crate) fn base(rt: &HostRuntime, name: &str) -> io::Result<String> {
     if name.is_empty() {
@@ -54,7 +79,7 @@ pub(crate) fn base(rt: &HostRuntime, name: &str) -> io::Result<String> {
 pub(crate) fn text_of(rt: &HostRuntime, case: Case<'_>) -> io::Result<String> {
     let base = base(rt, text_at(case, "base"))?;
     let mut text = edited(rt.alloc(), base.as_str(), text_at(case, "edits"))?;
-    put(&mut text, text_at(case, "text"))?;
+    put(&mut text, plain(rt.alloc(), case, "text")?.as_str())?;
     let lines = text_at(case, "lines");
     if !lines.is_empty() {
         text.push_str(lines)?;
