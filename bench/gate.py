@@ -9,6 +9,10 @@ Usage, at the top of the repository:
 The gate's log has no times, so the processes below `rt` are looked at twice a second, and nothing of theirs is changed. Its
 output is left as it is. TABLE is a file, to which a table in Markdown is written once a minute and at the end. A dash says that
 nothing was seen to be done: it is kept from an earlier run, or there is none.
+
+Processors that are shared with other machines, or with other work, do less in a minute at one time than at another. So once a minute
+a small loop is timed, and below the table stands what it took, and what the whole comes to where each minute is weighed by it: the
+minutes of a processor that needs one second for ten million additions of the loop.
 """
 import os
 import re
@@ -21,6 +25,14 @@ import time
 KINDS = ["proof", "tests", "edits"]
 TICKS = os.sysconf("SC_CLK_TCK")
 PAUSE, REWRITE = 0.5, 60
+ADDITIONS = 3_000_000
+LOOP = f"""
+import time
+total, begun = 0, time.process_time()
+for number in range({ADDITIONS}):
+    total += number
+print(time.process_time() - begun)
+"""
 
 
 def text_of(path):
@@ -64,11 +76,38 @@ def work_of(number):
     return crate, "tests" if "--test" in words else "proof"
 
 
-class Watch:
-    """What was seen of the processes below one: for each that does a crate's work, this work and its seconds."""
+class Pace:
+    """What the loop took each time, in seconds for ten million additions."""
 
-    def __init__(self, root):
-        self.root, self.works, self.seconds = root, {}, {}
+    def __init__(self):
+        self.seconds, self.running = [], None
+
+    def first(self):
+        self.begin()
+        self.running.wait()
+        self.take()
+
+    def begin(self):
+        if not self.running:
+            self.running = subprocess.Popen([sys.executable, "-c", LOOP], stdout=subprocess.PIPE, text=True)
+
+    def take(self):
+        if self.running and self.running.poll() is not None:
+            said = self.running.stdout.read().strip()
+            if said:
+                self.seconds.append(float(said) * 10_000_000 / ADDITIONS)
+            self.running = None
+
+    def now(self):
+        return self.seconds[-1]
+
+
+class Watch:
+    """What was seen of the processes below one: for each that does a crate's work, this work and its seconds; and all of them, weighed by
+    the pace at which they passed."""
+
+    def __init__(self, root, pace):
+        self.root, self.pace, self.works, self.seconds, self.weighed = root, pace, {}, {}, 0
 
     def work(self, process):
         key = process.number, process.began
@@ -91,8 +130,9 @@ class Watch:
         while ahead:
             process = ahead.pop()
             if self.work(process):
-                key = process.number, process.began
-                self.seconds[key] = max(self.seconds.get(key, 0), whole(process))
+                key, before = (process.number, process.began), self.seconds.get((process.number, process.began), 0)
+                self.seconds[key] = max(before, whole(process))
+                self.weighed += (self.seconds[key] - before) / self.pace.now()
             else:
                 ahead += below.get(process.number, [])
 
@@ -143,7 +183,9 @@ def write(path, text):
 
 def watched(root, path, is_over):
     """Looks again and again, until it is over, and writes the table."""
-    crates, watch, due = crates_here(), Watch(root), 0
+    pace = Pace()
+    pace.first()
+    crates, watch, due = crates_here(), Watch(root, pace), 0
     start, before = time.monotonic(), ended_minutes()
 
     def tell():
@@ -151,12 +193,16 @@ def watched(root, path, is_over):
         whole = ended_minutes() - before
         if whole:
             text += f" The gate took {whole:.1f} processor minutes in all, with what belongs to no crate."
+        least, most, mean = min(pace.seconds), max(pace.seconds), sum(pace.seconds) / len(pace.seconds)
+        text += f" Ten million additions took {mean:.2f} seconds ({least:.2f} to {most:.2f}); weighed by that, it is {watch.weighed / 60:.1f} minutes."
         write(path, table(crates, watch.minutes()) + text + "\n")
 
     while not is_over():
         watch.look()
+        pace.take()
         if time.monotonic() >= due:
             tell()
+            pace.begin()
             due = time.monotonic() + REWRITE
         time.sleep(PAUSE)
     tell()
