@@ -1,11 +1,10 @@
 // The terms of the parts of an action.
-ghost use Rattle.std.specs.Prelude.{◌≡◌, ◌+◌, ◌≤◌, ℕ, length, map, slice_set, IfOk, OnOk};
+ghost use Rattle.std.specs.Prelude.{◌≡◌, ◌+◌, ◌≤◌, length, map, slice_set, IfOk, OnOk};
 ghost use Rattle.civl_tree.specs.rules.Rules.{Keeps};
 ghost use Rattle.civl_tree.specs.rules.Typing.{typing_rules};
-ghost use Rattle.civl_tree.specs.rules.Names.{global_names, param_names, targets_of};
+ghost use Rattle.civl_tree.specs.rules.Names.{global_names, targets_of};
 ghost use Rattle.civl_tree.specs.rules.Scopes.{gate_scope, guard_scope};
 ghost use Rattle.civl_firing.specs.values.ActionWeights.{gate_weight, guard_weight, offers_weight, updates_weight};
-ghost use Rattle.civl_firing.specs.Names.{names_of};
 ghost use Rattle.civl_terms.specs.Building.{Grows};
 ghost use Rattle.civl_terms.specs.Weights.{graph_weight};
 ghost use Rattle.civl_actions.specs.Scopes.{AreOf, ScopeFits};
@@ -16,40 +15,11 @@ use crate::expressions::term;
 use crate::made::Changed;
 use crate::named::{named_terms, scope_of};
 use crate::scope::Scope;
-use civl_firing::names::{Names, place};
+use civl_firing::firing::{global_targets, out_targets};
+use civl_firing::names::place;
 use civl_terms::{Id, Memory, Terms};
-use civl_tree::{Action, Global, List, Param, Program};
+use civl_tree::{Action, List, Program};
 use std::alloc::Global as Alloc;
-
-/// The names of the globals alone, as targets.
-#[tactic(auto, using(civl_firing::proofs::Joining::appending))]
-fn global_targets<'a>(globals: &'a [Global]) -> Names<'a>
-    ensures { names_of result ≡ global_names globals.now }
-{
-    Names {
-        globals,
-        params: &[],
-        choices: &[],
-        outs: &[],
-        locals: &[],
-        behind: &[],
-    }
-}
-
-/// The names of outputs alone, as targets.
-#[tactic(auto, using(civl_firing::proofs::Joining::appending))]
-fn out_targets<'a>(outs: &'a [Param]) -> Names<'a>
-    ensures { names_of result ≡ param_names outs.now }
-{
-    Names {
-        globals: &[],
-        params: &[],
-        choices: &[],
-        outs,
-        locals: &[],
-        behind: &[],
-    }
-}
 
 /// Puts a term at a place, if there is one.
 fn write(ids: &mut Vec<Id>, at: usize, id: Id)

@@ -2,9 +2,9 @@
 ghost use Rattle.std.specs.Prelude.{◌≡◌, ◌<◌, ◌≤◌, length, IfOk, IfSome, OnOk};
 ghost use Rattle.std.specs.VecDeque.{deque_len};
 
-use crate::copying::copied;
 use crate::place::{Place, is_early, is_inside};
 use civl_meaning::Move;
+use civl_meaning::copying::copied;
 use civl_tree::Memory;
 use std::alloc::Global;
 use std::collections::VecDeque;

@@ -2,20 +2,10 @@
 ghost use Rattle.std.specs.Prelude.{◌≡◌, IfOk};
 
 use civl_meaning::Move;
-use civl_tree::{List, Memory};
+use civl_meaning::copying::copied;
+use civl_tree::Memory;
 use std::alloc::Global;
 use std::collections::VecDeque;
-
-/// An equal move.
-pub fn copied(alloc: Global, chosen: &Move) -> Result<Move, Memory>
-    ensures { IfOk result (λ m. m ≡ chosen.now) }
-{
-    let choices = Vec::from_slice(alloc, chosen.choices.as_slice())?;
-    Ok(Move {
-        thread: chosen.thread,
-        choices: List::from_vec(choices),
-    })
-}
 
 /// Equal moves, to be taken from the front.
 pub fn queue(alloc: Global, moves: &[Move]) -> Result<VecDeque<Move>, Memory>

@@ -11,10 +11,10 @@ ghost use Rattle.civl_blocked.specs.Blocked.{IsTurned};
 ghost use Rattle.civl_blocked.specs.Segments.{IsGround, over, program_of};
 ghost use Rattle.civl_blocked.specs.Turning.{IsBeside, Standing, ended};
 
-use crate::copying::copied;
 use crate::ground::Ground;
 use crate::place::{is_inside, place_at};
 use civl_meaning::Move;
+use civl_meaning::copying::copied;
 use civl_shadows::{Shadowed, is_challenged, shadowed_step};
 use civl_tree::Memory;
 use std::alloc::Global;

@@ -1,21 +1,19 @@
 // Where threads stand.
-ghost use Rattle.std.specs.Prelude.{◌≡◌, ◌+◌, ◌<◌, ◌^◌, Some, List, [], IfOk, IsTrue, IsFalse, option_copied, slice_get, map, length};
-ghost use Rattle.civl_meaning.specs.declared.config.Config.{Config as Given};
+ghost use Rattle.std.specs.Prelude.{◌≡◌, ◌+◌, ◌<◌, ◌^◌, Some, List, IfOk, IsTrue, IsFalse};
 ghost use Rattle.civl_reduction.specs.interleavings.Reduction.{Early, Late, is_inside};
-ghost use Rattle.civl_yields.specs.Movers.{called_action, proc_action};
-ghost use Rattle.civl_yields.specs.Places.{too_late};
+ghost use Rattle.civl_yields.specs.Movers.{called_action};
 ghost use Rattle.civl_reduction.specs.blocks.Ahead.{stops, ahead, ahead_list, ahead_in};
 ghost use Rattle.civl_reduction.specs.blocks.Stands.{stands};
-ghost use Rattle.civl_shadows.specs.Rests.{rest_of};
+ghost use Rattle.civl_meaning.specs.Remaining.{rest_of};
 ghost use Rattle.civl_blocked.specs.Places.{place_of};
 ghost use Rattle.civl_reduction.specs.gathered.System.{place_at};
 
+use civl_meaning::remaining::{Numbered, rest_at};
 use civl_meaning::{Config, Running};
 use civl_shadows::frames::frame_of_layer;
 use civl_shadows::notes::at_yield;
-use civl_shadows::rests::{Numbered, rest_at};
-use civl_tree::{Action, List, Memory, Mover, Name, Proc, Program, Stmt};
-use civl_types::names::{action_named, proc_named};
+use civl_tree::{List, Memory, Mover, Name, Program, Stmt};
+use civl_yields::called_action;
 use std::alloc::Global;
 
 /// Where a thread stands in the blocks of the procedures above a layer.
@@ -61,29 +59,6 @@ pub fn is_late(place: Place) -> bool
         Place::Between => false,
         Place::Early => false,
         Place::Late => true,
-    }
-}
-
-/// The action that a procedure stands for in the programs above its layer.
-fn proc_action<'a>(program: &'a Program, proc: Option<&'a Proc>) -> Option<&'a Action>
-    ensures { option_copied result ≡ proc_action program.now (option_copied proc.entry) }
-{
-    match proc {
-        Some(proc) => match &proc.refines {
-            Some(refines) => action_named(program, &refines.action),
-            None => None,
-        },
-        None => None,
-    }
-}
-
-/// The action that a call of this name in a layered procedure means, just below the procedure's layer.
-fn called_action<'a>(program: &'a Program, name: &Name) -> Option<&'a Action>
-    ensures { option_copied result ≡ called_action program.now name.now }
-{
-    match action_named(program, name) {
-        Some(action) => Some(action),
-        None => proc_action(program, proc_named(program, name)),
     }
 }
 

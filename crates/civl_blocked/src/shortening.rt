@@ -5,10 +5,10 @@ ghost use Rattle.civl_reduction.specs.gathered.Laws.{by_thread};
 ghost use Rattle.civl_blocked.specs.Segments.{IsGround, over, IsShortened};
 ghost use Rattle.civl_blocked.specs.Shortened.{IsFront, IsFrontBehind, FailsBehindOther};
 
-use crate::copying::copied;
 use crate::ground::Ground;
 use crate::place::is_inside;
 use crate::stepping::{advanced, failing_in, passed};
+use civl_meaning::copying::copied;
 use civl_meaning::{Config, Move, copy_config};
 use civl_tree::Memory;
 use std::alloc::Global;

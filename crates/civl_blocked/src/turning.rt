@@ -15,7 +15,7 @@ ghost use Rattle.civl_blocked.specs.Turning.{IsBeside, IsTurning, IsGoing, IsNex
 use crate::arranging::Arranged;
 use crate::blocked::Blocked;
 use crate::completing::{Completed, complete};
-use crate::copying::{copied, queue};
+use crate::copying::queue;
 use crate::gathering::gathers;
 use crate::ground::Ground;
 use crate::joining::{join, join_blocks, join_own};
@@ -25,6 +25,7 @@ use crate::segment::Segment;
 use crate::shortening::shortened;
 use crate::stepping::failing_in;
 use crate::walking::{Walked, to_end, to_turn};
+use civl_meaning::copying::copied;
 use civl_meaning::{Config, Move};
 use civl_shadows::{Shadowed, is_challenged};
 use civl_tree::{List, Memory};

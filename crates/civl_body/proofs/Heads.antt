@@ -3,8 +3,8 @@ use Rattle.std.specs.Prelude.{drop, take, get_or, slice_get}
 use Rattle.std.proofs.lemmas.List.{drop_more, take_rest}
 use Rattle.civl_tree.proofs.Numbers.{sizes_are_counts}
 use Rattle.civl_conditions.proofs.paths.Heading.{counted}
-use Rattle.civl_body.specs.declared.rests.Numbered.{Numbered}
-use Rattle.civl_body.specs.Rests.{rest_of}
+use Rattle.civl_meaning.specs.declared.remaining.Numbered.{Numbered}
+use Rattle.civl_meaning.specs.Remaining.{rest_of}
 use Rattle.civl_body.proofs.RestPassing.{ends_within}
 use Rattle.std.specs.List.{Contains}
 use Rattle.std.proofs.Common.{◌≡◌, ◌∙◌, ℕ, suc, ◌+◌, Some, List, [], ◌∷◌, ◌++◌, refl, sym, ap, subst, arith, append_assoc, inl, inr, ◌<◌, ◌-◌, ◌≤◌, length}

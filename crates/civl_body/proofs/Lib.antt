@@ -7,7 +7,6 @@ pub mod Heads
 pub mod Beginning
 pub mod Called
 pub mod Calling
-pub mod Resting
 pub mod RestPassing
 pub mod Few
 pub mod Listing

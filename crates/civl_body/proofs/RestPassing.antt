@@ -21,8 +21,8 @@ use Rattle.civl_moves.specs.declared.sweep.Sweep.{Sweep}
 use Rattle.civl_moves.specs.States.{swept_at}
 use Rattle.civl_states.specs.declared.choices.Chosen.{Chosen}
 use Rattle.std.proofs.lemmas.List.{get_or-map, length-map}
-use Rattle.civl_body.specs.declared.rests.Numbered.{Numbered}
-use Rattle.civl_body.specs.Rests.{rest_of}
+use Rattle.civl_meaning.specs.declared.remaining.Numbered.{Numbered}
+use Rattle.civl_meaning.specs.Remaining.{rest_of}
 use Rattle.civl_body.specs.Passing.{course_in, StandIn, Ready, ReadyRest, Passes, UnderRest}
 use Rattle.civl_body.proofs.Passing.{has_less, says_less, has_stay, says_stay, first_passed, others_passed, goes_on, own_choices}
 

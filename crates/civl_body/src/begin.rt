@@ -8,13 +8,13 @@ ghost use Rattle.civl_linear.specs.LinearRules.{linear_rules};
 ghost use Rattle.civl_conditions.specs.Weights.{body_weight};
 ghost use Rattle.civl_terms.specs.Building.{Grows};
 ghost use Rattle.civl_terms.specs.Weights.{graph_weight};
-ghost use Rattle.civl_body.specs.Rests.{rest_of};
+ghost use Rattle.civl_meaning.specs.Remaining.{rest_of};
 ghost use Rattle.civl_body.specs.Weights.{passed_weights};
 ghost use Rattle.civl_body.specs.Passing.{IsEntry, IsLoop, IsPlain, IsWithin, Passes, ReadyFrom, ReadyHead, ReadyLoop, by_loop, loop_passed};
 
-use crate::rests::{Numbered, push_among, push_numbered, push_one};
 use crate::statements::pass_rest;
 use civl_layers::{Cut, CutKind};
+use civl_meaning::remaining::{Numbered, push_among, push_numbered, push_one};
 use civl_moves::{Sweep, front_with, part, swap};
 use civl_states::Choices;
 use civl_terms::{Memory, Terms};
@@ -81,9 +81,9 @@ fn again<'a>(
     alloc: Alloc,
     body: &'a List<Stmt>,
     stmt: &'a Stmt,
-    number: u32,
+    number: usize,
 ) -> Result<Vec<Numbered<'a>>, Memory>
-    requires { number + 1 + sizes_of body.now < 2 ^ 32 }
+    requires { number + 1 + sizes_of body.now < 2 ^ 64 }
     ensures { IfOk result (λ v. rest_of v.items ≡ numbered (number + 1) body.now ++ (number, stmt.now) ∷ []) }
 {
     let mut rest = Vec::new(alloc);
@@ -188,7 +188,7 @@ pub fn pass_from(
         pass_rest(&rest, alloc, terms, program, layer, proc, chosen, sweep)?;
         return Ok(());
     }
-    push_among(&mut rest, &proc.body, 0, cut.statement)?;
+    push_among(&mut rest, &proc.body, 0, cut.statement as usize)?;
     pass_head(&rest, alloc, terms, program, layer, proc, chosen, sweep)?;
     Ok(())
 }

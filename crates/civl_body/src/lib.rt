@@ -3,7 +3,6 @@
 
 mod begin;
 mod calls;
-mod rests;
 pub mod sizes;
 mod statements;
 mod way;
@@ -11,6 +10,5 @@ mod ways;
 
 pub use begin::pass_from;
 pub use calls::number_meant;
-pub use rests::{Numbered, push_among};
 pub use way::{Walk, Way};
 pub use ways::walk;

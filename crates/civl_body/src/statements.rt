@@ -7,13 +7,13 @@ ghost use Rattle.civl_terms.specs.Building.{Grows};
 ghost use Rattle.civl_terms.specs.Weights.{graph_weight};
 ghost use Rattle.civl_conditions.specs.paths.Flows.{flow, flow_all};
 ghost use Rattle.civl_moves.specs.sweeps.Sweeps.{sweep as sweep_stmt, sweep_all, where_onward};
-ghost use Rattle.civl_body.specs.Rests.{rest_of};
+ghost use Rattle.civl_meaning.specs.Remaining.{rest_of};
 ghost use Rattle.civl_body.specs.Passing.{Passes, Ready, ReadyRest};
 ghost use Rattle.civl_body.specs.Weights.{Leaves, passed_weights, spent, written};
 
 use crate::calls::pass_call;
-use crate::rests::Numbered;
 use crate::sizes::{size, sizes};
+use civl_meaning::remaining::Numbered;
 use civl_moves::{
     Sweep, front_with, join, part, pass_assert, pass_assign, pass_commit, pass_cut, pass_intro,
     stop, swap,
@@ -81,7 +81,7 @@ pub fn pass_rest(
             proc,
             chosen,
             sweep,
-            item.number,
+            item.number as u32,
         )?;
         let _count = terms.len();
     }

@@ -24,7 +24,7 @@ use Rattle.civl_certify.proofs.proof_reports.Alone.{printed_stands_alone, refute
 use Rattle.civl_frontend.specs.Texts.{SpellsProgram}
 use Rattle.civl_frontend.specs.declared.status.Status.TheVariants.{Done, Refused}
 use Rattle.civl_frontend.proofs.Lawful.{text_written}
-use Rattle.civl_command.specs.Outcome.{Outcome, Asked, Replayed, FindsReplayed, making_status, replaying_status, status_of}
+use Rattle.civl_command.specs.Outcome.{Outcome, Asked, Replayed, FindsReplayed, making_status, replaying_status, report_of, status_of}
 use Rattle.civl_command.specs.Promises.{Certifies, IsReplayed}
 use Rattle.civl_command.proofs.Ways.{IsAsked}
 
@@ -46,7 +46,7 @@ pub record IsCertifying (input : List ℕ) (at budget : ℕ) (outcome : Outcome)
   pub initial : Option (List (List Literal))
   pub shown : ShownOf
   pub certifies : Certifies input at budget program condition initial shown (making_text program budget at (Shown condition (Answer initial shown)))
-  pub is : outcome ≡ Asked program at budget (Shown condition (Answer initial shown))
+  pub report_is : report_of outcome ≡ making_text program budget at (Shown condition (Answer initial shown))
 
 module _ (input : List ℕ) (at budget : ℕ) (outcome : Outcome) (program : Program) (spells : SpellsProgram input program) (asked : IsAsked at budget program outcome) where
   of_shown : (condition : Condition) (initial : Option (List (List Literal))) (shown : ShownOf) → IsShownAt program budget at condition (Answer initial shown)
@@ -65,7 +65,7 @@ module _ (input : List ℕ) (at budget : ℕ) (outcome : Outcome) (program : Pro
           refutes = λ set log e short.
               record { short = short; replaying_ = Read Refutes; is = (alone_at program budget at condition initial shown set log written right e).replayed; outcome_is = refl };
         };
-        is = same;
+        report_is = ap report_of same;
       }
 
   of_making : (m : Making) → IsMaking program budget at m → outcome ≡ Asked program at budget m → Done ≡ making_status m → IsCertifying input at budget outcome

@@ -487,7 +487,7 @@ module _ (words : List (List ℕ)) (before after : ReadState) (sink sink_after :
       let s = spelled IsReading (Asks at budget) input found.outcome Done done_not_refused found.status_is found.finds in
       let asked = asked_by at budget s.value found.outcome found.status_is (ask_way at budget s.value found.outcome s.says) in
       let c = certifying input at budget found.outcome s.value s.read.0 asked found.status_is in
-      (c.program, c.condition, c.initial, c.shown, c.certifies, written_as input _ found.outcome (ap report_of c.is) found.does)
+      (c.program, c.condition, c.initial, c.shown, c.certifies, written_as input _ found.outcome c.report_is found.does)
 
   pub refutes_by : Explains words before after sink sink_after Done → AskFor Replay words → RefutesRightly before after sink sink_after
   refutes_by e replay input told =

@@ -5,7 +5,7 @@
 mod condition;
 pub mod footprints;
 mod listing;
-mod naming;
+pub mod naming;
 pub mod paths;
 mod places;
 mod steps;
@@ -19,4 +19,6 @@ pub use listing::listed;
 pub use naming::name;
 pub use variables_all::variables;
 pub use variables_calls::{action_called, push_choices_at};
-pub use variables_groups::{push_globals, push_locals, push_params, push_variable};
+pub use variables_groups::{
+    exists_at, exists_near, push_globals, push_locals, push_params, push_variable,
+};

@@ -1,4 +1,4 @@
-// The printed names of conditions.
+//! The printed names of conditions.
 ghost use Rattle.std.specs.Prelude.{◌≡◌, ◌++◌, OnOk, IfOk, codes, decimal};
 ghost use Rattle.civl_conditions.specs.Names.{action_text, proc_text, part_text, step_text, cut_text, target_text, name_text};
 
@@ -8,14 +8,24 @@ use civl_tree::{Memory, Program};
 use itoa::Buffer;
 use std::alloc::Global;
 
-fn put(out: &mut Vec<u8>, text: &[u8]) -> Result<(), Memory>
+/// Puts a text behind others.
+///
+/// # Errors
+///
+/// For want of memory.
+pub fn put(out: &mut Vec<u8>, text: &[u8]) -> Result<(), Memory>
     ensures { OnOk result (out.new.items ≡ out.old.items ++ text.now) }
 {
     out.extend_from_slice(text)?;
     Ok(())
 }
 
-fn put_number(out: &mut Vec<u8>, number: u32) -> Result<(), Memory>
+/// Puts a number behind others, in decimal.
+///
+/// # Errors
+///
+/// For want of memory.
+pub fn put_number(out: &mut Vec<u8>, number: u32) -> Result<(), Memory>
     ensures { OnOk result (out.new.items ≡ out.old.items ++ decimal number) }
 {
     let mut buffer = Buffer::new();
@@ -23,8 +33,12 @@ fn put_number(out: &mut Vec<u8>, number: u32) -> Result<(), Memory>
     Ok(())
 }
 
-/// The name of the action with this number, where there is one.
-fn put_action(out: &mut Vec<u8>, program: &Program, action: u32) -> Result<(), Memory>
+/// Puts the name of the action with this number behind others, where there is one.
+///
+/// # Errors
+///
+/// For want of memory.
+pub fn put_action(out: &mut Vec<u8>, program: &Program, action: u32) -> Result<(), Memory>
     ensures { OnOk result (out.new.items ≡ out.old.items ++ action_text program.now action) }
 {
     match program.actions.as_slice().get(action as usize) {
@@ -33,8 +47,12 @@ fn put_action(out: &mut Vec<u8>, program: &Program, action: u32) -> Result<(), M
     }
 }
 
-/// The name of the procedure with this number, where there is one.
-fn put_proc(out: &mut Vec<u8>, program: &Program, proc: u32) -> Result<(), Memory>
+/// Puts the name of the procedure with this number behind others, where there is one.
+///
+/// # Errors
+///
+/// For want of memory.
+pub fn put_proc(out: &mut Vec<u8>, program: &Program, proc: u32) -> Result<(), Memory>
     ensures { OnOk result (out.new.items ≡ out.old.items ++ proc_text program.now proc) }
 {
     match program.procs.as_slice().get(proc as usize) {

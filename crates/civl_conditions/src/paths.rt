@@ -4,8 +4,10 @@
 //! the numbers of the cuts.
 
 mod ends;
+mod kinds;
 pub mod laws;
 mod met;
 
 pub use ends::ends_from;
+pub use kinds::{is_entry, is_rank_loop};
 pub use met::{Met, met_from};

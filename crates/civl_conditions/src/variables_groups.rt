@@ -112,14 +112,14 @@ pub(crate) fn push_instance(
 // ---- globals
 
 /// Whether a global exists in a layer.
-fn exists_at(layer: u32, global: &Global) -> bool
+pub fn exists_at(layer: u32, global: &Global) -> bool
     ensures { result ≡ exists_at layer global.now }
 {
     global.first <= layer && layer <= global.last
 }
 
 /// Whether a global exists in one of the two layers of a step.
-fn exists_near(step: u32, global: &Global) -> bool
+pub fn exists_near(step: u32, global: &Global) -> bool
     ensures { result ≡ exists_near step global.now }
 {
     exists_at(step.saturating_sub(1), global) || exists_at(step, global)

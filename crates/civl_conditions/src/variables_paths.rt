@@ -5,29 +5,12 @@ ghost use Rattle.civl_conditions.specs.paths.Ends.{is_entry, is_rank_loop};
 ghost use Rattle.civl_conditions.specs.Variables.{where_has, flag, of_params, of_locals, near_globals, path_variables};
 
 use crate::condition::Variable;
+use crate::paths::{is_entry, is_rank_loop};
 use crate::variables_calls::push_passed;
 use crate::variables_groups::{push_flag, push_locals, push_near, push_params};
 use civl_layers::{Cut, CutKind};
 use civl_tree::{List, Memory, Proc, Program};
 use std::alloc::Global;
-
-fn is_entry(kind: CutKind) -> bool
-    ensures { result ≡ is_entry kind }
-{
-    match kind {
-        CutKind::Entry => true,
-        CutKind::Yield | CutKind::YieldLoop | CutKind::RankLoop => false,
-    }
-}
-
-fn is_rank_loop(kind: CutKind) -> bool
-    ensures { result ≡ is_rank_loop kind }
-{
-    match kind {
-        CutKind::RankLoop => true,
-        CutKind::Entry | CutKind::Yield | CutKind::YieldLoop => false,
-    }
-}
 
 /// The old globals, at a rank loop.
 fn push_old_globals(

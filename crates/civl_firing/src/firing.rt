@@ -26,7 +26,7 @@ pub enum Fired {
 
 /// The names of the globals alone, as targets.
 #[tactic(auto, using(crate::proofs::Joining::appending))]
-fn global_targets<'a>(globals: &'a [Global]) -> Names<'a>
+pub fn global_targets<'a>(globals: &'a [Global]) -> Names<'a>
     ensures { names_of result ≡ global_names globals.now }
 {
     Names {
@@ -41,7 +41,7 @@ fn global_targets<'a>(globals: &'a [Global]) -> Names<'a>
 
 /// The names of outputs alone, as targets.
 #[tactic(auto, using(crate::proofs::Joining::appending))]
-fn out_targets<'a>(outs: &'a [Param]) -> Names<'a>
+pub fn out_targets<'a>(outs: &'a [Param]) -> Names<'a>
     ensures { names_of result ≡ param_names outs.now }
 {
     Names {

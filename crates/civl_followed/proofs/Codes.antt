@@ -26,9 +26,9 @@ use Rattle.civl_reduction.specs.blocks.Cuts.{settled}
 use Rattle.civl_reduction.specs.blocks.Shadow.{course_of}
 use Rattle.civl_reduction.specs.simulation.Refined.{with_values}
 use Rattle.civl_reduction.specs.staged.Stops.{layer_stops, StopsAt}
-use Rattle.civl_shadows.specs.declared.rests.Numbered.{Numbered}
+use Rattle.civl_meaning.specs.declared.remaining.Numbered.{Numbered}
 use Rattle.civl_shadows.specs.Notes.{layer_glides}
-use Rattle.civl_shadows.specs.Rests.{rest_of}
+use Rattle.civl_meaning.specs.Remaining.{rest_of}
 use Rattle.civl_shadows.proofs.Goings.{rest_more}
 use Rattle.civl_followed.specs.declared.acting.Done.{Done}
 use Rattle.civl_followed.specs.Along.{Does, IsChosenOf, IsAfter, IsOffered}

@@ -3,14 +3,8 @@ ghost use Rattle.std.specs.Prelude.{◌≡◌, true, false, IsTrue};
 ghost use Rattle.civl_conditions.specs.footprints.Agreement.{AgreeOn, exists_at};
 
 use civl_bits::Value;
+use civl_conditions::exists_at;
 use civl_tree::Global;
-
-/// Whether a global exists in a layer.
-fn exists_at(layer: u32, global: &Global) -> bool
-    ensures { result ≡ exists_at layer global.now }
-{
-    global.first <= layer && layer <= global.last
-}
 
 /// Whether two values are the same where the global exists in the layer.
 fn agrees(layer: u32, global: &Global, before: Value, after: Value) -> bool

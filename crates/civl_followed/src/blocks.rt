@@ -4,10 +4,10 @@ ghost use Rattle.civl_reduction.specs.blocks.Cuts.{frame_at};
 ghost use Rattle.civl_followed.specs.Followed.{inside_at};
 ghost use Rattle.civl_followed.specs.Frames.{IsKept};
 
+use civl_meaning::remaining::rest_at;
 use civl_meaning::{Activation, Config, Running};
 use civl_shadows::frames::frame_at;
 use civl_shadows::notes::at_yield;
-use civl_shadows::rests::rest_at;
 use civl_tree::{List, Memory, Program};
 use std::alloc::Global;
 

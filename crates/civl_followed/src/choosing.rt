@@ -7,13 +7,13 @@ ghost use Rattle.civl_reduction.specs.blocks.Blocks.{layer_at_yield};
 ghost use Rattle.civl_reduction.specs.simulation.Refined.{with_values};
 ghost use Rattle.civl_reduction.specs.staged.Stops.{StopsAt};
 ghost use Rattle.civl_shadows.specs.Notes.{noted, progress_of};
-ghost use Rattle.civl_shadows.specs.Rests.{rest_of};
+ghost use Rattle.civl_meaning.specs.Remaining.{rest_of};
 ghost use Rattle.civl_followed.specs.Along.{IsChosenOf};
 
 use crate::acting::{Done, does};
 use civl_bits::Value;
+use civl_meaning::remaining::Numbered;
 use civl_shadows::notes::{Noting, Progress, glides, is_yield, note_values};
-use civl_shadows::rests::Numbered;
 use civl_tree::{List, Memory, Proc, Program};
 use std::alloc::Global;
 

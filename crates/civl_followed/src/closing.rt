@@ -1,5 +1,5 @@
 // The end of a block, and what follows it.
-ghost use Rattle.std.specs.Prelude.{ℕ, ◌≡◌, ◌+◌, ◌++◌, ◌∷◌, [], ◌<◌, ◌^◌, true, false, Option, Some, slice_get, IfOk, OnOk};
+ghost use Rattle.std.specs.Prelude.{◌≡◌, ◌+◌, ◌++◌, ◌∷◌, [], ◌<◌, ◌^◌, true, false, Option, Some, slice_get, IfOk, OnOk};
 ghost use Rattle.civl_tree.specs.declared.program.Proc.{Proc};
 ghost use Rattle.civl_meaning.specs.declared.config.Config.{Config as Place};
 ghost use Rattle.civl_meaning.specs.declared.config.Stepped.TheVariants.{Moved};
@@ -20,21 +20,11 @@ use crate::opening::done_at;
 use crate::walk::{Opening, Walk};
 use civl_bits::Value;
 use civl_firing::Store;
+use civl_meaning::copying::copied;
 use civl_meaning::{Activation, Move, Places, Plain, step};
 use civl_shadows::merged;
 use civl_tree::{List, Memory, Program};
 use std::alloc::Global;
-
-/// A copy of a move.
-fn copy_of(alloc: Global, chosen: &Move) -> Result<Move, Memory>
-    ensures { IfOk result (λ m. m ≡ chosen.now) }
-{
-    let choices = Vec::from_slice(alloc, chosen.choices.as_slice())?;
-    Ok(Move {
-        thread: chosen.thread,
-        choices: List::from_vec(choices),
-    })
-}
 
 /// Makes a move of the program of the next layer.
 fn make(
@@ -136,7 +126,7 @@ pub fn close(
     let now = frame_of(alloc, program, layer, threads, number)?;
     match last_of(now, before) {
         None => {
-            let same = copy_of(alloc, last)?;
+            let same = copied(alloc, last)?;
             make(alloc, upper, places, walk, same)?;
             Ok(())
         }

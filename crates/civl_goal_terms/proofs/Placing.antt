@@ -19,8 +19,8 @@ use Rattle.civl_meaning.proofs.Spots.{spot_stands}
 use Rattle.civl_layers.specs.Layered.{IsLayered}
 use Rattle.civl_yields.specs.YieldRules.{yield_rules}
 use Rattle.civl_conditions.proofs.paths.Heading.{number_begins}
-use Rattle.civl_body.specs.declared.rests.Numbered.{Numbered}
-use Rattle.civl_body.specs.Rests.{rest_of}
+use Rattle.civl_meaning.specs.declared.remaining.Numbered.{Numbered}
+use Rattle.civl_meaning.specs.Remaining.{rest_of}
 use Rattle.civl_body.proofs.Forms.{if_size, is_if}
 use Rattle.civl_goals.specs.Listed.{is_root}
 use Rattle.civl_goals.proofs.Plain.{roots_are_plain}
@@ -96,21 +96,26 @@ module _ (program : Program) (layered : IsLayered program) (yields : Keeps yield
         pub spot : spot_at proc.body head.number ≡ Some (record { number = head.number; stmt = head.stmt.now; next = next })
         pub stays : is_skipped head.stmt.now ≡ false
 
+      -- it stands there, and what comes next is the second that is still to run, or the exit
+      shown : spot_at proc.body number ≡ Some (record { number = number; stmt = h.stmt; next = place_in (sizes_of proc.body) (rest_of (drop 1 items)) })
+      shown =
+          let b = number_begins proc.body number h.stmt here in
+          let k : rest_of (drop 1 items) ≡ b.0 = behind_first items ∙ ap (drop 1) (are ∙ b.1) in
+          spot_of_rest proc.body number ∙ ap (head_of (sizes_of proc.body)) b.1
+          ∙ ap (λ (t : Bool). if◌then◌else◌ {A = Option Spot} t (head_of (sizes_of proc.body) b.0) (Some (record { number = number; stmt = h.stmt; next = place_in (sizes_of proc.body) b.0 }))) plain
+          ∙ ap (λ (r : Rest). Some (record { number = number; stmt = h.stmt; next = place_in (sizes_of proc.body) r })) (sym k)
+
+      pub next_within : place_in (sizes_of proc.body) (rest_of (drop 1 items)) ≤ sizes_of proc.body
+      next_within = (spot_stands proc.body number (record { number = number; stmt = h.stmt; next = place_in (sizes_of proc.body) (rest_of (drop 1 items)) }) shown).next
+
       pub stands : (head d : Numbered) (next : ℕ) → head ≡ get_or items 0 d → next ≡ place_in (sizes_of proc.body) (rest_of (drop 1 items)) → Stands head next
       stands head d next e f =
           let own = first_is head d e in
-          let k : Rest = drop 1 (rest_of items) in
-          let place : next ≡ place_in (sizes_of proc.body) k = f ∙ ap (place_in (sizes_of proc.body)) (behind_first items) in
-          let b = number_begins proc.body number h.stmt here in
-          let rest : k ≡ b.0 = ap (drop 1) (are ∙ b.1) in
-          let shown : spot_at proc.body number ≡ Some (record { number = number; stmt = h.stmt; next = place_in (sizes_of proc.body) b.0 }) =
-          spot_of_rest proc.body number ∙ ap (head_of (sizes_of proc.body)) b.1
-          ∙ ap (λ (t : Bool). if◌then◌else◌ {A = Option Spot} t (head_of (sizes_of proc.body) b.0) (Some (record { number = number; stmt = h.stmt; next = place_in (sizes_of proc.body) b.0 }))) plain in
           record {
             same = own.0;
             stmt = ap (statement_at proc.body) own.0 ∙ here ∙ ap (λ (s : Stmt). Some s) (sym own.1);
             spot = ap (spot_at proc.body) own.0 ∙ shown
-                ∙ ap (λ (n : ℕ). Some (record { number = number; stmt = h.stmt; next = n })) (sym (place ∙ ap (place_in (sizes_of proc.body)) rest))
+                ∙ ap (λ (n : ℕ). Some (record { number = number; stmt = h.stmt; next = n })) (sym f)
                 ∙ ap₂ (λ (n : ℕ) (s : Stmt). Some (record { number = n; stmt = s; next = next })) (sym own.0) (sym own.1);
             stays = ap is_skipped own.1 ∙ plain;
           }

@@ -38,10 +38,7 @@ pub(crate) fn held_at(
 ) -> Result<List<u32>, Memory>
     ensures { IfOk result (λ numbers. numbers ≡ of_proc src.now root [] (λ proc. held_before src.now proc number)) }
 {
-    match held_before(alloc, src, root, number) {
-        Ok(numbers) => Ok(numbers),
-        Err(_) => Err(Memory),
-    }
+    held_before(alloc, src, root, number)
 }
 
 /// Whether all holds and the note before the statement are true.

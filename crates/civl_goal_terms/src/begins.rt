@@ -23,8 +23,8 @@ ghost use Rattle.civl_goal_terms.specs.Told.{TellsStore};
 
 use crate::frames::begins_astray;
 use crate::holds::holds_at;
-use crate::tests::without;
 use civl_movers::interfere::{argument_terms, initial_at};
+use civl_moves::without;
 use civl_outlines::Outline;
 use civl_states::formula_parts::both;
 use civl_states::{Existing, store};

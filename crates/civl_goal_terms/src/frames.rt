@@ -1,11 +1,11 @@
 // The first frames of procedures.
-ghost use Rattle.std.specs.Prelude.{◌≡◌, ◌+◌, ◌≤◌, ◌++◌, not, map, List as ListOf, All, IsTrue, Some, slice_get, IfOk, OnOk};
+ghost use Rattle.std.specs.Prelude.{◌≡◌, ◌+◌, ◌≤◌, ◌++◌, not, List as ListOf, All, IsTrue, Some, slice_get, IfOk, OnOk};
 ghost use Rattle.civl_bits.specs.declared.value.Value.{Value as Meant};
 ghost use Rattle.civl_tree.specs.declared.expr.Sort.TheVariants.{Bool as Truth};
 ghost use Rattle.civl_tree.specs.rules.Rules.{Keeps};
 ghost use Rattle.civl_tree.specs.rules.Typing.{typing_rules};
 ghost use Rattle.civl_tree.specs.rules.Uses.{param_sorts};
-ghost use Rattle.civl_firing.specs.values.Values.{is_sort, zero_of};
+ghost use Rattle.civl_firing.specs.values.Values.{is_sort};
 ghost use Rattle.civl_firing.specs.declared.store.Store.{Store};
 ghost use Rattle.civl_firing.specs.Scope.{zeros_of_params, zeros_of_locals};
 ghost use Rattle.civl_meaning.specs.Config.{frame_sorts};
@@ -28,41 +28,12 @@ ghost use Rattle.civl_goal_terms.specs.Frames.{named_sorts, begins_astray};
 use crate::notes::note_at;
 use civl_bits::Value;
 use civl_firing::names::proc as place_of_proc;
-use civl_firing::values::zero;
 use civl_outlines::Outline;
 use civl_states::formula_parts::negated;
+use civl_states::{inner_sorts, zeros};
 use civl_terms::{Id, Memory, Terms};
-use civl_tree::{List, Name, Proc, Program, Sort};
+use civl_tree::{List, Name, Proc, Program};
 use std::alloc::Global as Alloc;
-
-/// The sorts of a procedure's outputs and locals.
-fn inner_sorts(alloc: Alloc, proc: &Proc) -> Result<Vec<Sort>, Memory>
-    ensures { IfOk result (λ sorts. sorts.items ≡ inner_sorts proc.now) }
-{
-    let mut sorts = Vec::new(alloc);
-    for out in proc.outs.as_slice() {
-        sorts.push(out.sort)?;
-    }
-    for local in proc.locals.as_slice() {
-        sorts.push(local.sort)?;
-    }
-    Ok(sorts)
-}
-
-/// The terms of the zeros of these sorts.
-fn zeros(alloc: Alloc, terms: &mut Terms, sorts: &[Sort]) -> Result<List<Id>, Memory>
-    requires { All (λ s. IsTrue (is_sort s)) sorts.now }
-    ensures said { IfOk result (λ ids. AreSaid terms.new ids sorts.now (λ env. map zero_of sorts.now)) }
-    ensures grows { Grows terms.old terms.new }
-    ensures weighs { OnOk result (graph_weight terms.new ≤ graph_weight terms.old) }
-{
-    let mut ids = Vec::new(alloc);
-    for sort in sorts {
-        let id = terms.constant(zero(*sort))?;
-        ids.push(id)?;
-    }
-    Ok(List::from_vec(ids))
-}
 
 /// The terms of the outputs and locals in a first frame, which are zeros.
 fn inner_zeros(alloc: Alloc, terms: &mut Terms, proc: &Proc) -> Result<List<Id>, Memory>

@@ -1,5 +1,5 @@
 // The statements of roots, with the places behind them, and where `if`s and loops lead.
-ghost use Rattle.std.specs.Prelude.{◌≡◌, ◌<◌, ◌+◌, ◌^◌, Some, drop, IfOk};
+ghost use Rattle.std.specs.Prelude.{◌≡◌, ◌<◌, ◌≤◌, ◌+◌, ◌^◌, Some, drop, IfOk};
 ghost use Rattle.civl_tree.specs.declared.stmt.Stmt.{out-Stmt};
 ghost use Rattle.civl_tree.specs.Numbering.{sizes_of};
 ghost use Rattle.civl_tree.specs.rules.Rules.{Keeps};
@@ -7,12 +7,12 @@ ghost use Rattle.civl_meaning.specs.Places.{start_of, spot_at};
 ghost use Rattle.civl_meaning.specs.Rest.{place_in};
 ghost use Rattle.civl_layers.specs.Layered.{IsLayered};
 ghost use Rattle.civl_yields.specs.YieldRules.{yield_rules};
-ghost use Rattle.civl_body.specs.Rests.{rest_of};
+ghost use Rattle.civl_meaning.specs.Remaining.{rest_of};
 ghost use Rattle.civl_goal_terms.specs.Places.{IsAt, fork_in, told};
 ghost use Rattle.civl_goal_terms.specs.There.{HasStatement};
 
 use civl_body::sizes::sizes;
-use civl_body::{Numbered, push_among};
+use civl_meaning::remaining::{Numbered, push_among};
 use civl_terms::Memory;
 use civl_tree::{Expr, List, Proc, Program, Stmt};
 use std::alloc::Global as Alloc;
@@ -30,10 +30,11 @@ pub(crate) struct At<'a> {
 /// The place at which the second of what is still to run begins: that of the exit where there is none.
 fn next_place(proc: &Proc, rest: &[Numbered<'_>]) -> u32
     requires small { sizes_of proc.now.body < 2 ^ 32 }
+    requires within { place_in (sizes_of proc.now.body) (rest_of (drop 1 rest.now)) ≤ sizes_of proc.now.body }
     ensures { result ≡ place_in (sizes_of proc.now.body) (rest_of (drop 1 rest.now)) }
 {
     if 1 < rest.len() {
-        return rest[1].number;
+        return rest[1].number as u32;
     }
     sizes(&proc.body)
 }
@@ -54,13 +55,13 @@ pub(crate) fn find<'a>(
 {
     let proc = program.procs.get(root as usize);
     let mut rest = Vec::new(alloc);
-    push_among(&mut rest, &proc.body, 0, number)?;
+    push_among(&mut rest, &proc.body, 0, number as usize)?;
     let rest = rest.as_slice();
     let head = rest[0];
     Ok(At {
         root,
         proc,
-        number: head.number,
+        number: head.number as u32,
         stmt: head.stmt,
         next: next_place(proc, rest),
     })

@@ -2,54 +2,24 @@
 ghost use Rattle.std.specs.Prelude.{◌≡◌, ◌++◌, [], map, filter, slice_get, IfOk, OnOk};
 ghost use Rattle.std.specs.Option.{option_map_or};
 ghost use Rattle.civl_tree.specs.declared.stmt.Stmt.{out-Stmt};
-ghost use Rattle.civl_tree.specs.Numbering.{statements_of};
-ghost use Rattle.civl_tree.specs.rules.Uses.{param_sorts};
 ghost use Rattle.civl_meaning.specs.Config.{frame_sorts};
 ghost use Rattle.civl_meaning.specs.Layers.{topmost};
 ghost use Rattle.civl_meaning.specs.Meaning.{called};
 ghost use Rattle.civl_conditions.specs.footprints.Agreement.{exists_at};
-ghost use Rattle.civl_conditions.specs.Steps.{of_action};
 ghost use Rattle.civl_conditions.specs.Variables.{choices_of, layer_choices};
-ghost use Rattle.civl_states.specs.Runs.{instance_sorts};
 ghost use Rattle.civl_goal_terms.specs.Formulas.{sorts_of};
 ghost use Rattle.civl_goal_terms.specs.Sorted.{top_sorts, sorts_in_frame, choices_in, chosen_sorts, statement_sorts, grouped_sorts};
 
-use civl_conditions::action_called;
+use civl_conditions::{action_called, exists_at};
 use civl_goals::Goal;
 use civl_layers::{Layered, program};
 use civl_names::walks::statements;
+use civl_states::sort_groups::{push_action, push_choices, push_locals, push_params};
 use civl_terms::Memory;
-use civl_tree::{Action, Choice, Global, List, Local, Name, Param, Proc, Program, Sort, Stmt};
+use civl_tree::{Choice, Global, List, Name, Proc, Program, Sort, Stmt};
 use std::alloc::Global as Alloc;
 
 // ---- groups
-
-fn push_params(sorts: &mut Vec<Sort>, params: &[Param]) -> Result<(), Memory>
-    ensures { OnOk result (sorts.new.items ≡ sorts.old.items ++ param_sorts params.now) }
-{
-    for param in params {
-        sorts.push(param.sort)?;
-    }
-    Ok(())
-}
-
-fn push_choices(sorts: &mut Vec<Sort>, choices: &[Choice]) -> Result<(), Memory>
-    ensures { OnOk result (sorts.new.items ≡ sorts.old.items ++ map (λ c. c.sort) choices.now) }
-{
-    for choice in choices {
-        sorts.push(choice.sort)?;
-    }
-    Ok(())
-}
-
-fn push_locals(sorts: &mut Vec<Sort>, locals: &[Local]) -> Result<(), Memory>
-    ensures { OnOk result (sorts.new.items ≡ sorts.old.items ++ map (λ l. l.sort) locals.now) }
-{
-    for local in locals {
-        sorts.push(local.sort)?;
-    }
-    Ok(())
-}
 
 /// All globals.
 fn push_globals(sorts: &mut Vec<Sort>, globals: &[Global]) -> Result<(), Memory>
@@ -59,13 +29,6 @@ fn push_globals(sorts: &mut Vec<Sort>, globals: &[Global]) -> Result<(), Memory>
         sorts.push(global.sort)?;
     }
     Ok(())
-}
-
-/// Whether a global exists in a layer.
-fn exists_at(layer: u32, global: &Global) -> bool
-    ensures { result ≡ exists_at layer global.now }
-{
-    global.first <= layer && layer <= global.last
 }
 
 /// Those of the globals that exist in a layer.
@@ -85,27 +48,6 @@ fn push_top(sorts: &mut Vec<Sort>, program: &Program) -> Result<(), Memory>
     ensures { OnOk result (sorts.new.items ≡ sorts.old.items ++ top_sorts program.now) }
 {
     push_existing(sorts, program.layers, program.globals.as_slice())
-}
-
-/// The parameters and choices of an action.
-fn push_instance(sorts: &mut Vec<Sort>, action: &Action) -> Result<(), Memory>
-    ensures { OnOk result (sorts.new.items ≡ sorts.old.items ++ instance_sorts action.now) }
-{
-    push_params(sorts, action.params.as_slice())?;
-    push_choices(sorts, action.choices.as_slice())
-}
-
-/// The parameters and choices of the action with this number, where there is one.
-fn push_action(sorts: &mut Vec<Sort>, program: &Program, number: u32) -> Result<(), Memory>
-    ensures { OnOk result (sorts.new.items ≡ sorts.old.items ++ of_action program.now number [] instance_sorts) }
-{
-    match program.actions.as_slice().get(number as usize) {
-        Some(action) => {
-            push_instance(sorts, action)?;
-            Ok(())
-        }
-        None => Ok(()),
-    }
 }
 
 /// The parameters, outputs and locals of a procedure.
@@ -171,16 +113,6 @@ fn number_choices<'a>(program: &'a Program, flat: &[&Stmt], number: u32) -> &'a 
     }
 }
 
-/// All statements of a procedure.
-fn flat_statements<'a>(alloc: Alloc, proc: &'a Proc) -> Result<Vec<&'a Stmt>, Memory>
-    ensures { IfOk result (λ flat. map (λ stmt. stmt.now) flat.items ≡ statements_of proc.now.body) }
-{
-    match statements(alloc, &proc.body) {
-        Ok(flat) => Ok(flat),
-        Err(_) => Err(Memory),
-    }
-}
-
 /// The choices of the statement of a procedure that has this number.
 fn push_in(
     alloc: Alloc,
@@ -191,7 +123,7 @@ fn push_in(
 ) -> Result<(), Memory>
     ensures { OnOk result (sorts.new.items ≡ sorts.old.items ++ map (λ c. c.sort) (choices_in program.now proc.now number)) }
 {
-    let flat = flat_statements(alloc, proc)?;
+    let flat = statements(alloc, &proc.body)?;
     push_choices(sorts, number_choices(program, flat.as_slice(), number))
 }
 

@@ -1,27 +1,14 @@
 // Bools made of bools.
-ghost use Rattle.std.specs.Prelude.{◌≡◌, ◌+◌, ◌≤◌, not, ◌&&◌, if◌then◌else◌, Bool, Some, IfOk, OnOk};
+ghost use Rattle.std.specs.Prelude.{◌≡◌, ◌+◌, ◌≤◌, if◌then◌else◌, Bool, Some, IfOk, OnOk};
 ghost use Rattle.civl_tree.specs.declared.expr.Sort.TheVariants.{Bool as Truth};
 ghost use Rattle.civl_terms.specs.Graphs.{sort_at};
 ghost use Rattle.civl_terms.specs.Building.{Grows};
 ghost use Rattle.civl_terms.specs.Weights.{graph_weight};
 ghost use Rattle.civl_states.specs.formula_parts.Said.{Env, IsTest};
 
-use civl_states::formula_parts::{both, either, negated};
+use civl_moves::without;
+use civl_states::formula_parts::{both, either};
 use civl_terms::{Id, Memory, Terms};
-
-/// Whether the first test is true and the second isn't.
-pub(crate) fn without(terms: &mut Terms, a: Id, b: Id) -> Result<Id, Memory>
-    requires a { sort_at terms.old a ≡ Some Truth }
-    requires b { sort_at terms.old b ≡ Some Truth }
-    ensures test { IfOk result (λ id. (f g : Env → Bool) → IsTest terms.old a f → IsTest terms.old b g → IsTest terms.new id (λ env. f env && not (g env))) }
-    ensures sorted { IfOk result (λ id. sort_at terms.new id ≡ Some Truth) }
-    ensures grows { Grows terms.old terms.new }
-    ensures weighs { OnOk result (graph_weight terms.new ≤ graph_weight terms.old + 2) }
-{
-    let opposite = negated(terms, b)?;
-    let id = both(terms, a, opposite)?;
-    Ok(id)
-}
 
 /// The second test where the first is true, and else the third.
 pub(crate) fn chosen(terms: &mut Terms, test: Id, a: Id, b: Id) -> Result<Id, Memory>

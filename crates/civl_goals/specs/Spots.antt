@@ -1,13 +1,15 @@
--- Serves private functions: the places of notes, as a set.
+-- The places of notes; and sets of them, which serve private functions.
 use Rattle.std.specs.Prelude.{Bool, ◌&&◌, nat_eq, if◌then◌else◌, List, [], ◌∷◌, ◌++◌}
 use Rattle.std.specs.List.{list_any}
 use Rattle.civl_outlines.specs.declared.outline.Note.{Note}
 use Rattle.civl_goals.specs.declared.spots.Spot.{Spot}
 use Rattle.civl_goals.specs.declared.spots.Spots.{Spots}
 
+-- whether two places are the same
 abbrev pub same_spot : Spot → Spot → Bool
 same_spot a b = nat_eq a.item b.item && nat_eq a.statement b.statement
 
+-- where a note stands
 abbrev pub spot_of : Note → Spot
 spot_of note = record { item = note.item; statement = note.statement }
 

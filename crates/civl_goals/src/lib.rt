@@ -17,4 +17,5 @@ pub use holding::{held_before, held_counts};
 pub use listing::goals;
 pub use naming::goal_name;
 pub use rules::{first_descending, first_unfit};
+pub use spots::{Spot, spot_of};
 pub use variables::goal_variables;

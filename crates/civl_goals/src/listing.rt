@@ -2,7 +2,7 @@
 ghost use Rattle.std.specs.Prelude.{◌≡◌, ◌<◌, ◌^◌, ◌++◌, ◌∷◌, ◌&&◌, [], length, map, is_some, if◌then◌else◌, OnOk, IfOk};
 ghost use Rattle.std.specs.List.{list_any};
 ghost use Rattle.civl_tree.specs.declared.stmt.Stmt.{out-Stmt};
-ghost use Rattle.civl_tree.specs.Numbering.{sizes_of, statements_of};
+ghost use Rattle.civl_tree.specs.Numbering.{sizes_of};
 ghost use Rattle.civl_tree.specs.Numbered.{IsNumbered};
 ghost use Rattle.civl_tree.specs.rules.Names.{has_name, targets_of};
 ghost use Rattle.civl_tree.specs.rules.Width.{is_linear};
@@ -18,10 +18,11 @@ use crate::roots::{begins, is_root};
 use crate::rules::proc_item;
 use crate::spots::{Spot, Spots, spots_of};
 use civl_layers::{Layered, program};
+use civl_linear::is_given;
 use civl_names::walks::statements;
 use civl_outlines::Outline;
-use civl_tree::{Action, List, Memory, Mode, Name, Param, Proc, Program, Stmt, Thread, Update};
-use civl_types::names::same_name;
+use civl_tree::{Action, List, Memory, Name, Param, Proc, Program, Stmt, Thread};
+use civl_types::{is_linear, is_updated};
 use std::alloc::Global;
 
 // ---- threads
@@ -53,24 +54,6 @@ fn push_threads(list: &mut List<Goal>, program: &Program) -> Result<(), Memory>
 
 // ---- actions of the top layer
 
-fn is_linear(mode: Mode) -> bool
-    ensures { result ≡ is_linear mode }
-{
-    match mode {
-        Mode::Val => false,
-        Mode::Lend | Mode::Take | Mode::Give => true,
-    }
-}
-
-fn is_given(mode: Mode) -> bool
-    ensures { result ≡ is_given mode }
-{
-    match mode {
-        Mode::Give => true,
-        Mode::Val | Mode::Lend | Mode::Take => false,
-    }
-}
-
 /// Whether a parameter is linear.
 fn has_linear(params: &[Param]) -> bool
     ensures { result ≡ list_any (λ p. is_linear p.mode) params.now }
@@ -95,24 +78,12 @@ fn has_given(outs: &[Param]) -> bool
     false
 }
 
-/// Whether one of these updates is of this name.
-fn is_target(updates: &[Update], name: &Name) -> bool
-    ensures { result ≡ has_name (map (λ update. update.target) updates.now) name.now }
-{
-    for update in updates {
-        if same_name(name, &update.target) {
-            return true;
-        }
-    }
-    false
-}
-
 /// Whether the action updates a linear global.
 fn updates_linear(program: &Program, action: &Action) -> bool
     ensures { result ≡ list_any (λ g. g.linear && has_name (targets_of action.now) g.name) program.now.globals }
 {
     for global in program.globals.as_slice() {
-        if global.linear && is_target(action.updates.as_slice(), &global.name) {
+        if global.linear && is_updated(action.updates.as_slice(), &global.name) {
             return true;
         }
     }

@@ -1,48 +1,13 @@
 // The printed names of goals.
 ghost use Rattle.std.specs.Prelude.{◌≡◌, ◌++◌, OnOk, IfOk, codes, decimal};
-ghost use Rattle.civl_conditions.specs.Names.{action_text, proc_text};
+ghost use Rattle.civl_conditions.specs.Names.{action_text};
 ghost use Rattle.civl_goals.specs.Names.{statement_text, goal_text};
 
 use crate::Goal;
+use civl_conditions::naming::{put, put_action, put_number, put_proc};
 use civl_layers::{Layered, program};
 use civl_tree::{Memory, Program};
-use itoa::Buffer;
 use std::alloc::Global;
-
-fn put(out: &mut Vec<u8>, text: &[u8]) -> Result<(), Memory>
-    ensures { OnOk result (out.new.items ≡ out.old.items ++ text.now) }
-{
-    out.extend_from_slice(text)?;
-    Ok(())
-}
-
-fn put_number(out: &mut Vec<u8>, number: u32) -> Result<(), Memory>
-    ensures { OnOk result (out.new.items ≡ out.old.items ++ decimal number) }
-{
-    let mut buffer = Buffer::new();
-    out.extend_from_slice(buffer.format(number).as_bytes())?;
-    Ok(())
-}
-
-/// The name of the action with this number, where there is one.
-fn put_action(out: &mut Vec<u8>, program: &Program, action: u32) -> Result<(), Memory>
-    ensures { OnOk result (out.new.items ≡ out.old.items ++ action_text program.now action) }
-{
-    match program.actions.as_slice().get(action as usize) {
-        Some(action) => put(out, action.name.as_slice()),
-        None => Ok(()),
-    }
-}
-
-/// The name of the procedure with this number, where there is one.
-fn put_proc(out: &mut Vec<u8>, program: &Program, proc: u32) -> Result<(), Memory>
-    ensures { OnOk result (out.new.items ≡ out.old.items ++ proc_text program.now proc) }
-{
-    match program.procs.as_slice().get(proc as usize) {
-        Some(proc) => put(out, proc.name.as_slice()),
-        None => Ok(()),
-    }
-}
 
 /// A statement of a procedure.
 fn put_statement(

@@ -15,7 +15,7 @@ pub struct Spot {
 }
 
 /// The place of a note.
-pub(crate) fn spot_of(note: &Note) -> Spot
+pub fn spot_of(note: &Note) -> Spot
     ensures { result ≡ spot_of note.now }
 {
     Spot {

@@ -8,7 +8,6 @@
 //! What comes of the moves stands in specs/ (`Lifted`).
 #![tactic(auto)]
 
-mod copying;
 mod lifted;
 mod lifting;
 

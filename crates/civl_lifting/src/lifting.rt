@@ -5,13 +5,13 @@ ghost use Rattle.civl_meaning.specs.Layers.{lowest};
 ghost use Rattle.civl_reduction.specs.simulation.Followed.{IsAccepted};
 ghost use Rattle.civl_lifting.specs.Lifted.{FailsBy, IsLifted};
 
-use crate::copying::copies;
 use crate::lifted::Lifted;
 use civl_blocked::{Blocked, block_run};
 use civl_firing::Store;
 use civl_followed::follow;
 use civl_layers::{Layered, program};
 use civl_meaning::Move;
+use civl_meaning::copying::copies;
 use civl_tree::{List, Memory};
 use std::alloc::Global;
 

@@ -15,5 +15,6 @@ mod tracing;
 
 pub use answer::{held, refusal};
 pub use listing::{held_in, held_numbers};
+pub use modes::{is_given, is_lent};
 pub use places::names_in_proc;
 pub use tracing::flags_before;

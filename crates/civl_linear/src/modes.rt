@@ -33,7 +33,7 @@ pub(crate) fn is_taken(mode: Mode) -> bool
 }
 
 /// Whether a linear value is handed in, and handed back.
-pub(crate) fn is_lent(mode: Mode) -> bool
+pub fn is_lent(mode: Mode) -> bool
     ensures { result ≡ is_lent mode }
 {
     match mode {
@@ -43,7 +43,7 @@ pub(crate) fn is_lent(mode: Mode) -> bool
 }
 
 /// Whether a linear value is handed out.
-pub(crate) fn is_given(mode: Mode) -> bool
+pub fn is_given(mode: Mode) -> bool
     ensures { result ≡ is_given mode }
 {
     match mode {

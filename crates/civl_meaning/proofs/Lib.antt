@@ -13,7 +13,6 @@ pub mod Rests
 pub mod Bindings
 pub mod Bodies
 pub mod Left
-pub mod Resting
 pub mod Frames
 pub mod Begun
 pub mod Spots

@@ -4,6 +4,7 @@ pub mod Table
 pub mod Filled
 pub mod Left
 pub mod Rest
+pub mod Remaining
 pub mod Frame
 pub mod Meaning
 pub mod Callees

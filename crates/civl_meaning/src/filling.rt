@@ -7,7 +7,8 @@ ghost use Rattle.civl_meaning.specs.Table.{IsFound, entry, ArePlacesOf, ArePlace
 ghost use Rattle.civl_meaning.specs.Filled.{Filled, here_spot};
 
 use crate::config::Plain;
-use crate::found::{Found, counted_all, itself, size, sizes, skipped};
+use crate::found::{Found, itself, skipped};
+use crate::sizes::{counted_all, size, sizes};
 use crate::table::{BodyPlaces, Places};
 use civl_tree::{List, Memory, Proc, Stmt};
 use std::alloc::Global;

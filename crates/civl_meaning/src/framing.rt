@@ -1,124 +1,34 @@
 // The frames of a thread, with the statements that are still to run.
-ghost use Rattle.std.specs.Prelude.{◌≡◌, ◌+◌, ◌-◌, ◌^◌, ◌<◌, ◌++◌, [], ◌∷◌, length, map, slice_get, Some, IfOk, IfSome, OnOk};
+ghost use Rattle.std.specs.Prelude.{◌≡◌, ◌+◌, ◌-◌, ◌<◌, ◌++◌, [], ◌∷◌, length, map, slice_get, Some, IfOk, IfSome};
 ghost use Rattle.civl_meaning.specs.Depth.{depth_of};
 ghost use Rattle.civl_meaning.specs.Frame.{unnumbered, left_in, frame_in, bare_call, first_frame, frames_of};
-ghost use Rattle.civl_tree.specs.Numbering.{size_of, sizes_of};
-ghost use Rattle.civl_meaning.specs.Rest.{rest_among, rest_inside};
+ghost use Rattle.civl_meaning.specs.Remaining.{rest_of};
 
 use crate::config::{Activation, Config, Plain, Running, State};
-use crate::found::{counted_all, size, sizes};
 use crate::frame_copy::Frame;
 use crate::leaving::copied;
+use crate::remaining::{Numbered, rest_at};
 use civl_tree::{List, Memory, Proc, Stmt, TryClone, copy_stmt};
 use std::alloc::Global;
 
-/// Puts copies of these statements behind others.
-fn push_copies(alloc: Global, rest: &mut Vec<Stmt>, stmts: &[Stmt]) -> Result<(), Memory>
-    ensures { OnOk result (rest.new.items ≡ rest.old.items ++ stmts.now) }
+/// Copies of these statements, without their numbers.
+fn copied_stmts(alloc: Global, rest: &[Numbered<'_>]) -> Result<List<Stmt>, Memory>
+    ensures { IfOk result (λ stmts. stmts ≡ unnumbered (rest_of rest.now)) }
 {
-    for stmt in stmts {
-        let copy = copy_stmt(alloc, stmt)?;
-        rest.push(copy)?;
+    let mut stmts = Vec::new(alloc);
+    for item in rest {
+        let copy = copy_stmt(alloc, item.stmt)?;
+        stmts.push(copy)?;
     }
-    Ok(())
-}
-
-/// Puts a copy of this statement behind others.
-fn push_copy(alloc: Global, rest: &mut Vec<Stmt>, stmt: &Stmt) -> Result<(), Memory>
-    ensures { OnOk result (rest.new.items ≡ rest.old.items ++ stmt.now ∷ []) }
-{
-    let copy = copy_stmt(alloc, stmt)?;
-    rest.push(copy)?;
-    Ok(())
-}
-
-/// Puts copies of what is still to run from a place among these statements behind others.
-#[cycle(rest)]
-fn push_among(
-    alloc: Global,
-    rest: &mut Vec<Stmt>,
-    stmts: &List<Stmt>,
-    at: usize,
-    wanted: usize,
-) -> Result<(), Memory>
-    requires { at + sizes_of stmts.now < 2 ^ 64 }
-    ensures { OnOk result (rest.new.items ≡ rest.old.items ++ unnumbered (rest_among stmts.now at [] wanted)) }
-{
-    let items = stmts.as_slice();
-    let mut here = at;
-    for i in 0..items.len() {
-        let stmt = &items[i];
-        let behind = here + size(stmt);
-        if wanted < behind {
-            if wanted == here {
-                push_copies(alloc, rest, &items[i..])?;
-                return Ok(());
-            }
-            push_inside(alloc, rest, stmt, here, wanted)?;
-            push_copies(alloc, rest, &items[i + 1..])?;
-            return Ok(());
-        }
-        here = behind;
-    }
-    Ok(())
-}
-
-/// The same from a place inside a statement.
-#[cycle(rest)]
-#[tactic(auto, using(crate::proofs::Resting::resting))]
-fn push_inside(
-    alloc: Global,
-    rest: &mut Vec<Stmt>,
-    stmt: &Stmt,
-    at: usize,
-    wanted: usize,
-) -> Result<(), Memory>
-    requires { at + size_of stmt.now < 2 ^ 64 }
-    ensures { OnOk result (rest.new.items ≡ rest.old.items ++ unnumbered (rest_inside stmt.now stmt.now at [] wanted)) }
-{
-    match stmt {
-        Stmt::If(_, a, b) => {
-            let second = at + 1 + sizes(a);
-            if wanted < second {
-                push_among(alloc, rest, a, at + 1, wanted)
-            } else {
-                push_among(alloc, rest, b, second, wanted)
-            }
-        }
-        Stmt::While(_, a) => {
-            push_among(alloc, rest, a, at + 1, wanted)?;
-            push_copy(alloc, rest, stmt)
-        }
-        Stmt::YieldLoop(_, _, a) => {
-            push_among(alloc, rest, a, at + 1, wanted)?;
-            push_copy(alloc, rest, stmt)
-        }
-        Stmt::RankLoop(_, _, _, a) => {
-            push_among(alloc, rest, a, at + 1, wanted)?;
-            push_copy(alloc, rest, stmt)
-        }
-        Stmt::Assign(_, _) => Ok(()),
-        Stmt::Assert(_) => Ok(()),
-        Stmt::Call(_, _, _) => Ok(()),
-        Stmt::Yield(_) => Ok(()),
-        Stmt::Commit => Ok(()),
-        Stmt::Intro(_, _) => Ok(()),
-        Stmt::Spawn(_, _) => Ok(()),
-    }
+    Ok(List::from_vec(stmts))
 }
 
 /// What is still to run from a place of a procedure's body on.
 fn left_in_body(alloc: Global, proc: &Proc, place: usize) -> Result<List<Stmt>, Memory>
     ensures { IfOk result (λ rest. rest ≡ left_in (Some proc.now) place) }
 {
-    match counted_all(&proc.body) {
-        None => Err(Memory),
-        Some(_) => {
-            let mut rest = Vec::new(alloc);
-            push_among(alloc, &mut rest, &proc.body, 0, place)?;
-            Ok(List::from_vec(rest))
-        }
-    }
+    let rest = rest_at(alloc, proc, place)?;
+    copied_stmts(alloc, rest.as_slice())
 }
 
 /// The frame of a procedure.

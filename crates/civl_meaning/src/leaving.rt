@@ -1,15 +1,16 @@
 // What a step does at the exit of a procedure, and what it does by the place of a thread.
-ghost use Rattle.std.specs.Prelude.{◌≡◌, length, take, drop, slice_get, IfOk};
+ghost use Rattle.std.specs.Prelude.{◌≡◌, slice_get, IfOk};
 ghost use Rattle.civl_tree.specs.declared.stmt.Stmt.{out-Stmt};
 ghost use Rattle.civl_meaning.specs.Found.{spot, Fits};
 ghost use Rattle.civl_meaning.specs.Table.{ArePlaces};
-ghost use Rattle.civl_meaning.specs.Change.{returned_layer, returned_at, returned_in, returned, leaves, outs_in, spot_change, proc_change, caller_of, change_of};
+ghost use Rattle.civl_meaning.specs.Change.{returned_layer, returned_at, returned, leaves, outs_in, spot_change, proc_change, caller_of, change_of};
 
 use crate::change::{Standing, first_call, frame_targets, statement, write_results};
 use crate::config::{Activation, Change, Plain, Running, State, Stepped};
 use crate::filling::found_at;
 use crate::found::Found;
 use crate::meant::of_proc;
+use crate::slices::{behind, first};
 use crate::table::Places;
 use civl_bits::Value;
 use civl_firing::Store;
@@ -118,30 +119,8 @@ fn leave(
     Ok(Change::Leaves(Some(frame)))
 }
 
-/// The values from a place on.
-fn behind(values: &[Value], from: usize) -> &[Value]
-    ensures { result.now ≡ drop from values.now }
-{
-    if from < values.len() {
-        &values[from..]
-    } else {
-        &[]
-    }
-}
-
-/// So many values, or all where there are fewer.
-fn first(values: &[Value], count: usize) -> &[Value]
-    ensures { result.now ≡ take count values.now }
-{
-    if count < values.len() {
-        &values[..count]
-    } else {
-        values
-    }
-}
-
 /// The outputs among a frame's locals.
-fn outputs<'a>(proc: &Proc, locals: &'a [Value]) -> &'a [Value]
+pub fn outputs<'a>(proc: &Proc, locals: &'a [Value]) -> &'a [Value]
     ensures { result.now ≡ outs_in proc.now locals.now }
 {
     first(behind(locals, proc.params.len()), proc.outs.len())

@@ -8,13 +8,15 @@
 //!
 //! Code does what they say: it starts a plain program ([`start`]), takes a step of a configuration ([`step`]), finds the
 //! first thread that fails ([`failing`]), and gives a thread's frames with the statements that are still to run
-//! ([`frame`]). Expressions and actions are here under the names of `civl_firing`, as [`evaluate`], [`fire`] and
+//! ([`frame`]). The parts of that are for the crates above too: how many statements there are ([`sizes`]), and what is still to run
+//! from a place of a body, each with its number ([`remaining`]). Expressions and actions are here under the names of `civl_firing`, as [`evaluate`], [`fire`] and
 //! [`truth_table`].
 #![tactic(auto)]
 
 mod change;
 mod config;
 mod configs;
+pub mod copying;
 mod faults;
 mod filling;
 mod found;
@@ -24,7 +26,10 @@ pub mod laws;
 mod leaving;
 mod meant;
 mod moving;
+pub mod remaining;
 mod seeking;
+pub mod sizes;
+pub mod slices;
 mod starting;
 mod table;
 
@@ -35,8 +40,10 @@ pub use config::{Activation, Config, Move, Plain, Running, State, Stepped};
 pub use configs::{copy_config, depth, same, store, threads};
 pub use faults::failing;
 pub use filling::places_of;
+pub use found::skipped;
 pub use frame_copy::Frame;
 pub use framing::frame;
+pub use leaving::outputs;
 pub use moving::step;
 pub use starting::start;
 pub use table::Places;

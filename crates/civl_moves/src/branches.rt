@@ -88,12 +88,17 @@ pub struct Fork {
     pub second: Id,
 }
 
-/// Whether the first test is true and the second isn't.
+/// Whether the first test is true and the second isn't. The graph's weight rises by 2 at most.
+///
+/// # Errors
+///
+/// For want of memory; the nodes before stay.
 #[tactic(auto, using(crate::proofs::States::states))]
-fn without(terms: &mut Terms, a: Id, b: Id) -> Result<Id, Memory>
+pub fn without(terms: &mut Terms, a: Id, b: Id) -> Result<Id, Memory>
     requires a { sort_at terms.old a ≡ Some Truth }
     requires b { sort_at terms.old b ≡ Some Truth }
     ensures test { IfOk result (λ id. (f g : Env → Bool) → IsTest terms.old a f → IsTest terms.old b g → IsTest terms.new id (λ env. f env && not (g env))) }
+    ensures sorted { IfOk result (λ id. sort_at terms.new id ≡ Some Truth) }
     ensures grows { Grows terms.old terms.new }
     ensures weighs { OnOk result (graph_weight terms.new ≤ graph_weight terms.old + 2) }
 {

@@ -12,9 +12,9 @@ mod stops;
 mod sweep;
 pub mod sweeps;
 
-pub use branches::{Fork, Front, front_with, join, part, swap};
+pub use branches::{Fork, Front, front_with, join, part, swap, without};
 pub use calls::{body_terms, pass_action};
 pub use expressions::{body_term, note_term};
-pub use plain::{pass_assert, pass_assign, pass_commit, pass_intro};
+pub use plain::{implied, pass_assert, pass_assign, pass_commit, pass_intro};
 pub use stops::{copied, halt, pass_cut, stop};
 pub use sweep::{Stop, Sweep};

@@ -33,9 +33,13 @@ use civl_tree::{Expr, List, Name, Proc, Program, Two};
 use std::alloc::Global as Alloc;
 use std::mem;
 
-/// Whether the second test is true where the first one is.
+/// Whether the second test is true where the first one is. The graph's weight rises by 1 at most.
+///
+/// # Errors
+///
+/// For want of memory; the nodes before stay.
 #[tactic(auto, using(crate::proofs::States::states))]
-fn implied(terms: &mut Terms, a: Id, b: Id) -> Result<Id, Memory>
+pub fn implied(terms: &mut Terms, a: Id, b: Id) -> Result<Id, Memory>
     requires a { sort_at terms.old a ≡ Some Truth }
     requires b { sort_at terms.old b ≡ Some Truth }
     ensures test { IfOk result (λ id. (f g : Env → Bool) → IsTest terms.old a f → IsTest terms.old b g → IsTest terms.new id (λ env. not (f env) || g env)) }

@@ -44,10 +44,8 @@ fn stop_at(alloc: Alloc, sweep: &Sweep, number: u32) -> Result<Stop, Memory>
 fn push_stop(stops: &mut List<Stop>, stop: Stop) -> Result<(), Memory>
     ensures { OnOk result (stops.new ≡ stops.old ++ stop ∷ []) }
 {
-    match stops.push(stop) {
-        Ok(()) => Ok(()),
-        Err(_) => Err(Memory),
-    }
+    stops.push(stop)?;
+    Ok(())
 }
 
 /// A cut: paths end before it. It weighs nothing.

@@ -21,9 +21,10 @@ use Rattle.civl_goals.specs.Weights.{note_before_weight, first_note_weight}
 use Rattle.civl_weighing.specs.declared.weight.Weight.{Weight}
 use Rattle.civl_weighing.specs.Weighing.{Weighs}
 use Rattle.civl_weighing.proofs.Capping.{weighs_same}
-use Rattle.civl_outlined.specs.declared.notes.Spot.{Spot}
+use Rattle.civl_goals.specs.declared.spots.Spot.{Spot}
+use Rattle.civl_goals.specs.Spots.{spot_of}
 use Rattle.civl_outlined.specs.declared.notes.Notes.{Notes}
-use Rattle.civl_outlined.specs.Notes.{item_proc, spot_of, weight_in, IsPut, IsMaybe, IsBefore, first_weight, AreNotes, IsNoted, IsAdded}
+use Rattle.civl_outlined.specs.Notes.{item_proc, weight_in, IsPut, IsMaybe, IsBefore, first_weight, AreNotes, IsNoted, IsAdded}
 
 -- ---- items
 

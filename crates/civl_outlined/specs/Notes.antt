@@ -11,18 +11,13 @@ use Rattle.civl_conditions.specs.Weights.{note_weight}
 use Rattle.civl_goals.specs.Outlines.{stands_before}
 use Rattle.civl_weighing.specs.declared.weight.Weight.{Weight}
 use Rattle.civl_weighing.specs.Weighing.{Weighs}
-use Rattle.civl_outlined.specs.declared.notes.Spot.{Spot}
+use Rattle.civl_goals.specs.declared.spots.Spot.{Spot}
+use Rattle.civl_goals.specs.Spots.{same_spot, spot_of}
 use Rattle.civl_outlined.specs.declared.notes.Notes.{Notes}
 
 -- the procedure that is this item
 abbrev pub item_proc : Program → ℕ → Option Proc
 item_proc program item = if nat_lt item (proc_item program 0) then None else slice_get program.procs (item - proc_item program 0)
-
-abbrev pub spot_of : Note → Spot
-spot_of note = record { item = note.item; statement = note.statement }
-
-abbrev pub same_spot : Spot → Spot → Bool
-same_spot a b = nat_eq a.item b.item && nat_eq a.statement b.statement
 
 -- ---- the table
 

@@ -3,9 +3,10 @@ ghost use Rattle.std.specs.Prelude.{◌≡◌, None, IfOk, OnOk};
 ghost use Rattle.std.specs.Option.{option_copied};
 ghost use Rattle.civl_tree.specs.Numbered.{IsNumbered};
 ghost use Rattle.civl_tree.specs.Numbering.{proc_item};
-ghost use Rattle.civl_outlined.specs.declared.notes.Spot.{Spot as Place};
-ghost use Rattle.civl_outlined.specs.Notes.{item_proc, spot_of, weight_in, IsPut, IsNoted, IsAdded, AreNotes, IsBefore};
+ghost use Rattle.civl_goals.specs.declared.spots.Spot.{Spot as Place};
+ghost use Rattle.civl_outlined.specs.Notes.{item_proc, weight_in, IsPut, IsNoted, IsAdded, AreNotes, IsBefore};
 
+use civl_goals::{Spot, spot_of};
 use civl_outlines::Note;
 use civl_tree::{Memory, Proc, Program};
 use civl_types::view::View;
@@ -13,23 +14,6 @@ use civl_weighing::exprs::weight_of;
 use civl_weighing::weight::Weight;
 use indexmap::IndexMap;
 use std::alloc::{AllocFailed, Global};
-
-/// Where a note stands: the number of an item, and of a statement in it.
-#[derive(Clone, Copy, Debug, PartialEq, Eq, Hash)]
-pub struct Spot {
-    pub item: u32,
-    pub statement: u32,
-}
-
-/// The place of a note.
-fn spot_of(note: &Note) -> Spot
-    ensures { result ≡ spot_of note.now }
-{
-    Spot {
-        item: note.item,
-        statement: note.statement,
-    }
-}
 
 /// How many items stand before the procedures.
 pub(crate) fn first_item(program: &Program) -> usize

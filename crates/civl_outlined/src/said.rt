@@ -7,7 +7,8 @@ ghost use Rattle.civl_goals.specs.Weights.{note_before_weight, first_note_weight
 ghost use Rattle.civl_weighing.specs.Weighing.{Weighs};
 ghost use Rattle.civl_outlined.specs.Said.{IsSaid, IsOf};
 
-use crate::notes::{Notes, Spot, first_item, notes_of};
+use crate::notes::{Notes, first_item, notes_of};
+use civl_goals::Spot;
 use civl_outlines::Outline;
 use civl_tree::{Memory, Name, Program};
 use civl_types::names::same_name;

@@ -11,7 +11,7 @@ ghost use Rattle.civl_goals.specs.declared.goal.Goal.TheVariants as goal;
 ghost use Rattle.civl_goals.specs.Weights.{weight, first_note_weight};
 ghost use Rattle.civl_weighing.specs.Weighing.{Weighs};
 ghost use Rattle.civl_weights.specs.sums.Sums.{OfAction};
-ghost use Rattle.civl_weights.specs.Kinds.{instance_bits, IsKeep};
+ghost use Rattle.civl_weights.specs.Kinds.{instance_bits};
 ghost use Rattle.civl_outlined.specs.Said.{IsSaid, IsOf};
 ghost use Rattle.civl_outlined.specs.Sums.{OfSums, IsOfRoot, NamesRoots, IsFound, AreTogether, IsVariables, IsStatementGoal, IsOther};
 
@@ -26,6 +26,7 @@ use civl_weighing::bits::{all_globals, globals_at, linear_globals};
 use civl_weighing::weight::{Weight, linear};
 use civl_weights::sums::actions::{ActionSums, action_sums};
 use civl_weights::sums::tables::initial_own;
+use civl_weights::{instance_bits, keep_of};
 use std::alloc::Global;
 
 /// All that the weights of goals are added up from: what the outline says, the bits of all globals and of those of the topmost
@@ -99,30 +100,6 @@ fn thread(sums: &Sums<'_>, number: u32) -> Weight
 }
 
 // ---- actions of the top layer
-
-/// The bits of the parameters and choices of the action with this number, where there is one.
-fn instance_bits(program: &Program, actions: &[ActionSums], number: u32) -> Weight
-    requires { AllZip (OfAction program.now) program.now.actions actions.now }
-    ensures { Weighs result (of_action program.now number 0 instance_bits) }
-{
-    match actions.get(number as usize) {
-        Some(sums) => sums.params.plus(sums.choices),
-        None => Weight::of(0),
-    }
-}
-
-fn keep_of(program: &Program, globals: Weight, sums: &ActionSums) -> Weight
-    requires { Weighs globals (linear_globals program.now) }
-    ensures { IsKeep program.now sums.now result }
-{
-    let coming = globals.plus(sums.inputs);
-    let going = globals.plus(sums.lent).plus(sums.given);
-    let made = going.times(Weight::power(program.permissions));
-    sums.whole()
-        .plus(linear(program, coming))
-        .plus(linear(program, going))
-        .plus(made)
-}
 
 fn keep_own(program: &Program, globals: Weight, actions: &[ActionSums], number: u32) -> Weight
     requires globals { Weighs globals (linear_globals program.now) }

@@ -1,7 +1,7 @@
 -- An honest first prover stays the first.
 use Rattle.std.proofs.Common.{◌≡◌, ℕ, ◌+◌, ◌∙◌, List, [], ◌∷◌, ◌++◌, get_or, refl, sym, ap, subst, arith, add-one}
 use Rattle.std.specs.Prelude.{Option, None, Some, IfSome, IfNone, IsTrue, All}
-use Rattle.civl_portfolio.specs.Count.{count_up}
+use Rattle.civl_outside.specs.Count.{count_up}
 use Rattle.civl_portfolio.specs.Prover.{Meanings}
 use Rattle.civl_portfolio.specs.Fate.{Fate, asked_of, in_front, staying_of}
 use Rattle.civl_portfolio.specs.Asked.{WhoIsAsked}

@@ -8,7 +8,7 @@ use Rattle.civl_units.proofs.MarkLemmas.{lt_or_eq}
 use Rattle.civl_cdcl.specs.declared.outcome.Outcome.{Outcome}
 use Rattle.civl_cdcl.specs.declared.outcome.Outcome.TheVariants.{Sat, Unsat, Spent}
 use Rattle.civl_portfolio.specs.declared.attempt.Attempt.{Attempt}
-use Rattle.civl_portfolio.specs.Count.{count_up, Rose}
+use Rattle.civl_outside.specs.Count.{count_up, Rose}
 use Rattle.civl_portfolio.specs.Attempt.{IsCertificate, IsRefused}
 use Rattle.civl_portfolio.specs.Prover.{Meanings}
 use Rattle.civl_portfolio.specs.Fate.{Fate}

@@ -9,7 +9,7 @@ use Rattle.civl_cdcl.proofs.Examples.{half_models, square_refuted}
 use Rattle.civl_cdcl.specs.declared.outcome.Outcome.TheVariants as outcome
 use Rattle.civl_portfolio.specs.Attempt.{MakesTrue, IsCertificate, IsRefused}
 use Rattle.civl_portfolio.specs.Fate.{Fate, asked_of, in_front, staying_of}
-use Rattle.civl_portfolio.specs.Count.{count_up}
+use Rattle.civl_outside.specs.Count.{count_up}
 use Rattle.civl_portfolio.specs.Asked.{IsOutcome, AnswersSo, IsRound}
 use Rattle.civl_portfolio.specs.Heard.{WasAsked, IsPassed, IsLiar, IsCertified}
 use Rattle.civl_portfolio.specs.Laws.{CertificatesStandOrNot, Sample, idle, liar, right, samples, found, RoundsOverSamples}

@@ -1,6 +1,6 @@
 -- An honest first prover, over one round or several.
 use Rattle.std.specs.Prelude.{◌≡◌, ℕ, zero, suc, List, [], ◌∷◌, IsTrue, ⊤}
-use Rattle.civl_portfolio.specs.Count.{count_up}
+use Rattle.civl_outside.specs.Count.{count_up}
 use Rattle.civl_portfolio.specs.Prover.{Meanings}
 
 -- a count after so many calls

@@ -4,7 +4,7 @@ use Rattle.civl_cnf.specs.ClauseSet.{ClauseSet}
 use Rattle.civl_rup.specs.Rup.{Refutes, Spends}
 use Rattle.civl_cdcl.specs.declared.outcome.Outcome.{Outcome}
 use Rattle.civl_cdcl.specs.declared.outcome.Outcome.TheVariants.{Sat, Unsat, Spent}
-use Rattle.civl_portfolio.specs.Count.{count_up, Rose}
+use Rattle.civl_outside.specs.Count.{count_up, Rose}
 use Rattle.civl_portfolio.specs.Attempt.{MakesTrue, IsCertificate, IsRefused}
 use Rattle.civl_portfolio.specs.Prover.{Meanings}
 use Rattle.civl_portfolio.specs.Asked.{IsOutcome, IsSpent}

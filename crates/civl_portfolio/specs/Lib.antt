@@ -1,4 +1,3 @@
-pub mod Count
 pub mod Attempt
 pub mod Prover
 pub mod Fate

@@ -1,7 +1,7 @@
 // A prover that is asked.
 ghost use Rattle.std.specs.Prelude.{◌≡◌, ◌≤◌, ◌⊎◌, ℕ, Bool, Option, IfSome, IsTrue};
 ghost use Rattle.civl_cnf.specs.ClauseSet.{ClauseSet};
-ghost use Rattle.civl_portfolio.specs.Count.{count_up, Rose};
+ghost use Rattle.civl_outside.specs.Count.{count_up, Rose};
 ghost use Rattle.civl_portfolio.specs.Attempt.{Stands};
 
 use crate::Attempt;

@@ -1,5 +1,5 @@
 // Logs of which nothing can be left out.
-ghost use Rattle.std.specs.Prelude.{◌≡◌, ◌↔◌, ◌++◌, ◌<◌, ◌≤◌, ℕ, [], length, take, slice_index_or, IfOk, OnOk, IsTrue, Contains};
+ghost use Rattle.std.specs.Prelude.{◌≡◌, ◌↔◌, ◌++◌, ◌<◌, [], length, take, slice_index_or, IfOk, OnOk, IsTrue};
 ghost use Rattle.std.specs.List.{remove};
 ghost use Rattle.civl_cnf.specs.ClauseSet.{AreBelow};
 ghost use Rattle.civl_units.specs.Occurrences.{AreOccurrences};
@@ -8,6 +8,7 @@ ghost use Rattle.civl_proofs.specs.Lean.{IsLean, IsSublist};
 
 use crate::Memory;
 use civl_cnf::{Clause, Cnf, Lit, Log};
+use civl_rup::has_empty;
 use civl_units::{Marks, Occurrences, assume, occurrences_of, propagate};
 use std::alloc::Global;
 
@@ -32,18 +33,6 @@ fn has_rup(
     }
     let conflict = propagate(marks, occurrences, formula, earlier)?;
     Ok(conflict)
-}
-
-/// Whether one of the clauses is empty.
-fn has_empty(clauses: &[Clause]) -> bool
-    ensures { IsTrue result ↔ Contains clauses.now [] }
-{
-    for clause in clauses {
-        if clause.len() == 0 {
-            return true;
-        }
-    }
-    false
 }
 
 /// Whether the clause at a place of a log has reverse unit propagation from the clause set and the clauses before it, as those before `from` are known to have. The occurrence lists are those of the clause set and the clauses before the place.

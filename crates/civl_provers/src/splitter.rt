@@ -1,7 +1,7 @@
 // A prover that splits on variables.
 ghost use Rattle.std.specs.Prelude.{◌≡◌, ◌≤◌, List, true, None};
 ghost use Rattle.civl_cnf.specs.Literal.{Literal};
-ghost use Rattle.civl_portfolio.specs.Count.{count_up, Rose};
+ghost use Rattle.civl_outside.specs.Count.{count_up, Rose};
 ghost use Rattle.civl_portfolio.specs.Attempt.{Stands};
 ghost use Rattle.civl_provers.specs.Branch.{IsUndecided};
 

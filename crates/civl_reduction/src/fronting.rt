@@ -3,9 +3,9 @@ ghost use Rattle.std.specs.Prelude.{◌+◌, ◌<◌, ◌^◌, ℕ, length, IfOk
 ghost use Rattle.std.specs.List.Sorted.{IsStrictlyIncreasing};
 ghost use Rattle.civl_reduction.specs.Front.{down, AreExchanged, IsFronted};
 
-use crate::copying::copies;
 use crate::swapped::Swapped;
 use crate::swapping::swap;
+use civl_meaning::copying::copies;
 use civl_meaning::{Config, Move, Plain};
 use civl_tree::{List, Memory};
 use std::alloc::Global;

@@ -16,7 +16,6 @@
 
 pub mod blocks;
 pub mod checked;
-mod copying;
 pub mod exchanges;
 mod fronting;
 pub mod gathered;

@@ -2,9 +2,9 @@
 ghost use Rattle.std.specs.Prelude.{◌≡◌, ◌+◌, ◌<◌, ◌^◌, length, take, IfOk, IfSome, IfNone, ◌⊎◌};
 ghost use Rattle.civl_reduction.specs.Swap.{RunAlike, RunsFailing, exchanged_at, before, one_more, IsSwapped};
 
-use crate::copying::copies;
 use crate::running::{run_alike, runs_failing};
 use crate::swapped::Swapped;
+use civl_meaning::copying::copies;
 use civl_meaning::{Config, Move, Plain};
 use civl_tree::{List, Memory};
 use std::alloc::Global;

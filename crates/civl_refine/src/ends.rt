@@ -17,10 +17,11 @@ ghost use Rattle.civl_refine.specs.Judging.{AreCuts, IsAsked, KeepsAt};
 
 use crate::invariants::invariant_of;
 use crate::performing::perform_kept;
-use crate::ranks::{invariant_kept, is_rank_loop, rank_kept};
+use crate::ranks::{invariant_kept, rank_kept};
 use crate::results::stutter_kept;
 use crate::start::Start;
 use civl_body::Way;
+use civl_conditions::paths::is_rank_loop;
 use civl_layers::{Cut, CutKind};
 use civl_states::Beginning;
 use civl_terms::{Id, Memory, Terms};

@@ -1,11 +1,10 @@
 // The refined action's gate at a cut.
-ghost use Rattle.std.specs.Prelude.{◌≡◌, ◌+◌, ◌≤◌, ℕ, Bool, List, length, take, slice_get, not, ◌||◌, true, false, Some, IfOk, OnOk, if◌then◌else◌};
+ghost use Rattle.std.specs.Prelude.{◌≡◌, ◌+◌, ◌≤◌, Bool, List, length, take, slice_get, true, false, Some, IfOk, OnOk, if◌then◌else◌};
 ghost use Rattle.civl_bits.specs.declared.value.Value.{Value};
 ghost use Rattle.civl_tree.specs.declared.expr.Sort.TheVariants.{Bool as Truth};
 ghost use Rattle.civl_tree.specs.declared.action.Action.{Action};
 ghost use Rattle.civl_tree.specs.rules.Rules.{Keeps};
 ghost use Rattle.civl_tree.specs.rules.Typing.{typing_rules};
-ghost use Rattle.civl_tree.specs.rules.Uses.{param_sorts};
 ghost use Rattle.civl_firing.specs.values.ActionWeights.{gate_weight};
 ghost use Rattle.civl_firing.specs.declared.store.Store.{Store};
 ghost use Rattle.civl_firing.specs.Fired.{gate_holds};
@@ -16,17 +15,17 @@ ghost use Rattle.civl_terms.specs.Weights.{graph_weight};
 ghost use Rattle.civl_actions.specs.Scopes.{AreOf};
 ghost use Rattle.civl_conditions.specs.paths.Ends.{is_entry, is_rank_loop};
 ghost use Rattle.civl_conditions.specs.Assumed.{inputs_of, refined_gate};
-ghost use Rattle.civl_conditions.specs.Values.{Begun};
 ghost use Rattle.civl_states.specs.formula_parts.Said.{Env, IsTest};
 ghost use Rattle.civl_states.specs.formula_parts.Lists.{AreSaid};
 ghost use Rattle.civl_states.specs.Stores.{AreGlobals, AreStore};
-ghost use Rattle.civl_refine.specs.Assuming.{IsRefined, BeginsAt, gate_or_done};
+ghost use Rattle.civl_refine.specs.Assuming.{IsRefined, gate_or_done};
 
 use civl_layers::CutKind;
-use civl_states::formula_parts::{both, either, negated};
-use civl_states::{Beginning, gate_at};
+use civl_moves::implied;
+use civl_states::formula_parts::{both, either};
+use civl_states::gate_at;
 use civl_terms::{Id, Memory, Terms};
-use civl_tree::{List, Proc, Program, Two};
+use civl_tree::{List, Proc, Program};
 use std::alloc::Global as Alloc;
 
 /// The terms of the parameters among those of a frame.
@@ -109,22 +108,5 @@ fn gate_and_done(terms: &mut Terms, old_done: Id, done: Id, gate: Id) -> Result<
     let gated = either(terms, old_done, gate)?;
     let stays = implied(terms, old_done, done)?;
     let id = both(terms, gated, stays)?;
-    Ok(id)
-}
-
-/// Whether the second test is true if the first is. The graph's weight rises by at most 1.
-///
-/// # Errors
-///
-/// For want of memory; the nodes before stay.
-pub fn implied(terms: &mut Terms, a: Id, b: Id) -> Result<Id, Memory>
-    requires a { sort_at terms.old a ≡ Some Truth }
-    requires b { sort_at terms.old b ≡ Some Truth }
-    ensures test { IfOk result (λ id. (f g : Env → Bool) → IsTest terms.old a f → IsTest terms.old b g → IsTest terms.new id (λ env. not (f env) || g env)) }
-    ensures sorted { IfOk result (λ id. sort_at terms.new id ≡ Some Truth) }
-    ensures grows { Grows terms.old terms.new }
-    ensures weighs { OnOk result (graph_weight terms.new ≤ graph_weight terms.old + 1) }
-{
-    let id = terms.two(Two::Implies, a, b)?;
     Ok(id)
 }

@@ -23,7 +23,6 @@ pub use assumption::assumed;
 pub use ends::ends_block;
 pub use failures::failing;
 pub use finding::{held_numbers, start_at};
-pub use gates::implied;
 pub use invariants::invariant_of;
 pub use owned::{held_ids, owned_items};
 pub use start::Start;

@@ -28,12 +28,13 @@ ghost use Rattle.civl_body.specs.Walks.{CanEnd};
 ghost use Rattle.civl_refine.specs.Assuming.{IsStart};
 ghost use Rattle.civl_refine.specs.Judging.{IsAt, Performs, comes_to, with_values};
 
-use crate::gates::{implied, input_ids};
+use crate::gates::input_ids;
 use crate::results::same_outs;
 use crate::start::Start;
 use crate::steady::plain_note;
 use civl_actions::{Changed, guard, updates};
 use civl_body::Way;
+use civl_moves::implied;
 use civl_states::formula_parts::{both, either};
 use civl_states::{Beginning, same_globals};
 use civl_terms::{Id, Memory, Terms};

@@ -1,5 +1,5 @@
 // Whether a rank falls, and whether the invariant holds at a cut where a path ends.
-ghost use Rattle.std.specs.Prelude.{◌≡◌, ◌+◌, ◌*◌, ◌≤◌, not, Bool, ℕ, List, Some, IfOk, OnOk, if◌then◌else◌};
+ghost use Rattle.std.specs.Prelude.{◌≡◌, ◌+◌, ◌*◌, ◌≤◌, Some, IfOk, OnOk, if◌then◌else◌};
 ghost use Rattle.civl_firing.specs.values.Values.{is_true};
 ghost use Rattle.civl_firing.specs.values.Operators.{two_value};
 ghost use Rattle.civl_firing.specs.values.Weights.{bits_in};
@@ -27,7 +27,8 @@ ghost use Rattle.civl_refine.specs.Judging.{IsAt};
 use crate::start::Start;
 use crate::steady::{plain_note, steady_note};
 use civl_body::Way;
-use civl_layers::{Cut, CutKind};
+use civl_conditions::paths::is_rank_loop;
+use civl_layers::Cut;
 use civl_states::{Beginning, View, note};
 use civl_terms::{Id, Memory, Terms};
 use civl_tree::{Expr, Two};
@@ -66,15 +67,6 @@ pub(crate) fn rank_kept(
     let id = terms.two(Two::Lt, then, first)?;
     let _count = terms.len();
     Ok(id)
-}
-
-pub(crate) fn is_rank_loop(kind: CutKind) -> bool
-    ensures { result ≡ is_rank_loop kind }
-{
-    match kind {
-        CutKind::RankLoop => true,
-        CutKind::Entry | CutKind::Yield | CutKind::YieldLoop => false,
-    }
 }
 
 /// Invariant: whether the invariant of a cut at which a path ends holds there; behind a block's end old means the present.

@@ -23,10 +23,10 @@ ghost use Rattle.civl_body.specs.Walks.{CanEnd};
 ghost use Rattle.civl_refine.specs.Assuming.{IsStart};
 ghost use Rattle.civl_refine.specs.Judging.{IsAt};
 
-use crate::gates::implied;
 use crate::start::Start;
 use crate::steady::out_ids;
 use civl_body::Way;
+use civl_moves::implied;
 use civl_states::formula_parts::{all_same, both, same};
 use civl_states::{Beginning, same_globals};
 use civl_terms::{Id, Memory, Terms};

@@ -17,11 +17,11 @@ ghost use Rattle.civl_refine.specs.Judging.{AreCuts, Asks, IsAsked, KeepsAt};
 ghost use Rattle.civl_refine.specs.Ways.{kept_by};
 
 use crate::ends::{invariant_at, once_at, perform_at, rank_at, stutter_at};
-use crate::gates::implied;
 use crate::start::Start;
 use civl_body::Way;
 use civl_conditions::Part;
 use civl_layers::Cut;
+use civl_moves::implied;
 use civl_states::Beginning;
 use civl_states::formula_parts::both;
 use civl_terms::{Id, Memory, Terms};

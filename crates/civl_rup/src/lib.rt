@@ -15,4 +15,4 @@ pub use laws::{
     spent_clause_is_no_superset,
 };
 pub use memory::Memory;
-pub use replaying::replay;
+pub use replaying::{has_empty, replay};

@@ -15,7 +15,7 @@ use civl_units::Marks;
 use std::alloc::Global;
 
 /// Whether one of the clauses is empty.
-fn has_empty(clauses: &[Clause]) -> bool
+pub fn has_empty(clauses: &[Clause]) -> bool
     ensures { IsTrue result ↔ Contains clauses.now [] }
 {
     for clause in clauses {

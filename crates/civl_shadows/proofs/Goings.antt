@@ -14,9 +14,9 @@ use Rattle.civl_reduction.specs.blocks.Cuts.{settled_layer, settled}
 use Rattle.civl_reduction.specs.blocks.Shadow.{glided_layer, glided}
 use Rattle.civl_meaning.specs.Left.{stmt_of}
 use Rattle.civl_shadows.specs.declared.notes.Noting.{Noting}
-use Rattle.civl_shadows.specs.declared.rests.Numbered.{Numbered}
+use Rattle.civl_meaning.specs.declared.remaining.Numbered.{Numbered}
 use Rattle.civl_shadows.specs.Notes.{noted}
-use Rattle.civl_shadows.specs.Rests.{rest_of}
+use Rattle.civl_meaning.specs.Remaining.{rest_of}
 
 abbrev entry : Numbered → ℕ × Stmt
 entry q = (q.number, q.stmt.now)

@@ -1,4 +1,3 @@
-mod Resting
 pub mod Dropping
 mod Merges
 pub mod Goings

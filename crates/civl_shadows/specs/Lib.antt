@@ -1,4 +1,3 @@
-pub mod Rests
 pub mod Frames
 pub mod Notes
 pub mod Merging

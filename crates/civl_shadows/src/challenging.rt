@@ -8,22 +8,20 @@ ghost use Rattle.civl_firing.specs.Eval.{values_of};
 ghost use Rattle.civl_firing.specs.Scope.{frame_values};
 ghost use Rattle.civl_tree.specs.rules.Names.{names_in_proc};
 ghost use Rattle.civl_meaning.specs.Meaning.{meaning_of, called};
-ghost use Rattle.civl_meaning.specs.Places.{is_skipped};
 ghost use Rattle.civl_meaning.specs.Rest.{head_of};
 ghost use Rattle.civl_conditions.specs.Assumed.{refined_action};
 ghost use Rattle.civl_reduction.specs.exchanges.Doing.{doing, call_doing, layer_doing, proc_doing};
 ghost use Rattle.civl_tree.specs.declared.stmt.Stmt.{out-Stmt};
-ghost use Rattle.civl_reduction.specs.blocks.Challenged.{allows, refuses, call_challenged, frame_challenged, thread_challenged, some_challenged, is_challenged};
+ghost use Rattle.civl_reduction.specs.blocks.Challenged.{allows, call_challenged, frame_challenged, thread_challenged, some_challenged, is_challenged};
 ghost use Rattle.civl_reduction.specs.blocks.Shadow.{Shadowed as Beside};
 ghost use Rattle.civl_meaning.specs.Left.{stmt_of};
 ghost use Rattle.civl_shadows.specs.Frames.{framed_of};
-ghost use Rattle.civl_shadows.specs.Rests.{rest_of};
+ghost use Rattle.civl_meaning.specs.Remaining.{rest_of};
 ghost use Rattle.civl_shadows.specs.Shadows.{IsLayerOf, Shows, done_in};
 
 use crate::frames::{Framed, frame_of_layer, has_layer, inputs};
 use crate::merging::merged;
 use crate::notes::at_yield;
-use crate::rests::{Numbered, rest_at};
 use crate::shadow::Shadowed;
 use civl_bits::Value;
 use civl_firing::Store;
@@ -32,7 +30,8 @@ use civl_firing::firing::gate;
 use civl_firing::names::{action, proc};
 use civl_firing::setting::in_frame;
 use civl_firing::sorts::{push_locals, push_params};
-use civl_meaning::{Activation, Plain, Running, State};
+use civl_meaning::remaining::{Numbered, rest_at};
+use civl_meaning::{Activation, Plain, Running, State, skipped};
 use civl_tree::{Action, Expr, List, Memory, Name, Proc, Program, Stmt};
 use civl_types::names::action_named;
 use std::alloc::Global;
@@ -70,22 +69,12 @@ pub fn allows(program: &Program, store: &Store, proc: &Proc, locals: &[Value]) -
     }
 }
 
-/// Whether a plain program has no such statement.
-fn is_skipped(stmt: &Stmt) -> bool
-    ensures { result ≡ is_skipped stmt.now }
-{
-    match stmt {
-        Stmt::Yield(_) | Stmt::Commit | Stmt::Intro(_, _) => true,
-        _ => false,
-    }
-}
-
 /// The first statement of a plain program in what is still to run.
 fn head<'a>(rest: &[Numbered<'a>]) -> Option<&'a Stmt>
     ensures { (end : ℕ) → option_copied result ≡ stmt_of (head_of end (rest_of rest.now)) }
 {
     for at in 0..rest.len() {
-        if !is_skipped(rest[at].stmt) {
+        if !skipped(rest[at].stmt) {
             return Some(rest[at].stmt);
         }
     }

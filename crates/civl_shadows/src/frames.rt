@@ -1,6 +1,5 @@
 //! Frames of a layer's procedures.
-ghost use Rattle.std.specs.Prelude.{◌≡◌, slice_get, take, drop};
-ghost use Rattle.civl_meaning.specs.Change.{outs_in};
+ghost use Rattle.std.specs.Prelude.{◌≡◌, slice_get};
 ghost use Rattle.civl_conditions.specs.Assumed.{inputs_of};
 ghost use Rattle.civl_conditions.specs.Steps.{has_layer};
 ghost use Rattle.civl_reduction.specs.blocks.Blocks.{framed_in, frame_of_layer};
@@ -8,6 +7,7 @@ ghost use Rattle.civl_reduction.specs.blocks.Cuts.{frame_at};
 ghost use Rattle.civl_shadows.specs.Frames.{framed_of};
 
 use civl_bits::Value;
+use civl_meaning::slices::first;
 use civl_meaning::{Activation, Running, State};
 use civl_tree::{Proc, Program};
 
@@ -74,38 +74,9 @@ pub fn frame_at<'a>(
     }
 }
 
-/// So many values, or all where there are fewer.
-fn first(values: &[Value], count: usize) -> &[Value]
-    ensures { result.now ≡ take count values.now }
-{
-    if count < values.len() {
-        &values[..count]
-    } else {
-        values
-    }
-}
-
-/// The values from a place on.
-fn behind(values: &[Value], from: usize) -> &[Value]
-    ensures { result.now ≡ drop from values.now }
-{
-    if from < values.len() {
-        &values[from..]
-    } else {
-        &[]
-    }
-}
-
 /// The parameters among a frame's locals.
 pub fn inputs<'a>(proc: &Proc, locals: &'a [Value]) -> &'a [Value]
     ensures { result.now ≡ inputs_of proc.now locals.now }
 {
     first(locals, proc.params.len())
-}
-
-/// The outputs among a frame's locals.
-pub fn outputs<'a>(proc: &Proc, locals: &'a [Value]) -> &'a [Value]
-    ensures { result.now ≡ outs_in proc.now locals.now }
-{
-    first(behind(locals, proc.params.len()), proc.outs.len())
 }

@@ -5,15 +5,14 @@
 //! which they are. Here they are computed: where the program starts ([`shadowed_start`]), and by each step
 //! ([`shadowed_step`]). [`is_challenged`] tells whether the gate of a refined action is false where a block begins.
 //!
-//! The parts are for the crates that stand on this one: what is still to run of a frame ([`rests`]), what commits and intros
-//! do ([`notes`]), frames of a layer's procedures ([`frames`]), and the store with the shadow's values ([`merged`]).
+//! The parts are for the crates that stand on this one: what commits and intros do ([`notes`]), frames of a layer's
+//! procedures ([`frames`]), and the store with the shadow's values ([`merged`]).
 #![tactic(auto)]
 
 mod challenging;
 pub mod frames;
 mod merging;
 pub mod notes;
-pub mod rests;
 mod shadow;
 mod stepping;
 

@@ -1,10 +1,8 @@
 //! What commits and intros do, which a plain program passes over.
-ghost use Rattle.std.specs.Prelude.{ℕ, ◌≡◌, Bool, false, drop, Option, None, Some, if◌then◌else◌, IfOk};
+ghost use Rattle.std.specs.Prelude.{◌≡◌, Bool, false, drop, Option, None, Some, if◌then◌else◌, IfOk};
 ghost use Rattle.civl_tree.specs.declared.stmt.Stmt.{out-Stmt};
 ghost use Rattle.civl_firing.specs.Settings.{scope_in};
 ghost use Rattle.civl_firing.specs.Eval.{value_of, values_of};
-ghost use Rattle.civl_firing.specs.Names.{names_of};
-ghost use Rattle.civl_tree.specs.rules.Names.{global_names};
 ghost use Rattle.civl_meaning.specs.Rest.{Rest};
 ghost use Rattle.civl_conditions.specs.paths.NoteValues.{plain_note_values};
 ghost use Rattle.civl_conditions.specs.paths.Paths.{committed, introduced, Progress as Given};
@@ -12,15 +10,15 @@ ghost use Rattle.civl_conditions.specs.paths.Runs.{layer_led, led};
 ghost use Rattle.civl_reduction.specs.blocks.Blocks.{layer_at_yield, at_yield};
 ghost use Rattle.civl_reduction.specs.blocks.Cuts.{settled_layer, settled};
 ghost use Rattle.civl_reduction.specs.blocks.Shadow.{glided_layer, glided};
-ghost use Rattle.civl_shadows.specs.Rests.{rest_of};
+ghost use Rattle.civl_meaning.specs.Remaining.{rest_of};
 ghost use Rattle.civl_shadows.specs.Notes.{noted, progress_of, layer_glides};
 
-use crate::rests::Numbered;
 use civl_bits::Value;
 use civl_firing::expressions::{self, value};
-use civl_firing::firing::write;
+use civl_firing::firing::{global_targets, write};
 use civl_firing::names::{Names, place};
 use civl_firing::setting::Setting;
+use civl_meaning::remaining::Numbered;
 use civl_tree::{Expr, Global, List, Memory, Name, Proc, Program, Stmt};
 use std::alloc::Global as Alloc;
 
@@ -40,21 +38,6 @@ pub struct Progress {
     pub values: Vec<Value>,
     pub done: bool,
     pub again: bool,
-}
-
-/// The names of the globals.
-#[tactic(auto, using(civl_firing::proofs::Joining::appending))]
-fn global_targets<'a>(globals: &'a [Global]) -> Names<'a>
-    ensures { names_of result ≡ global_names globals.now }
-{
-    Names {
-        globals,
-        params: &[],
-        choices: &[],
-        outs: &[],
-        locals: &[],
-        behind: &[],
-    }
 }
 
 /// What the names in the notes of a procedure's frame stand for: the globals have these values.

@@ -133,10 +133,7 @@ pub(crate) fn passed_from(alloc: Alloc, body: &Body<'_>, number: u32) -> Result<
     requires { number < length body.now.passed.items }
     ensures { IfOk result (λ passed. (proc : Proc) (cut : Cut) → IsBody proc body.now → slice_get body.now.cuts number ≡ Some cut → ArePassed proc cut passed.items) }
 {
-    match passed_at(alloc, body, number) {
-        Ok(passed) => Ok(passed),
-        Err(_) => Err(Memory),
-    }
+    passed_at(alloc, body, number)
 }
 
 /// The variables for the choices of the calls that some path from a cut of a procedure passes, from this number on.

@@ -22,10 +22,11 @@ ghost use Rattle.civl_states.specs.Groups.{StandFrom};
 ghost use Rattle.civl_states.specs.Notes.{IsProcIn};
 ghost use Rattle.civl_states.specs.Laying.{sorts_where, inner_sorts, near_store, inner_values, begun_locals, begun_outs, begun_done, begun_old_done, frame_bits, FrameBegins};
 
-use crate::beginning_places::{Places, is_entry, is_rank_loop};
+use crate::beginning_places::Places;
 use crate::formula_parts::variables;
 use crate::stores::{Existing, store};
 use civl_bits::Value as Constant;
+use civl_conditions::paths::{is_entry, is_rank_loop};
 use civl_firing::values::zero;
 use civl_layers::CutKind;
 use civl_terms::{Id, Memory, Terms};
@@ -67,7 +68,11 @@ pub(crate) fn begin_old_store(
 // ---- frames
 
 /// The sorts of a procedure's outputs and locals.
-fn inner_sorts(alloc: Alloc, proc: &Proc) -> Result<Vec<Sort>, Memory>
+///
+/// # Errors
+///
+/// For want of memory.
+pub fn inner_sorts(alloc: Alloc, proc: &Proc) -> Result<Vec<Sort>, Memory>
     ensures { IfOk result (λ sorts. sorts.items ≡ inner_sorts proc.now) }
 {
     let mut sorts = Vec::new(alloc);
@@ -80,8 +85,12 @@ fn inner_sorts(alloc: Alloc, proc: &Proc) -> Result<Vec<Sort>, Memory>
     Ok(sorts)
 }
 
-/// The terms of the zeros of these sorts.
-fn zeros(alloc: Alloc, terms: &mut Terms, sorts: &[Sort]) -> Result<Ids<Id>, Memory>
+/// The terms of the zeros of these sorts. They weigh nothing.
+///
+/// # Errors
+///
+/// For want of memory; the nodes before stay.
+pub fn zeros(alloc: Alloc, terms: &mut Terms, sorts: &[Sort]) -> Result<Ids<Id>, Memory>
     requires { All (λ s. IsTrue (is_sort s)) sorts.now }
     ensures said { IfOk result (λ ids. AreSaid terms.new ids sorts.now (λ env. map zero_of sorts.now)) }
     ensures grows { Grows terms.old terms.new }
@@ -186,8 +195,12 @@ fn begin_old_outs(
 
 // ---- done
 
-/// The bool that is the variable with this number.
-fn flag(terms: &mut Terms, sorts: &[Sort], number: u32) -> Result<Id, Memory>
+/// The bool that is the variable with this number. The graph's weight rises by 1 at most.
+///
+/// # Errors
+///
+/// For want of memory; the nodes before stay.
+pub fn flag(terms: &mut Terms, sorts: &[Sort], number: u32) -> Result<Id, Memory>
     requires stand { StandFrom sorts.now number (Truth ∷ []) }
     requires variables { AreVariablesOf terms.old sorts.now }
     ensures test { IfOk result (λ id. IsTest terms.new id (λ env. is_true (env number))) }

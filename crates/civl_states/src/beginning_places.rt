@@ -6,7 +6,8 @@ ghost use Rattle.civl_conditions.specs.paths.Ends.{is_entry, is_rank_loop};
 ghost use Rattle.civl_states.specs.Laying.{AreLaid};
 
 use crate::stores::{Existing, existing_count};
-use civl_layers::{Cut, CutKind};
+use civl_conditions::paths::{is_entry, is_rank_loop};
+use civl_layers::Cut;
 use civl_tree::{Proc, Program};
 
 /// The numbers from which on the variables of each group stand: the old globals, the parameters, the outputs and locals, the old
@@ -20,24 +21,6 @@ pub(crate) struct Places {
     pub done: u32,
     pub old_done: u32,
     pub calls: u32,
-}
-
-pub(crate) fn is_entry(kind: CutKind) -> bool
-    ensures { result ≡ is_entry kind }
-{
-    match kind {
-        CutKind::Entry => true,
-        CutKind::Yield | CutKind::YieldLoop | CutKind::RankLoop => false,
-    }
-}
-
-pub(crate) fn is_rank_loop(kind: CutKind) -> bool
-    ensures { result ≡ is_rank_loop kind }
-{
-    match kind {
-        CutKind::RankLoop => true,
-        CutKind::Entry | CutKind::Yield | CutKind::YieldLoop => false,
-    }
 }
 
 /// So many, where the test is true.

@@ -10,16 +10,10 @@ ghost use Rattle.civl_states.specs.Items.{picked};
 ghost use Rattle.civl_states.specs.Same.{TellsSame, layer_sorts, same_weight};
 
 use crate::formula_parts::all_same;
+use civl_conditions::exists_at;
 use civl_terms::{Id, Memory, Terms};
-use civl_tree::{Global, List, Program};
+use civl_tree::{List, Program};
 use std::alloc::Global as Alloc;
-
-/// Whether a global exists in a layer.
-fn exists_at(layer: u32, global: &Global) -> bool
-    ensures { result ≡ exists_at layer global.now }
-{
-    global.first <= layer && layer <= global.last
-}
 
 /// Of terms for the globals those of the globals that exist in a layer.
 fn existing(alloc: Alloc, program: &Program, layer: u32, ids: &List<Id>) -> Result<Vec<Id>, Memory>

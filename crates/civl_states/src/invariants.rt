@@ -21,8 +21,12 @@ use civl_bits::Value;
 use civl_terms::{Id, Memory, Terms};
 use civl_tree::{Expr, Program};
 
-/// Whether a test holds, and an invariant of the globals too.
-fn and_invariant(
+/// Whether a test is true, and what is said of the globals too. The graph's weight rises by at most twice that of the latter.
+///
+/// # Errors
+///
+/// For want of memory; the nodes before stay.
+pub fn and_hold(
     terms: &mut Terms,
     program: &Program,
     test: Id,
@@ -63,7 +67,7 @@ pub fn invariants_at(
     let mut all = terms.constant(Value::Bool(true))?;
     for invariant in program.invariants.as_slice() {
         if invariant.step == step {
-            all = and_invariant(terms, program, all, &invariant.expr, globals)?;
+            all = and_hold(terms, program, all, &invariant.expr, globals)?;
         }
     }
     Ok(all)

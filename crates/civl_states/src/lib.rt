@@ -15,14 +15,15 @@ mod items;
 mod notes;
 mod path_sorts;
 mod running;
-mod sort_groups;
+pub mod sort_groups;
 mod sorts;
 mod stores;
 
 pub use beginning::{Beginning, begin};
+pub use beginning_frames::{flag, inner_sorts, zeros};
 pub use choices::{Choices, Chosen};
 pub use globals::same_globals;
-pub use invariants::invariants_at;
+pub use invariants::{and_hold, invariants_at};
 pub use invoked::{Invoked, invocation};
 pub use items::{Which, global_items, incoming, input_items, param_items, with_words};
 pub use notes::{View, global_note, note};

@@ -11,9 +11,9 @@ ghost use Rattle.civl_states.specs.Existing.{existing_sorts};
 ghost use Rattle.civl_states.specs.Laying.{calls_at, call_sorts, inner_sorts, path_sorts, sorts_where};
 
 use crate::beginning_choices::number_choices;
-use crate::beginning_places::{is_entry, is_rank_loop};
 use crate::sort_groups::{push_choices, push_globals, push_locals, push_params};
 use crate::stores::Existing;
+use civl_conditions::paths::{is_entry, is_rank_loop};
 use civl_layers::{Cut, CutKind};
 use civl_terms::Memory;
 use civl_tree::{Proc, Program, Sort, Stmt};

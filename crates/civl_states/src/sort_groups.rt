@@ -1,6 +1,7 @@
-// The sorts of one kind of variables: of globals, parameters, choices and locals.
+//! The sorts of one kind of variables: of globals, parameters, choices and locals.
 ghost use Rattle.std.specs.Prelude.{◌≡◌, ◌++◌, ◌∷◌, [], filter, map, OnOk};
 ghost use Rattle.civl_tree.specs.rules.Uses.{param_sorts};
+ghost use Rattle.civl_conditions.specs.Steps.{of_action};
 ghost use Rattle.civl_states.specs.Existing.{passes, existing_sorts};
 ghost use Rattle.civl_states.specs.Runs.{instance_sorts};
 
@@ -8,7 +9,12 @@ use crate::stores::{Existing, passes};
 use civl_terms::Memory;
 use civl_tree::{Action, Choice, Global, Local, Param, Program, Sort};
 
-pub(crate) fn push_params(sorts: &mut Vec<Sort>, params: &[Param]) -> Result<(), Memory>
+/// Those of these parameters, behind others.
+///
+/// # Errors
+///
+/// For want of memory.
+pub fn push_params(sorts: &mut Vec<Sort>, params: &[Param]) -> Result<(), Memory>
     ensures { OnOk result (sorts.new.items ≡ sorts.old.items ++ param_sorts params.now) }
 {
     for param in params {
@@ -17,7 +23,12 @@ pub(crate) fn push_params(sorts: &mut Vec<Sort>, params: &[Param]) -> Result<(),
     Ok(())
 }
 
-pub(crate) fn push_choices(sorts: &mut Vec<Sort>, choices: &[Choice]) -> Result<(), Memory>
+/// Those of these choices, behind others.
+///
+/// # Errors
+///
+/// For want of memory.
+pub fn push_choices(sorts: &mut Vec<Sort>, choices: &[Choice]) -> Result<(), Memory>
     ensures { OnOk result (sorts.new.items ≡ sorts.old.items ++ map (λ c. c.sort) choices.now) }
 {
     for choice in choices {
@@ -26,7 +37,12 @@ pub(crate) fn push_choices(sorts: &mut Vec<Sort>, choices: &[Choice]) -> Result<
     Ok(())
 }
 
-pub(crate) fn push_locals(sorts: &mut Vec<Sort>, locals: &[Local]) -> Result<(), Memory>
+/// Those of these locals, behind others.
+///
+/// # Errors
+///
+/// For want of memory.
+pub fn push_locals(sorts: &mut Vec<Sort>, locals: &[Local]) -> Result<(), Memory>
     ensures { OnOk result (sorts.new.items ≡ sorts.old.items ++ map (λ l. l.sort) locals.now) }
 {
     for local in locals {
@@ -35,12 +51,33 @@ pub(crate) fn push_locals(sorts: &mut Vec<Sort>, locals: &[Local]) -> Result<(),
     Ok(())
 }
 
-/// Those of the parameters and choices of an action.
-pub(crate) fn push_instance(sorts: &mut Vec<Sort>, action: &Action) -> Result<(), Memory>
+/// Those of the parameters and choices of an action, behind others.
+///
+/// # Errors
+///
+/// For want of memory.
+pub fn push_instance(sorts: &mut Vec<Sort>, action: &Action) -> Result<(), Memory>
     ensures { OnOk result (sorts.new.items ≡ sorts.old.items ++ instance_sorts action.now) }
 {
     push_params(sorts, action.params.as_slice())?;
     push_choices(sorts, action.choices.as_slice())
+}
+
+/// Those of the parameters and choices of the action with this number, where there is one, behind others.
+///
+/// # Errors
+///
+/// For want of memory.
+pub fn push_action(sorts: &mut Vec<Sort>, program: &Program, number: u32) -> Result<(), Memory>
+    ensures { OnOk result (sorts.new.items ≡ sorts.old.items ++ of_action program.now number [] instance_sorts) }
+{
+    match program.actions.as_slice().get(number as usize) {
+        Some(action) => {
+            push_instance(sorts, action)?;
+            Ok(())
+        }
+        None => Ok(()),
+    }
 }
 
 /// Those of the globals among these.

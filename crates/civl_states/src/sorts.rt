@@ -5,12 +5,12 @@ ghost use Rattle.civl_bodies.specs.Bodies.{AreBodies, IsBody};
 ghost use Rattle.civl_layers.specs.Cuts.{proc_cuts};
 ghost use Rattle.civl_conditions.specs.Steps.{of_action, of_cut};
 ghost use Rattle.civl_states.specs.Formulas.{sorts_of};
-ghost use Rattle.civl_states.specs.Runs.{instance_sorts, param_sorts};
+ghost use Rattle.civl_states.specs.Runs.{param_sorts};
 ghost use Rattle.civl_states.specs.Sorted.{cut_sorts, grouped_sorts, lower_sorts, other_sorts, thread_sorts};
 
 use crate::beginning_choices::passed_from;
 use crate::path_sorts::push_path;
-use crate::sort_groups::{push_globals, push_instance, push_locals, push_params};
+use crate::sort_groups::{push_action, push_globals, push_locals, push_params};
 use crate::stores::Existing;
 use civl_bodies::{Bodies, Body, body_at};
 use civl_conditions::{Condition, Target};
@@ -20,19 +20,6 @@ use civl_tree::{List, Proc, Program, Sort};
 use std::alloc::Global;
 
 // ---- actions
-
-/// Those of the parameters and choices of the action with this number, where there is one.
-fn push_action(sorts: &mut Vec<Sort>, program: &Program, number: u32) -> Result<(), Memory>
-    ensures { OnOk result (sorts.new.items ≡ sorts.old.items ++ of_action program.now number [] instance_sorts) }
-{
-    match program.actions.as_slice().get(number as usize) {
-        Some(action) => {
-            push_instance(sorts, action)?;
-            Ok(())
-        }
-        None => Ok(()),
-    }
-}
 
 /// Those of the parameters alone.
 fn push_inputs(sorts: &mut Vec<Sort>, program: &Program, number: u32) -> Result<(), Memory>

@@ -11,11 +11,12 @@ ghost use Rattle.civl_actions.specs.Actions.{values_at};
 ghost use Rattle.civl_conditions.specs.Values.{count_of, store_of, spread};
 ghost use Rattle.civl_states.specs.formula_parts.Lists.{AreSaid};
 ghost use Rattle.civl_states.specs.formula_parts.Given.{given, bits_of_sorts, AreVariablesOf};
-ghost use Rattle.civl_states.specs.Stores.{AreStore, AreGlobals};
+ghost use Rattle.civl_states.specs.Stores.{AreStore};
 ghost use Rattle.civl_states.specs.Existing.{passes, existing_sorts};
 ghost use Rattle.civl_states.specs.Groups.{StandFrom};
 
 use crate::formula_parts::variables;
+use civl_conditions::exists_at;
 use civl_firing::values::zero;
 use civl_terms::{Id, Memory, Terms};
 use civl_tree::{Global, List, Program, Sort};
@@ -27,12 +28,6 @@ pub enum Existing {
     Layer(u32),
     Near(u32),
     All,
-}
-
-fn exists_at(layer: u32, global: &Global) -> bool
-    ensures { result ≡ exists_at layer global.now }
-{
-    global.first <= layer && layer <= global.last
 }
 
 /// Whether a global is one of these.

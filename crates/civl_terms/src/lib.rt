@@ -10,11 +10,10 @@
 mod evaluate;
 pub mod foldings;
 pub mod laws;
-mod memory;
 mod node;
 mod sorting;
 mod terms;
 
-pub use memory::Memory;
+pub use civl_tree::Memory;
 pub use node::{Id, Node};
 pub use terms::{Terms, value};

@@ -12,12 +12,11 @@ ghost use Rattle.civl_terms.specs.declared.node.Node.TheVariants as node;
 
 use crate::evaluate::{node_value, value_in};
 use crate::foldings::Folded;
-use crate::memory::Memory;
 use crate::node::{Id, Node};
 use crate::sorting::{of_fill, of_get, of_join, of_one, of_slice, of_two, of_widen};
 use civl_bits::Value;
 use civl_firing::values::sort_of;
-use civl_tree::{List, One, Sort, Two};
+use civl_tree::{List, Memory, One, Sort, Two};
 use indexmap::IndexSet;
 use std::alloc::Global;
 use std::marker::Model;

@@ -23,7 +23,8 @@ pub(crate) fn action_arity(action: &Action) -> bool
     outs_arity(action, action.outs.as_slice())
 }
 
-fn is_updated(updates: &[Update], name: &Name) -> bool
+/// Whether one of these updates is of this name.
+pub fn is_updated(updates: &[Update], name: &Name) -> bool
     ensures { result ≡ has_name (map (λ update. update.target) updates.now) name.now }
 {
     for update in updates {

@@ -56,7 +56,8 @@ pub(crate) fn global_width(program: &Program, global: &Global) -> bool
         || global.linear && !is_permission_set(global.sort, program.permissions)
 }
 
-fn is_linear(mode: Mode) -> bool
+/// Whether values of a mode are linear.
+pub fn is_linear(mode: Mode) -> bool
     ensures { result ≡ is_linear mode }
 {
     match mode {

@@ -16,4 +16,6 @@ mod uses;
 pub mod view;
 
 pub use answer::{check, into_program, refusal};
+pub use arity::is_updated;
+pub use declared::is_linear;
 pub use typed::Typed;

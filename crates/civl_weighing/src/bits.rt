@@ -1,5 +1,5 @@
 // The bits of variables, and how many are linear.
-ghost use Rattle.std.specs.Prelude.{◌≡◌, [], filter, length, if◌then◌else◌};
+ghost use Rattle.std.specs.Prelude.{[], filter, length, if◌then◌else◌};
 ghost use Rattle.civl_tree.specs.rules.StoreSize.{bits_of};
 ghost use Rattle.civl_tree.specs.rules.Width.{is_linear};
 ghost use Rattle.civl_linear.specs.Modes.{is_lent, is_given};
@@ -12,50 +12,12 @@ ghost use Rattle.civl_weighing.specs.Bits.{choices_bits, locals_bits};
 
 use crate::exprs::bits_of;
 use crate::weight::Weight;
-use civl_tree::{Choice, Global, Local, Mode, Param, Program, Sort};
+use civl_conditions::{exists_at, exists_near};
+use civl_linear::{is_given, is_lent};
+use civl_tree::{Choice, Global, Local, Param, Program, Sort};
+use civl_types::is_linear;
 
 // ---- modes and layers
-
-fn is_linear(mode: Mode) -> bool
-    ensures { result ≡ is_linear mode }
-{
-    match mode {
-        Mode::Val => false,
-        Mode::Lend | Mode::Take | Mode::Give => true,
-    }
-}
-
-fn is_lent(mode: Mode) -> bool
-    ensures { result ≡ is_lent mode }
-{
-    match mode {
-        Mode::Lend => true,
-        Mode::Val | Mode::Take | Mode::Give => false,
-    }
-}
-
-fn is_given(mode: Mode) -> bool
-    ensures { result ≡ is_given mode }
-{
-    match mode {
-        Mode::Give => true,
-        Mode::Val | Mode::Lend | Mode::Take => false,
-    }
-}
-
-/// Whether a global exists in a layer.
-fn exists_at(layer: u32, global: &Global) -> bool
-    ensures { result ≡ exists_at layer global.now }
-{
-    global.first <= layer && layer <= global.last
-}
-
-/// Whether a global exists in one of the two layers of a step.
-fn exists_near(step: u32, global: &Global) -> bool
-    ensures { result ≡ exists_near step global.now }
-{
-    exists_at(step.saturating_sub(1), global) || exists_at(step, global)
-}
 
 // ---- one
 

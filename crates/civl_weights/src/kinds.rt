@@ -40,7 +40,7 @@ pub(crate) fn step_of(condition: &Condition) -> u32
 // ---- parts
 
 /// The bits of the parameters and choices of the action with this number, where there is one.
-fn instance_bits(program: &Program, actions: &[ActionSums], number: u32) -> Weight
+pub fn instance_bits(program: &Program, actions: &[ActionSums], number: u32) -> Weight
     requires { AllZip (OfAction program.now) program.now.actions actions.now }
     ensures { Weighs result (of_action program.now number 0 instance_bits) }
 {
@@ -102,7 +102,8 @@ fn cut_found(
 
 // ---- own weights
 
-fn keep_of(program: &Program, globals: Weight, sums: &ActionSums) -> Weight
+/// The weight of a condition that an action keeps permissions apart, without its variables: `globals` is that of the linear globals.
+pub fn keep_of(program: &Program, globals: Weight, sums: &ActionSums) -> Weight
     requires { Weighs globals (linear_globals program.now) }
     ensures { IsKeep program.now sums.now result }
 {

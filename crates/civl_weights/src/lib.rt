@@ -6,3 +6,4 @@ mod kinds;
 pub mod sums;
 
 pub use answer::{TooMuch, conditions};
+pub use kinds::{instance_bits, keep_of};

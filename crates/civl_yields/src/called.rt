@@ -19,7 +19,7 @@ fn proc_action<'a>(program: &'a Program, proc: Option<&'a Proc>) -> Option<&'a A
 }
 
 /// The action that a call of this name in a layered procedure means, just below the procedure's layer.
-pub(crate) fn called_action<'a>(program: &'a Program, name: &Name) -> Option<&'a Action>
+pub fn called_action<'a>(program: &'a Program, name: &Name) -> Option<&'a Action>
     ensures { option_copied result ≡ called_action program.now name.now }
 {
     match action_named(program, name) {

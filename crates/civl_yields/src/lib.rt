@@ -16,4 +16,5 @@ mod strays;
 pub mod verify;
 
 pub use answer::{phases, refusal};
+pub use called::called_action;
 pub use listing::{Phases, phases_in};

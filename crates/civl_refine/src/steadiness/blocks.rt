@@ -21,10 +21,11 @@ ghost use Rattle.civl_refine.specs.steadiness.Losing.{block_loses, block_lost, e
 
 use crate::steadiness::apart::with_apart;
 use crate::steadiness::kept::{Kept, kept_after, kept_before};
-use crate::{Start, Walked, assumed, ends_block, implied};
+use crate::{Start, Walked, assumed, ends_block};
 use civl_bits::Value;
 use civl_body::Way;
 use civl_layers::Cut;
+use civl_moves::implied;
 use civl_states::formula_parts::{both, negated};
 use civl_terms::{Id, Memory, Terms};
 use std::alloc::Global as Alloc;

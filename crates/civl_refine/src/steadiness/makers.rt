@@ -1,11 +1,9 @@
 // The target of a condition, with variables for another thread's frame.
-ghost use Rattle.std.specs.Prelude.{◌≡◌, ◌+◌, ◌-◌, ◌≤◌, ◌<◌, ◌^◌, [], ◌∷◌, ℕ, true, All, IsTrue, Some, IfOk, OnOk, length, map, slice_get};
-ghost use Rattle.civl_tree.specs.declared.expr.Sort.TheVariants.{Bool as Truth};
+ghost use Rattle.std.specs.Prelude.{◌≡◌, ◌+◌, ◌-◌, ◌≤◌, ◌<◌, ◌^◌, ℕ, true, All, IsTrue, Some, IfOk, OnOk, length, map, slice_get};
 ghost use Rattle.civl_tree.specs.Numbering.{statements_of};
 ghost use Rattle.civl_tree.specs.rules.Rules.{Keeps};
 ghost use Rattle.civl_tree.specs.rules.Typing.{typing_rules};
-ghost use Rattle.civl_firing.specs.values.Values.{is_sort, is_true};
-ghost use Rattle.civl_meaning.specs.Config.{frame_sorts};
+ghost use Rattle.civl_firing.specs.values.Values.{is_sort};
 ghost use Rattle.civl_layers.specs.Cuts.{proc_cuts};
 ghost use Rattle.civl_bodies.specs.Bodies.{AreBodies};
 ghost use Rattle.civl_linear.specs.Cuts.{all_held};
@@ -15,8 +13,6 @@ ghost use Rattle.civl_terms.specs.Weights.{graph_weight};
 ghost use Rattle.civl_conditions.specs.declared.condition.Target.TheVariants as target;
 ghost use Rattle.civl_conditions.specs.Variables.{other_variables};
 ghost use Rattle.civl_conditions.specs.Weights.{bits_of_variables};
-ghost use Rattle.civl_states.specs.formula_parts.Said.{IsTest};
-ghost use Rattle.civl_states.specs.formula_parts.Lists.{AreSaid};
 ghost use Rattle.civl_states.specs.formula_parts.Given.{given, bits_of_sorts, AreVariablesOf};
 ghost use Rattle.civl_states.specs.Groups.{StandFrom};
 ghost use Rattle.civl_refine.specs.steadiness.Others.{IsYieldIn, YieldsAt, other_sorts};
@@ -30,23 +26,11 @@ use crate::{held_numbers, invariant_of};
 use civl_bodies::{Bodies, body_at};
 use civl_conditions::Target;
 use civl_layers::{Cut, Held, Layered, program};
+use civl_states::flag;
 use civl_states::formula_parts::variables;
-use civl_terms::{Id, Memory, Terms};
+use civl_terms::{Memory, Terms};
 use civl_tree::{Proc, Program, Sort, Stmt};
 use std::alloc::Global as Alloc;
-
-/// The bool that is the variable with this number.
-fn flag(terms: &mut Terms, sorts: &[Sort], number: u32) -> Result<Id, Memory>
-    requires stand { StandFrom sorts.now number (Truth ∷ []) }
-    requires variables { AreVariablesOf terms.old sorts.now }
-    ensures test { IfOk result (λ id. IsTest terms.new id (λ env. is_true (env number))) }
-    ensures variables { AreVariablesOf terms.new sorts.now }
-    ensures lengthens { Lengthens terms.old terms.new }
-    ensures weighs { OnOk result (graph_weight terms.new ≤ graph_weight terms.old + 1) }
-{
-    let id = terms.variable(number, Sort::Bool)?;
-    Ok(id)
-}
 
 /// A frame of a procedure whose parameters, outputs, locals and `done` are variables, numbered from this number on.
 fn frame_from(

@@ -23,12 +23,6 @@ impl From<civl_tree::Memory> for Memory {
     }
 }
 
-impl From<civl_terms::Memory> for Memory {
-    fn from(_wanting: civl_terms::Memory) -> Memory {
-        Memory
-    }
-}
-
 impl From<crate::decisions::Memory> for Memory {
     fn from(_wanting: crate::decisions::Memory) -> Memory {
         Memory

@@ -1,26 +1,11 @@
 // The text of a value.
-ghost use Rattle.std.specs.Prelude.{ℕ, ◌≡◌, ◌++◌, map, IfOk, OnOk, decimal};
-ghost use Rattle.civl_verdicts.specs.models.Text.{bool_text, word_text, listed, value_text};
+ghost use Rattle.std.specs.Prelude.{◌≡◌, ◌++◌, map, IfOk, OnOk, decimal};
+ghost use Rattle.civl_verdicts.specs.models.Text.{word_text, listed, value_text};
 
 use civl_bits::{Row, Value, Word};
+use civl_conditions::naming::{put, put_number};
 use civl_tree::Memory;
-use itoa::Buffer;
 use std::alloc::Global;
-
-fn put(out: &mut Vec<u8>, text: &[u8]) -> Result<(), Memory>
-    ensures { OnOk result (out.new.items ≡ out.old.items ++ text.now) }
-{
-    out.extend_from_slice(text)?;
-    Ok(())
-}
-
-fn put_number(out: &mut Vec<u8>, number: u32) -> Result<(), Memory>
-    ensures { OnOk result (out.new.items ≡ out.old.items ++ decimal number) }
-{
-    let mut buffer = Buffer::new();
-    out.extend_from_slice(buffer.format(number).as_bytes())?;
-    Ok(())
-}
 
 /// `value:width`
 fn put_word(out: &mut Vec<u8>, word: Word) -> Result<(), Memory>

@@ -18,10 +18,11 @@ ghost use Rattle.civl_weights.specs.sums.Sums.{OfAction, OfStep, OfNotes, OfCut,
 ghost use Rattle.civl_weights.specs.sums.Paths.{ArePathBits, rank_weight, OfBody};
 
 use crate::sums::actions::{ActionSums, sums_refined};
-use crate::sums::met::{MetSums, is_rank_loop, met_sums};
+use crate::sums::met::{MetSums, met_sums};
 use crate::sums::notes::{NoteSums, invariant_weight};
 use crate::sums::statements::{all_choices, stmt_weights};
 use crate::sums::steps::StepSums;
+use civl_conditions::paths::{is_entry, is_rank_loop};
 use civl_layers::{Cut, CutKind};
 use civl_tree::{Expr, List, Memory, Proc, Program, Refines, Stmt};
 use civl_types::view::View;
@@ -45,15 +46,6 @@ pub struct CutSums {
     pub rank: Weight,
     pub stops: Weight,
     pub items: Weight,
-}
-
-fn is_entry(kind: CutKind) -> bool
-    ensures { result ≡ is_entry kind }
-{
-    match kind {
-        CutKind::Entry => true,
-        CutKind::Yield | CutKind::YieldLoop | CutKind::RankLoop => false,
-    }
 }
 
 /// The bits of a path's variables, where those of the globals and of the choices of calls are these.

@@ -6,23 +6,13 @@ ghost use Rattle.civl_conditions.specs.paths.Ends.{is_rank_loop};
 ghost use Rattle.civl_weighing.specs.Weighing.{Weighs};
 ghost use Rattle.civl_weights.specs.sums.Met.{block_end, AreMet};
 
-use civl_conditions::paths::{ends_from, met_from};
-use civl_layers::{Cut, CutKind};
+use civl_conditions::paths::{ends_from, is_rank_loop, met_from};
+use civl_layers::Cut;
 use civl_tree::{List, Memory, Proc};
 use civl_weighing::bits::one_where;
 use civl_weighing::lists::total_at;
 use civl_weighing::weight::Weight;
 use std::alloc::Global;
-
-/// Whether a cut is the head of a loop with a rank.
-pub(crate) fn is_rank_loop(kind: CutKind) -> bool
-    ensures { result ≡ is_rank_loop kind }
-{
-    match kind {
-        CutKind::RankLoop => true,
-        CutKind::Entry | CutKind::Yield | CutKind::YieldLoop => false,
-    }
-}
 
 /// Whether a block ends at this end: at each but the head of a rank loop.
 fn ends_block(cuts: &[Cut], end: u32) -> bool

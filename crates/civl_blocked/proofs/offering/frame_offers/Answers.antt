@@ -8,7 +8,7 @@ use Rattle.civl_meaning.specs.Change.{caller_of}
 use Rattle.civl_meaning.specs.Rest.{rest_at}
 use Rattle.civl_meaning.proofs.Rests.{head_at}
 use Rattle.civl_reduction.specs.exchanges.Doing.{layer_doing}
-use Rattle.civl_shadows.specs.Rests.{rest_of}
+use Rattle.civl_meaning.specs.Remaining.{rest_of}
 use Rattle.civl_reduction.specs.gathered.Offered.{offers_of}
 use Rattle.civl_blocked.proofs.Offers.{frame_none, frame_some}
 use Rattle.civl_blocked.proofs.offering.frame_offers.Goals as goal

@@ -7,8 +7,8 @@ use Rattle.civl_terms.specs.Weights.{graph_weight}
 use Rattle.civl_body.specs.Weights.{passed_weights, spent}
 use Rattle.civl_body.proofs.Weighing.{spent_weighs}
 use Rattle.civl_moves.specs.sweeps.Sweeps.{sweep_all, sweep_rest}
-use Rattle.civl_body.specs.declared.rests.Numbered.{Numbered}
-use Rattle.civl_body.specs.Rests.{rest_of}
+use Rattle.civl_meaning.specs.declared.remaining.Numbered.{Numbered}
+use Rattle.civl_meaning.specs.Remaining.{rest_of}
 use Rattle.civl_body.specs.Passing.{ReadyRest, ReadyHead, Passes}
 use Rattle.civl_body.proofs.Beginning.{entry_ready, within_ready, entry_passes, within_passes}
 use Rattle.civl_body.proofs.begin.pass_from.Goals as goal

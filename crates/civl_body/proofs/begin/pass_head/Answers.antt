@@ -3,7 +3,7 @@ use Rattle.std.proofs.Common.{◌≡◌, ◌∙◌, ◌-◌, ◌+◌, ◌*◌, �
 use Rattle.civl_meaning.specs.Rest.{Rest}
 use Rattle.civl_conditions.specs.paths.Flows.{flow_rest}
 use Rattle.civl_moves.specs.sweeps.Sweeps.{sweep_rest}
-use Rattle.civl_body.specs.Rests.{rest_of}
+use Rattle.civl_meaning.specs.Remaining.{rest_of}
 use Rattle.civl_body.specs.Passing.{ReadyHead, ReadyLoop, Passes, by_loop, loop_passed}
 use Rattle.civl_body.proofs.Heads.{items_are, loop_small, plain_passes, round, loop_ready, loop_passes}
 use Rattle.civl_terms.specs.Weights.{graph_weight}

@@ -1,7 +1,7 @@
 use Rattle.std.proofs.Common.{◌∙◌, ap}
 use Rattle.civl_terms.proofs.Growing.{grows_trans}
 use Rattle.civl_moves.specs.Branches.{with_front}
-use Rattle.civl_body.specs.Rests.{rest_of}
+use Rattle.civl_meaning.specs.Remaining.{rest_of}
 use Rattle.civl_body.proofs.Looping.{inside_ready, behind_ready, loop_passes}
 use Rattle.civl_terms.specs.Weights.{graph_weight}
 use Rattle.civl_conditions.specs.Weights.{body_weight}

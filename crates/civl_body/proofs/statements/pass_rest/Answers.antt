@@ -2,7 +2,7 @@ use Rattle.std.proofs.Common.{ℕ, arith}
 use Rattle.civl_tree.specs.declared.stmt.Stmt.{Stmt}
 use Rattle.civl_terms.specs.Weights.{graph_weight}
 use Rattle.civl_terms.proofs.Growing.{grows_trans, grows_same}
-use Rattle.civl_body.specs.Rests.{rest_of}
+use Rattle.civl_meaning.specs.Remaining.{rest_of}
 use Rattle.civl_body.proofs.RestPassing.{ends_within, rest_begins, rest_first, rest_step, rest_ends, item_is, rest_long}
 use Rattle.civl_body.proofs.Passing.{goes_on}
 use Rattle.civl_body.proofs.Weighing.{rest_spent}
@@ -33,6 +33,17 @@ pass-requires-clause-ready c =
 
 pub pass-requires-clause-small : goal.pass-requires-clause-small
 pass-requires-clause-small c =
+    let items = c.args.items.now in
+    let l = c.loop-item in
+    let x = c.item-item.result in
+    let long = rest_long items in
+    let ready = rest_first c.args.program.now c.args.layer c.args.proc.now c.args.chosen.now c.args.terms.now l.terms c.args.sweep.now l.sweep (rest_of items) (rest_of items) l.item-index (x.number, x.stmt.now) (omega (arith, long))
+    (item_is items l.item-index x c.loop-item-test.true c.item-item.is) l.invariant.0 in
+    omega (arith, ends_within c.args.proc.now x.number x.stmt.now ready.stands, c.requires.small)
+
+-- the number fits 32 bits, since the statement stands in the body
+pub overflow_cast-item : goal.overflow_cast-item
+overflow_cast-item c =
     let items = c.args.items.now in
     let l = c.loop-item in
     let x = c.item-item.result in

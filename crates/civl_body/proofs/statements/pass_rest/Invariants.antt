@@ -5,7 +5,7 @@ use Rattle.civl_terms.specs.Weights.{graph_weight}
 use Rattle.civl_conditions.specs.paths.Flows.{flow_all}
 use Rattle.civl_body.specs.Weights.{passed_weights, spent}
 use Rattle.civl_body.specs.Passing.{UnderRest}
-use Rattle.civl_body.specs.Rests.{rest_of}
+use Rattle.civl_meaning.specs.Remaining.{rest_of}
 use Rattle.civl_body.proofs.statements.pass_rest.Given as goal
 
 abbrev pub invariant-loop-item : goal.invariant-loop-item

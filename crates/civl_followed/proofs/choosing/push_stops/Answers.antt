@@ -6,7 +6,7 @@ use Rattle.civl_conditions.specs.paths.Paths.{Progress}
 use Rattle.civl_reduction.specs.simulation.Refined.{with_values}
 use Rattle.civl_reduction.specs.staged.Stops.{StopsAt}
 use Rattle.civl_shadows.specs.Notes.{noted, progress_of}
-use Rattle.civl_shadows.specs.Rests.{rest_of}
+use Rattle.civl_meaning.specs.Remaining.{rest_of}
 use Rattle.civl_followed.proofs.Codes.{splits_at}
 use Rattle.civl_followed.proofs.choosing.push_stops.Goals as goal
 

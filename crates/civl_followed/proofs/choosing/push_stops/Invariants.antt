@@ -3,7 +3,7 @@ use Rattle.civl_firing.specs.declared.store.Store.{Store}
 use Rattle.civl_reduction.specs.simulation.Refined.{with_values}
 use Rattle.civl_reduction.specs.staged.Stops.{StopsAt}
 use Rattle.civl_shadows.specs.Notes.{noted, progress_of}
-use Rattle.civl_shadows.specs.Rests.{rest_of}
+use Rattle.civl_meaning.specs.Remaining.{rest_of}
 use Rattle.civl_followed.proofs.choosing.push_stops.Given as goal
 
 abbrev pub invariant-loop-at : goal.invariant-loop-at

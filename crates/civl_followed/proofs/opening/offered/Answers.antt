@@ -2,9 +2,9 @@ use Rattle.std.proofs.Common.{◌≡◌, ◌∙◌, List, Option, drop, sym, ap,
 use Rattle.civl_meaning.specs.Rest.{rest_at}
 use Rattle.civl_reduction.specs.blocks.Cuts.{settled}
 use Rattle.civl_shadows.specs.declared.frames.Framed.{Framed}
-use Rattle.civl_shadows.specs.declared.rests.Numbered.{Numbered}
+use Rattle.civl_meaning.specs.declared.remaining.Numbered.{Numbered}
 use Rattle.civl_shadows.specs.Frames.{framed_of}
-use Rattle.civl_shadows.specs.Rests.{rest_of}
+use Rattle.civl_meaning.specs.Remaining.{rest_of}
 use Rattle.civl_followed.specs.Along.{IsOffered}
 use Rattle.civl_followed.proofs.Codes.{offered_so}
 use Rattle.civl_followed.proofs.opening.offered.Goals as goal

@@ -9,7 +9,7 @@ use Rattle.civl_meaning.specs.Rest.{rest_at}
 use Rattle.civl_meaning.proofs.Rests.{head_at}
 use Rattle.civl_reduction.specs.exchanges.Doing.{layer_doing}
 use Rattle.civl_reduction.specs.blocks.Challenged.{call_challenged}
-use Rattle.civl_shadows.specs.Rests.{rest_of}
+use Rattle.civl_meaning.specs.Remaining.{rest_of}
 use Rattle.civl_shadows.proofs.Calls.{frame_none, frame_some}
 use Rattle.civl_shadows.proofs.challenging.frame_calls.Goals as goal
 

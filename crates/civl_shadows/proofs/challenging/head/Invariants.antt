@@ -1,7 +1,7 @@
 use Rattle.std.proofs.Common.{◌≡◌, ℕ, drop}
 use Rattle.civl_meaning.specs.Rest.{head_of}
 use Rattle.civl_meaning.specs.Left.{stmt_of}
-use Rattle.civl_shadows.specs.Rests.{rest_of}
+use Rattle.civl_meaning.specs.Remaining.{rest_of}
 use Rattle.civl_shadows.proofs.challenging.head.Given as goal
 
 abbrev pub invariant-loop-at : goal.invariant-loop-at

@@ -1,6 +1,6 @@
 use Rattle.std.proofs.Common.{◌≡◌, drop}
 use Rattle.civl_reduction.specs.blocks.Blocks.{at_yield}
-use Rattle.civl_shadows.specs.Rests.{rest_of}
+use Rattle.civl_meaning.specs.Remaining.{rest_of}
 use Rattle.civl_shadows.proofs.notes.at_yield.Given as goal
 
 abbrev pub invariant-loop-at : goal.invariant-loop-at

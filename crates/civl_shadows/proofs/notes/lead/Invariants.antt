@@ -1,7 +1,7 @@
 use Rattle.std.proofs.Common.{◌≡◌, drop}
 use Rattle.civl_conditions.specs.paths.Runs.{led}
 use Rattle.civl_shadows.specs.Notes.{noted, progress_of}
-use Rattle.civl_shadows.specs.Rests.{rest_of}
+use Rattle.civl_meaning.specs.Remaining.{rest_of}
 use Rattle.civl_shadows.proofs.notes.lead.Given as goal
 
 abbrev pub invariant-loop-at : goal.invariant-loop-at

@@ -1,6 +1,6 @@
 use Rattle.std.proofs.Common.{◌≡◌, drop}
 use Rattle.civl_reduction.specs.blocks.Cuts.{settled}
-use Rattle.civl_shadows.specs.Rests.{rest_of}
+use Rattle.civl_meaning.specs.Remaining.{rest_of}
 use Rattle.civl_shadows.proofs.notes.settled.Given as goal
 
 abbrev pub invariant-loop-at : goal.invariant-loop-at

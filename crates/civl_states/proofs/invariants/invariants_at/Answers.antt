@@ -23,14 +23,14 @@ differs a b f = by (nat_eq a b) refl
     by true e = absurd (f (eqb-true a b e))
     by false e = refl
 
-pub and_invariant-requires-clause-typed : goal.and_invariant-requires-clause-typed
-and_invariant-requires-clause-typed c =
+pub and_hold-requires-clause-typed : goal.and_hold-requires-clause-typed
+and_hold-requires-clause-typed c =
     invariant_typed c.args.program.now c.requires.rules c.loop-invariant.invariant-index c.invariant-item.result
     (subst (λ (is : List Invariant). slice_get is c.loop-invariant.invariant-index ≡ Some c.invariant-item.result) c.as_slice-invariant-items.ensures
     (slice_get_read c.as_slice-invariant-items.result.now _ c.loop-invariant.invariant-index c.invariant-item.result refl (omega arith) c.invariant-item.is))
 
-pub and_invariant-requires-clause-globals : goal.and_invariant-requires-clause-globals
-and_invariant-requires-clause-globals c = sorts_stay _ _ _ _ c.loop-invariant.invariant.0 c.requires.globals
+pub and_hold-requires-clause-globals : goal.and_hold-requires-clause-globals
+and_hold-requires-clause-globals c = sorts_stay _ _ _ _ c.loop-invariant.invariant.0 c.requires.globals
 
 pub returns-in_err-all-2-clause-grows : goal.returns-in_err-all-2-clause-grows
 returns-in_err-all-2-clause-grows c = grows_trans _ _ _ c.loop-invariant.invariant.0 c.in_err-all-2.ensures.grows
@@ -47,9 +47,9 @@ loop-invariant-preserved c =
     elim c.if-invariant-step.branch [
       | then-invariant-step+in_ok-all-2 w ↦
           subst (λ (ns : List Node). HoldSo o p gs (of_step s (take (k + 1) is)) ns c.if-invariant-step.all) (sym w.terms-is)
-          (subst (λ (j : ℕ). HoldSo o p gs (of_step s (take (k + 1) is)) w.and_invariant.new.terms j) (sym w.all-is)
-          (subst (λ (es : List Expr). HoldSo o p gs es w.and_invariant.new.terms w.in_ok-all-2.all) (sym (step_more s is k i (omega arith) c.invariant-item.is (eq-eqb i.step s w.if-invariant-step.true)))
-          (hold_more o c.loop-invariant.terms w.and_invariant.new.terms p gs (of_step s (take k is)) i.expr c.loop-invariant.all w.in_ok-all-2.all c.loop-invariant.invariant
+          (subst (λ (j : ℕ). HoldSo o p gs (of_step s (take (k + 1) is)) w.and_hold.new.terms j) (sym w.all-is)
+          (subst (λ (es : List Expr). HoldSo o p gs es w.and_hold.new.terms w.in_ok-all-2.all) (sym (step_more s is k i (omega arith) c.invariant-item.is (eq-eqb i.step s w.if-invariant-step.true)))
+          (hold_more o c.loop-invariant.terms w.and_hold.new.terms p gs (of_step s (take k is)) i.expr c.loop-invariant.all w.in_ok-all-2.all c.loop-invariant.invariant
           w.in_ok-all-2.ensures.grows w.in_ok-all-2.ensures.sorted w.in_ok-all-2.ensures.test w.in_ok-all-2.ensures.weighs)))
       | else-invariant-step w ↦
           subst (λ (ns : List Node). HoldSo o p gs (of_step s (take (k + 1) is)) ns c.if-invariant-step.all) (sym w.terms-is)

@@ -1,6 +1,0 @@
-use Rattle.std.proofs.Common.{◌≡◌, drop, map}
-use Rattle.civl_tree.specs.rules.Names.{has_name}
-use Rattle.civl_goals.proofs.listing.is_target.Given as goal
-
-abbrev pub invariant-loop-update : goal.invariant-loop-update
-invariant-loop-update l = has_name (map (λ update. update.target) (drop l.update-index l.updates)) l.name ≡ has_name (map (λ update. update.target) l.updates) l.name
