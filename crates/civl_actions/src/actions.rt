@@ -1,5 +1,5 @@
 // The terms of actions.
-ghost use Rattle.std.specs.Prelude.{◌≡◌, ◌+◌, ◌<◌, ◌≤◌, ℕ, length, map, slice_get, IfOk, OnOk, IfSome};
+ghost use Rattle.std.specs.Prelude.{◌+◌, ◌<◌, ◌≤◌, length, map, slice_get, IfOk, OnOk, IfSome};
 ghost use Rattle.civl_tree.specs.rules.Names.{global_names, targets_of};
 ghost use Rattle.civl_tree.specs.rules.Rules.{Keeps};
 ghost use Rattle.civl_tree.specs.rules.Typing.{typing_rules};

@@ -13,7 +13,7 @@ use Rattle.civl_terms.specs.declared.node.Node.TheVariants.{Variable}
 use Rattle.civl_terms.specs.Graphs.{IsGraph, Fits, value_at}
 use Rattle.civl_terms.specs.Building.{Lengthens}
 use Rattle.civl_blast.specs.reach.Reaching.{Reaches, IsRowless}
-use Rattle.civl_blast.specs.rows.Cells.{cell_of, cells_in, next_number, HasEntries, StandsForCell, ReachesOnly}
+use Rattle.civl_blast.specs.rows.Cells.{cell_of, next_number, HasEntries, StandsForCell, ReachesOnly}
 use Rattle.civl_blast.specs.rows.Cells as cells
 use Rattle.civl_blast.specs.declared.rows.flat.Cell.{Cell}
 use Rattle.civl_blast.proofs.rows.Numbering.{next_is_above}

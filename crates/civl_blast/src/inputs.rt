@@ -1,7 +1,6 @@
 // The inputs of the clauses: the bits of the term's variables.
 ghost use Rattle.std.specs.Prelude.{◌≡◌, ◌≤◌, ◌<◌, ◌+◌, ◌++◌, length, Bool, Some, IsTrue, IfOk, OnOk};
 ghost use Rattle.civl_tree.specs.rules.StoreSize.{bits_of};
-ghost use Rattle.civl_terms.specs.Graphs.{IsGraph};
 ghost use Rattle.civl_terms.specs.Weights.{term_weight};
 ghost use Rattle.civl_blast.specs.reach.Reaching.{IsRowless, is_plain};
 ghost use Rattle.civl_blast.specs.reach.Marks.{IsMarking};

@@ -1,5 +1,5 @@
 // The clauses of one node.
-ghost use Rattle.std.specs.Prelude.{◌≡◌, ◌≤◌, ◌^◌, IsTrue, IfOk};
+ghost use Rattle.std.specs.Prelude.{◌≤◌, ◌^◌, IsTrue, IfOk};
 ghost use Rattle.civl_cnf.specs.Gates.{Extends};
 ghost use Rattle.civl_circuits.specs.Circuits.{IsOne};
 ghost use Rattle.civl_blast.specs.Steps.{IsReady, NodeMade, StepMade};

@@ -1,5 +1,5 @@
 // Moves arranged block by block. Nothing here is claimed of the order: whether the moves still run is tried afterwards.
-ghost use Rattle.std.specs.Prelude.{◌≡◌, ◌<◌, ◌≤◌, length, IfOk, IfSome, OnOk};
+ghost use Rattle.std.specs.Prelude.{◌≡◌, ◌<◌, ◌≤◌, length, IfSome};
 ghost use Rattle.std.specs.VecDeque.{deque_len};
 
 use crate::place::{Place, is_early, is_inside};

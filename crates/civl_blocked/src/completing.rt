@@ -1,5 +1,5 @@
 // Blocks that the moves leave unfinished, and their completion.
-ghost use Rattle.std.specs.Prelude.{ℕ, ◌≡◌, true, false, IfOk};
+ghost use Rattle.std.specs.Prelude.{IfOk};
 ghost use Rattle.civl_blocked.specs.Segments.{IsGround};
 ghost use Rattle.civl_blocked.specs.Completed.{StandsLate, IsCompleted};
 

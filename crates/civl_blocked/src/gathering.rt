@@ -1,5 +1,5 @@
 // The moves of a thread, gathered at the front of a segment.
-ghost use Rattle.std.specs.Prelude.{ℕ, ◌≡◌, ◌↔◌, true, false, IfOk, IsTrue};
+ghost use Rattle.std.specs.Prelude.{◌↔◌, true, false, IfOk, IsTrue};
 ghost use Rattle.civl_meaning.specs.declared.config.Config.{Config as There};
 ghost use Rattle.civl_reduction.specs.interleavings.Runs.{RunsTo, Opens};
 ghost use Rattle.civl_reduction.specs.gathering.Gathered.{own, others};

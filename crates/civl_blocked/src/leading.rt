@@ -7,7 +7,7 @@ ghost use Rattle.civl_reduction.specs.interleavings.Runs.{RunsTo, BlocksTo, MayS
 ghost use Rattle.civl_reduction.specs.interleavings.Reduction.{is_inside};
 ghost use Rattle.civl_blocked.specs.Places.{place_of};
 ghost use Rattle.civl_blocked.specs.Segments.{IsGround, over, FailsTo};
-ghost use Rattle.civl_blocked.specs.Arranged.{Leads, IsArranged, IsFound};
+ghost use Rattle.civl_blocked.specs.Arranged.{Leads, IsFound};
 
 use crate::arranging::{Arranged, by_turns};
 use crate::ground::Ground;

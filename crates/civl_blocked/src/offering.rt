@@ -1,6 +1,5 @@
 // Moves with the choices that actions offer.
-ghost use Rattle.std.specs.Prelude.{ℕ, ◌≡◌, [], List, map, slice_get, IfOk, option_copied, Some};
-ghost use Rattle.civl_bits.specs.declared.value.Value.{Value as Given};
+ghost use Rattle.std.specs.Prelude.{ℕ, ◌≡◌, [], List, slice_get, IfOk, option_copied, Some};
 ghost use Rattle.civl_tree.specs.declared.name.Name.{Name as Called};
 ghost use Rattle.civl_tree.specs.declared.stmt.Stmt.{out-Stmt};
 ghost use Rattle.civl_tree.specs.declared.stmt.Stmt.TheOpen.{Call};

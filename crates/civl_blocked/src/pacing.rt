@@ -1,5 +1,5 @@
 // How many moves are arranged at once.
-ghost use Rattle.std.specs.Prelude.{◌≤◌, length, IfOk, IfSome};
+ghost use Rattle.std.specs.Prelude.{◌≤◌, IfOk, IfSome};
 ghost use Rattle.civl_blocked.specs.Arranged.{IsArranged};
 ghost use Rattle.civl_blocked.specs.Segments.{IsGround, over, FailsTo};
 

@@ -1,5 +1,5 @@
 // Steps, and where they leave their threads.
-ghost use Rattle.std.specs.Prelude.{ℕ, ◌≡◌, true, false, Some, None, IfOk, IfSome, IfNone, IsTrue, ◌↔◌, ◌⊎◌};
+ghost use Rattle.std.specs.Prelude.{◌≡◌, true, Some, None, IfOk, IfSome, IfNone, IsTrue};
 ghost use Rattle.civl_meaning.specs.declared.config.Config.{Config as Given};
 ghost use Rattle.civl_reduction.specs.interleavings.Systems.{Failing};
 ghost use Rattle.civl_blocked.specs.Places.{place_of};

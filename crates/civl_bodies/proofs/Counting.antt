@@ -1,5 +1,5 @@
 -- Runs of numbers.
-use Rattle.std.proofs.Common.{◌≡◌, ◌∙◌, ℕ, zero, suc, ◌+◌, List, [], ◌∷◌, ◌++◌, refl, sym, ap, subst, arith, add-one}
+use Rattle.std.proofs.Common.{◌≡◌, ◌∙◌, ℕ, zero, suc, ◌+◌, List, [], ◌∷◌, ◌++◌, ap, arith, add-one}
 use Rattle.civl_bodies.specs.Numbers.{counted}
 
 one_more : (first n : ℕ) → counted first (suc n) ≡ counted first n ++ (first + n) ∷ []

@@ -1,5 +1,5 @@
 // Calls at terms.
-ghost use Rattle.std.specs.Prelude.{◌≡◌, ◌≤◌, ◌+◌, ◌*◌, ◌<◌, ◌^◌, ℕ, List as ListOf, length, Some, IfOk, IfSome, OnOk};
+ghost use Rattle.std.specs.Prelude.{◌≡◌, ◌≤◌, ◌+◌, ◌<◌, ◌^◌, ℕ, List as ListOf, length, Some, IfOk, IfSome, OnOk};
 ghost use Rattle.std.specs.Option.{option_map_or};
 ghost use Rattle.civl_bits.specs.declared.value.Value.{Value};
 ghost use Rattle.civl_tree.specs.declared.action.Action.{Action};

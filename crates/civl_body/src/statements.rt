@@ -1,5 +1,5 @@
 // The statements of a body, one behind the other, at terms.
-ghost use Rattle.std.specs.Prelude.{◌≡◌, ◌≤◌, ◌+◌, ◌∷◌, ◌<◌, ◌^◌, OnOk};
+ghost use Rattle.std.specs.Prelude.{◌≤◌, ◌+◌, ◌∷◌, ◌<◌, ◌^◌, OnOk};
 ghost use Rattle.civl_tree.specs.Numbering.{inner_of, numbered, size_of, sizes_of, statements_of};
 ghost use Rattle.civl_tree.specs.rules.Rules.{Keeps};
 ghost use Rattle.civl_linear.specs.LinearRules.{linear_rules};

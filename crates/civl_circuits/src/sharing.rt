@@ -1,5 +1,5 @@
 // Gates over a clause set and the table of those that were built.
-ghost use Rattle.std.specs.Prelude.{◌≡◌, ◌<◌, ◌≤◌, ◌+◌, ◌^◌, ◌&&◌, if◌then◌else◌, IfOk, OnOk, OnErr};
+ghost use Rattle.std.specs.Prelude.{◌≡◌, ◌<◌, ◌≤◌, ◌^◌, ◌&&◌, if◌then◌else◌, IfOk, OnOk, OnErr};
 ghost use Rattle.civl_cnf.specs.Literal.{truth_of};
 ghost use Rattle.civl_cnf.specs.Gates.{Extends, xor};
 ghost use Rattle.civl_circuits.specs.Circuits.{MakesBit};

@@ -1,5 +1,5 @@
 // Shifts, by stages: one for each bit of the amount that can move anything.
-ghost use Rattle.std.specs.Prelude.{◌≡◌, ◌<◌, ◌≤◌, ◌+◌, ◌-◌, ◌*◌, ◌^◌, ◌++◌, length, take, drop, replicate, if◌then◌else◌, IfOk};
+ghost use Rattle.std.specs.Prelude.{◌≡◌, ◌<◌, ◌≤◌, ◌+◌, ◌-◌, ◌*◌, ◌^◌, length, if◌then◌else◌, IfOk};
 ghost use Rattle.civl_bits.specs.Word.{left_shift_at, right_shift_at, arithmetic_right_shift_at, complement_at};
 ghost use Rattle.civl_cnf.specs.Literal.{truth_of};
 ghost use Rattle.civl_cnf.specs.ClauseSet.{IsBelow};

@@ -2,7 +2,6 @@
 ghost use Rattle.std.specs.Prelude.{◌≡◌, ◌<◌, ◌≤◌, ◌+◌, ◌-◌, ◌%◌, ◌^◌, ◌++◌, length, take, drop, replicate, nat_eq, if◌then◌else◌, ℕ, Bool, IfOk, IsTrue};
 ghost use Rattle.civl_bits.specs.Word.{slice_of, concatenation_at};
 ghost use Rattle.civl_cnf.specs.Literal.{opposite, truth_of};
-ghost use Rattle.civl_cnf.specs.ClauseSet.{IsBelow};
 ghost use Rattle.civl_circuits.specs.Circuits.{number, IsConstantWord};
 
 use civl_cnf::{Lit, Memory};

@@ -1,5 +1,5 @@
 // The circuit of each operator, over bools and words of 1 and of 3 bits, is made where memory is there.
-ghost use Rattle.std.specs.Prelude.{◌≡◌, ◌≤◌, ◌+◌, ◌^◌, Some, IsSome, IsTrue, IfOk};
+ghost use Rattle.std.specs.Prelude.{◌≡◌, ◌≤◌, ◌+◌, ◌^◌, Some, IsSome, IsTrue};
 ghost use Rattle.civl_tree.specs.rules.Sorts.{one_sort, two_sort, slice_sort, widen_sort, join_sort};
 ghost use Rattle.civl_tree.specs.rules.StoreSize.{bits_of};
 ghost use Rattle.civl_firing.specs.values.Values.{is_sort};

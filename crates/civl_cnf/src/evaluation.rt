@@ -1,5 +1,5 @@
 // The truth of a clause set under bits.
-ghost use Rattle.std.specs.Prelude.{◌≡◌, ◌≤◌, ◌<◌, ◌↔◌, length, All, IsTrue};
+ghost use Rattle.std.specs.Prelude.{◌≡◌, ◌≤◌, ◌<◌, ◌↔◌, length, IsTrue};
 ghost use Rattle.std.specs.List.{list_any, list_all};
 ghost use Rattle.civl_cnf.specs.Literal.{truth_of};
 ghost use Rattle.civl_cnf.specs.ClauseSet.{IsBelow, AreBelow, Satisfies, assignment};

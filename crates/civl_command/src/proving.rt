@@ -16,7 +16,6 @@ use civl_portfolio::Prover;
 use civl_prove::Proved;
 use civl_prove::outline_reports::{Proving, prove_outline, report_proving};
 use civl_tree::{Refused, copy_program};
-use civl_verdicts::Verdict;
 use civl_yields::verify::{Admitted, locals_held, source};
 use std::alloc::Global;
 

@@ -2,7 +2,7 @@
 use Rattle.std.proofs.Common.{◌≡◌, true, false, [], ◌∷◌, ◌++◌, Some, refl}
 use Rattle.std.specs.Prelude.{slice_get}
 use Rattle.civl_tree.specs.declared.expr.Expr as expr
-use Rattle.civl_tree.specs.declared.stmt.Stmt.{Stmt, the_lemmas as of_stmt}
+use Rattle.civl_tree.specs.declared.stmt.Stmt.{the_lemmas as of_stmt}
 use Rattle.civl_tree.specs.declared.stmt.Stmt as stmt
 use Rattle.civl_tree.specs.Numbering.{numbered}
 use Rattle.civl_meaning.specs.Rest.{rest_at}

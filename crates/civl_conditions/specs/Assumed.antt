@@ -14,7 +14,7 @@ use Rattle.civl_tree.specs.Numbering.{statement_at}
 use Rattle.civl_firing.specs.declared.scope.Scope.{Scope}
 use Rattle.civl_firing.specs.Fired.{gate_holds}
 use Rattle.civl_meaning.specs.Permissions.{pairwise_disjoint}
-use Rattle.civl_meaning.specs.Meaning.{Meaning, Does, Runs, Missing, refined}
+use Rattle.civl_meaning.specs.Meaning.{refined}
 use Rattle.civl_layers.specs.declared.cut.Cut.{Cut}
 use Rattle.civl_layers.specs.declared.cut.CutKind.{CutKind}
 use Rattle.civl_layers.specs.declared.cut.CutKind.TheVariants as kind

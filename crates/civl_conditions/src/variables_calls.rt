@@ -1,5 +1,5 @@
 // The choices of calls, which a path makes by itself.
-ghost use Rattle.std.specs.Prelude.{◌≡◌, ◌<◌, ◌^◌, ◌++◌, map, flat_map, codes, decimal, OnOk, IfOk, option_copied};
+ghost use Rattle.std.specs.Prelude.{◌≡◌, ◌<◌, ◌^◌, ◌++◌, map, flat_map, OnOk, IfOk, option_copied};
 ghost use Rattle.civl_tree.specs.declared.stmt.Stmt.{out-Stmt};
 ghost use Rattle.civl_tree.specs.Numbering.{sizes_of};
 ghost use Rattle.civl_meaning.specs.Meaning.{called};

@@ -1,5 +1,5 @@
 //! The values of expressions, where the names stand for what a scope or a setting says.
-ghost use Rattle.std.specs.Prelude.{◌≡◌, IfOk, map};
+ghost use Rattle.std.specs.Prelude.{◌≡◌, IfOk};
 ghost use Rattle.civl_firing.specs.Eval.{value_of, values_of};
 ghost use Rattle.civl_firing.specs.values.Values.{is_true};
 

@@ -4,7 +4,7 @@ ghost use Rattle.civl_firing.specs.values.Values.{are_of};
 ghost use Rattle.civl_tree.specs.rules.Names.{global_names, param_names};
 ghost use Rattle.civl_firing.specs.Names.{names_of};
 ghost use Rattle.civl_firing.specs.Settings.{scope_in};
-ghost use Rattle.civl_firing.specs.Fired.{gate_holds, guard_holds, choices_fit, updated, store_after, outs_after, fires, fired_by, fired};
+ghost use Rattle.civl_firing.specs.Fired.{gate_holds, choices_fit, updated, store_after, outs_after, fires, fired_by, fired};
 
 use crate::expressions::{holds, value};
 use crate::names::{Names, place};

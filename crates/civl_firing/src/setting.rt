@@ -3,7 +3,6 @@ ghost use Rattle.std.specs.Prelude.{◌≡◌, ◌++◌, slice_index_or};
 ghost use Rattle.civl_firing.specs.declared.scope.Scope.{Scope as Given};
 ghost use Rattle.civl_firing.specs.values.Operators.{nothing};
 ghost use Rattle.civl_firing.specs.Eval.{look};
-ghost use Rattle.civl_firing.specs.Names.{names_of};
 ghost use Rattle.civl_firing.specs.Settings.{values_in, scope_in};
 ghost use Rattle.civl_firing.specs.Scope.{zeros_of_params, zeros_of_globals, global_values, gate_values, guard_values, frame_values};
 

@@ -1,5 +1,5 @@
 // Where a block begins.
-ghost use Rattle.std.specs.Prelude.{ℕ, ◌≡◌, ◌+◌, ◌<◌, ◌^◌, List, Contains, IfOk};
+ghost use Rattle.std.specs.Prelude.{◌≡◌, ◌+◌, ◌<◌, ◌^◌, List, Contains, IfOk};
 ghost use Rattle.civl_bits.specs.declared.value.Value.{Value as Given};
 ghost use Rattle.civl_reduction.specs.blocks.Shadow.{Shadowed as Beside};
 ghost use Rattle.civl_shadows.specs.Frames.{framed_of};

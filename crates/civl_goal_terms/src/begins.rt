@@ -2,7 +2,6 @@
 ghost use Rattle.std.specs.Prelude.{◌≡◌, ◌+◌, ◌*◌, ◌≤◌, ◌<◌, ◌&&◌, ℕ, not, length, slice_get, Some, IfOk, OnOk};
 ghost use Rattle.civl_tree.specs.declared.expr.Sort.TheVariants.{Bool as Truth};
 ghost use Rattle.civl_tree.specs.declared.program.Thread.{Thread as Declared};
-ghost use Rattle.civl_firing.specs.declared.store.Store.{Store};
 ghost use Rattle.civl_meaning.specs.Meaning.{proc_number};
 ghost use Rattle.civl_layers.specs.Layered.{IsLayered};
 ghost use Rattle.civl_terms.specs.Graphs.{sort_at};

@@ -12,7 +12,6 @@ ghost use Rattle.civl_goals.specs.Listed.{goals};
 ghost use Rattle.civl_goals.specs.Rules.{unfit};
 ghost use Rattle.civl_goals.specs.Weights.{weight};
 ghost use Rattle.civl_goal_terms.specs.Formulas.{sorts_of, IsViolation};
-ghost use Rattle.civl_goal_terms.specs.Outlined.{IsOutlined};
 ghost use Rattle.civl_goal_terms.specs.There.{IsThere};
 
 use crate::begins::{invariant_fails, thread_begins_astray};

@@ -4,7 +4,7 @@ ghost use Rattle.std.specs.Option.{option_map_or};
 ghost use Rattle.civl_tree.specs.declared.stmt.Stmt.{out-Stmt};
 ghost use Rattle.civl_tree.specs.Numbering.{proc_item, thread_item, sizes_of};
 ghost use Rattle.civl_tree.specs.Numbered.{IsNumbered};
-ghost use Rattle.civl_tree.specs.rules.Rules.{item_place, statement_places, statements_where, each_place, first_of};
+ghost use Rattle.civl_tree.specs.rules.Rules.{statements_where, each_place, first_of};
 ghost use Rattle.civl_goals.specs.Listed.{is_root};
 ghost use Rattle.civl_goals.specs.Rules.{root_at, stands_in, misplaced, unfit_holds, unfit, names_layered, names_root, form_descends, descending_in, descending_thread, descending};
 ghost use Rattle.civl_goals.specs.Spots.{spot_of, spots_in, has_spot, with_spot};

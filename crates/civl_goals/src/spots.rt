@@ -5,7 +5,7 @@ ghost use Rattle.civl_goals.specs.Spots.{spot_of, spots_in, has_spot, with_spot,
 use civl_outlines::Note;
 use civl_tree::Memory;
 use indexmap::IndexSet;
-use std::alloc::{AllocFailed, Global};
+use std::alloc::Global;
 
 /// Where a note stands: the number of an item, and of a statement in it.
 #[derive(Clone, Copy, Debug, PartialEq, Eq, Hash)]

@@ -1,8 +1,8 @@
 // Calls that don't go down (E32).
-ghost use Rattle.std.specs.Prelude.{◌≡◌, option_copied};
+ghost use Rattle.std.specs.Prelude.{◌≡◌};
 ghost use Rattle.civl_tree.specs.rules.Names.{action_named, proc_named};
 ghost use Rattle.civl_tree.specs.declared.stmt.Stmt.{out-Stmt};
-ghost use Rattle.civl_layers.specs.NotBelow.{not_among, root_runs, layered_runs, calls_proc, spawns_proc, call_not_below, spawns_option, form_not_below};
+ghost use Rattle.civl_layers.specs.NotBelow.{root_runs, layered_runs, calls_proc, spawns_proc, call_not_below, spawns_option, form_not_below};
 
 use crate::names::is_among;
 use civl_tree::{Name, Proc, Program, Refines, Stmt};

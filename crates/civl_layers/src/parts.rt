@@ -1,5 +1,4 @@
 // Whether a part of a program breaks a rule.
-ghost use Rattle.std.specs.Prelude.{◌≡◌};
 ghost use Rattle.civl_layers.specs.Asked.{rule_of, stmt_breaks};
 
 use crate::below::call_or_spawn_not_below;

@@ -1,5 +1,5 @@
 // Procedures whose signature isn't that of their action (E34).
-ghost use Rattle.std.specs.Prelude.{◌≡◌, not, ◌&&◌, option_copied};
+ghost use Rattle.std.specs.Prelude.{◌≡◌, not, ◌&&◌};
 ghost use Rattle.civl_tree.specs.rules.Names.{action_named};
 ghost use Rattle.civl_tree.specs.rules.Sorts.{same_sort};
 ghost use Rattle.civl_tree.specs.rules.Signature.{same_mode, same_params, signature_differs, proc_signature_differs};

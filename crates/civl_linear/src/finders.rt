@@ -1,5 +1,4 @@
 // The first statement of a procedure at which a rule is broken.
-ghost use Rattle.std.specs.Prelude.{◌≡◌};
 ghost use Rattle.civl_linear.specs.LinearRules.{not_held_rule, held_twice_rule, lost_rule, assigned_rule};
 
 use crate::flags::{covers, exit_owed};

@@ -1,10 +1,10 @@
 // Sets of held names, as flags.
-ghost use Rattle.std.specs.Prelude.{◌≡◌, ◌∷◌, ◌++◌, [], map, false, Bool, IfOk, OnOk};
+ghost use Rattle.std.specs.Prelude.{◌≡◌, ◌++◌, map, false, IfOk, OnOk};
 ghost use Rattle.civl_linear.specs.Held.{both_held, covers, entry_held, exit_owed};
 ghost use Rattle.civl_linear.specs.Modes.{is_passed, is_lent, is_given};
 
 use crate::modes::{is_given, is_lent, is_passed};
-use civl_tree::{List, Local, Memory, Param, Proc};
+use civl_tree::{List, Local, Memory, Proc};
 use std::alloc::Global;
 
 /// A copy of these flags.

@@ -1,7 +1,7 @@
 // Arguments and results that stand for linear values.
-ghost use Rattle.std.specs.Prelude.{◌≡◌, ◌∷◌, []};
-ghost use Rattle.civl_tree.specs.rules.Names.{has_name, any_twice};
-ghost use Rattle.civl_linear.specs.Modes.{plain_name, passed_names, given_names, is_passed};
+ghost use Rattle.std.specs.Prelude.{◌≡◌};
+ghost use Rattle.civl_tree.specs.rules.Names.{has_name};
+ghost use Rattle.civl_linear.specs.Modes.{plain_name, passed_names, given_names};
 ghost use Rattle.civl_linear.specs.Wants.{wants};
 
 use crate::modes::{Want, is_given, wants};

@@ -1,6 +1,5 @@
 // The names of a procedure.
-ghost use Rattle.std.specs.Prelude.{◌≡◌, ◌++◌, ◌&&◌, map, Bool, IfOk};
-ghost use Rattle.std.specs.List.{list_any};
+ghost use Rattle.std.specs.Prelude.{◌≡◌, ◌&&◌, map, IfOk};
 ghost use Rattle.civl_tree.specs.rules.Names.{names_in_proc, same_name};
 ghost use Rattle.civl_linear.specs.Held.{holds};
 ghost use Rattle.civl_linear.specs.Places.{passes_in, gives_out, is_linear_local, may_pass, is_param, may_get};

@@ -1,5 +1,5 @@
 // What a step does.
-ghost use Rattle.std.specs.Prelude.{◌≡◌, ◌+◌, ◌^◌, ◌<◌, Some, [], length, take, drop, slice_get, slice_set, if◌then◌else◌, IfOk};
+ghost use Rattle.std.specs.Prelude.{◌≡◌, ◌+◌, ◌^◌, ◌<◌, Some, [], slice_set, if◌then◌else◌, IfOk};
 ghost use Rattle.civl_tree.specs.declared.stmt.Stmt.{out-Stmt};
 ghost use Rattle.civl_meaning.specs.declared.config.State.TheVariants.{Before};
 ghost use Rattle.civl_firing.specs.Truth.{place_of};
@@ -9,15 +9,15 @@ ghost use Rattle.civl_firing.specs.Scope.{frame_values};
 ghost use Rattle.civl_tree.specs.rules.Names.{names_in_proc};
 ghost use Rattle.civl_firing.specs.Names.{names_of};
 ghost use Rattle.civl_meaning.specs.Places.{start_of};
-ghost use Rattle.civl_tree.specs.Numbering.{sizes_of, size_of};
-ghost use Rattle.civl_meaning.specs.Found.{spot, Fits};
+ghost use Rattle.civl_tree.specs.Numbering.{sizes_of};
+ghost use Rattle.civl_meaning.specs.Found.{Fits};
 ghost use Rattle.civl_meaning.specs.Callees.{meaning};
 ghost use Rattle.civl_meaning.specs.Meaning.{called, proc_number};
-ghost use Rattle.civl_meaning.specs.Change.{with_results, new_frame, acted, action_change, call_change, layer_change, returned_layer, returned_at, returned, leaves, outs_in, spot_change, proc_change, caller_of, change_of};
+ghost use Rattle.civl_meaning.specs.Change.{with_results, new_frame, acted, action_change, call_change, layer_change};
 
 use crate::config::{Activation, Change, Plain, Running, State, Stepped};
 use crate::found::{Found, begin};
-use crate::meant::{Callee, of_name, of_proc};
+use crate::meant::{Callee, of_name};
 use civl_bits::Value;
 use civl_firing::expressions::{holds, value, values};
 use civl_firing::firing::{choices_fit, gate, transition, write};

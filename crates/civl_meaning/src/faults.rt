@@ -1,10 +1,10 @@
 // Failing threads.
-ghost use Rattle.std.specs.Prelude.{◌≡◌, ◌<◌, ◌^◌, length, slice_get, option_copied};
+ghost use Rattle.std.specs.Prelude.{◌≡◌, ◌<◌, ◌^◌, length, slice_get};
 ghost use Rattle.civl_tree.specs.declared.stmt.Stmt.{out-Stmt};
 ghost use Rattle.civl_firing.specs.Eval.{values_of};
 ghost use Rattle.civl_firing.specs.Scope.{frame_values};
 ghost use Rattle.civl_meaning.specs.Callees.{meaning};
-ghost use Rattle.civl_meaning.specs.Failing.{call_fails, layer_fails, proc_fails, state_fails, thread_fails, failing_thread};
+ghost use Rattle.civl_meaning.specs.Failing.{call_fails, layer_fails, proc_fails, thread_fails, failing_thread};
 
 use crate::change::{Standing, holds_in};
 use crate::config::{Activation, Config, Plain, Running, State};

@@ -8,9 +8,9 @@
 //!
 //! Code does what they say: it starts a plain program ([`start`]), takes a step of a configuration ([`step`]), finds the
 //! first thread that fails ([`failing`]), and gives a thread's frames with the statements that are still to run
-//! ([`frame`]). The parts of that are for the crates above too: how many statements there are ([`sizes`]), and what is still to run
-//! from a place of a body, each with its number ([`remaining`]). Expressions and actions are here under the names of `civl_firing`, as [`evaluate`], [`fire`] and
-//! [`truth_table`].
+//! ([`frame`]). The parts of that are for the crates above too: how many statements there are ([`sizes`]), and what is still
+//! to run from a place of a body, each with its number ([`remaining`]). Expressions and actions are here under the names of
+//! `civl_firing`, as [`evaluate`], [`fire`] and [`truth_table`].
 #![tactic(auto)]
 
 mod change;

@@ -26,7 +26,7 @@ fn counted(stmt: &Stmt) -> Option<usize>
 
 /// How many statements these are, with those inside them, where a number says it.
 #[cycle(counted)]
-pub fn counted_all(stmts: &List<Stmt>) -> Option<usize>
+pub(crate) fn counted_all(stmts: &List<Stmt>) -> Option<usize>
     ensures { IfSome result (λ n. n ≡ sizes_of stmts.now) }
 {
     let mut sum: usize = 0;

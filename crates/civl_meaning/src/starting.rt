@@ -1,5 +1,5 @@
 // The configuration in which a program starts.
-ghost use Rattle.std.specs.Prelude.{◌≡◌, IfOk, map};
+ghost use Rattle.std.specs.Prelude.{◌≡◌, IfOk};
 ghost use Rattle.civl_meaning.specs.Step.{begun, start};
 
 use crate::config::{Config, Plain, Running, State};

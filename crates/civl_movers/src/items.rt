@@ -1,21 +1,19 @@
 // What goes into an action and what comes out of it, and whether permissions are lost.
-ghost use Rattle.std.specs.Prelude.{◌≡◌, ◌+◌, ◌*◌, ◌≤◌, ◌^◌, ◌&&◌, not, ℕ, List, ◌++◌, All, map, length, slice_get, Some, IfOk, OnOk};
+ghost use Rattle.std.specs.Prelude.{◌≡◌, ◌+◌, ◌*◌, ◌≤◌, ◌^◌, ◌&&◌, not, ℕ, List, ◌++◌, slice_get, Some, IfOk, OnOk};
 ghost use Rattle.civl_bits.specs.declared.value.Value.{Value};
-ghost use Rattle.civl_tree.specs.declared.expr.Sort.TheVariants.{Bool as Truth, Word};
+ghost use Rattle.civl_tree.specs.declared.expr.Sort.TheVariants.{Bool as Truth};
 ghost use Rattle.civl_tree.specs.declared.action.Action.{Action};
-ghost use Rattle.civl_tree.specs.rules.Count.{permission_limit};
 ghost use Rattle.civl_tree.specs.rules.Rules.{Keeps};
 ghost use Rattle.civl_tree.specs.rules.Typing.{typing_rules};
 ghost use Rattle.civl_firing.specs.declared.store.Store.{Store};
 ghost use Rattle.civl_firing.specs.values.ActionWeights.{action_weight};
-ghost use Rattle.civl_meaning.specs.Permissions.{permissions_of_word, permissions_of_global, of_params, pairwise_disjoint};
+ghost use Rattle.civl_meaning.specs.Permissions.{pairwise_disjoint};
 ghost use Rattle.civl_terms.specs.Graphs.{sort_at};
 ghost use Rattle.civl_terms.specs.Building.{Grows};
 ghost use Rattle.civl_terms.specs.Weights.{graph_weight};
 ghost use Rattle.civl_actions.specs.Scopes.{AreOf};
-ghost use Rattle.civl_actions.specs.Actions.{values_at};
 ghost use Rattle.civl_conditions.specs.Movers as says;
-ghost use Rattle.civl_conditions.specs.Permissions.{in_store, included};
+ghost use Rattle.civl_conditions.specs.Permissions.{included};
 ghost use Rattle.civl_conditions.specs.Weights.{lin, linear_globals, linear_inputs};
 ghost use Rattle.civl_states.specs.formula_parts.Said.{Env, IsTest};
 ghost use Rattle.civl_states.specs.formula_parts.Lists.{AreSaid};
@@ -23,7 +21,7 @@ ghost use Rattle.civl_states.specs.formula_parts.Masks.{AreCarried, CanCarry};
 ghost use Rattle.civl_states.specs.Runs.{IsReady, IsInvoked, out_sorts};
 ghost use Rattle.civl_states.specs.Stores.{AreGlobals, AreStore};
 ghost use Rattle.civl_movers.specs.Runs.{AreTested, TellsOne, TellsTwo};
-ghost use Rattle.civl_states.specs.Items.{picked, is_which, of_which, number_of, HaveWidths, HasItems, items_weight, comes_in, number_coming};
+ghost use Rattle.civl_states.specs.Items.{HasItems, items_weight, number_coming};
 ghost use Rattle.civl_movers.specs.Items.{handed_back, goes_out, number_back, number_going, IsBalance};
 
 use civl_actions::Instance;

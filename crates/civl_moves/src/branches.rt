@@ -1,5 +1,5 @@
 // The two branches of an `if` at terms.
-ghost use Rattle.std.specs.Prelude.{◌≡◌, ◌≤◌, ◌+◌, ◌&&◌, ◌||◌, not, Bool, Some, List as ListOf, map, IsSome, nat_eq, if◌then◌else◌, IfOk, OnOk};
+ghost use Rattle.std.specs.Prelude.{◌≡◌, ◌≤◌, ◌+◌, ◌&&◌, ◌||◌, not, Bool, Some, List as ListOf, IsSome, nat_eq, if◌then◌else◌, IfOk, OnOk};
 ghost use Rattle.civl_bits.specs.declared.value.Value.{Value as Meant};
 ghost use Rattle.civl_tree.specs.declared.expr.Sort.{Sort};
 ghost use Rattle.civl_tree.specs.declared.expr.Sort.TheVariants.{Bool as Truth};

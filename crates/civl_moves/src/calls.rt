@@ -1,6 +1,5 @@
 // Calls of actions at terms.
-ghost use Rattle.std.specs.Prelude.{◌≡◌, ◌≤◌, ◌+◌, ◌<◌, ◌^◌, length, map, All, slice_get, IfOk, OnOk, IfSome, Some};
-ghost use Rattle.civl_tree.specs.declared.action.Action.{Action};
+ghost use Rattle.std.specs.Prelude.{◌≡◌, ◌≤◌, ◌+◌, ◌<◌, length, map, All, slice_get, IfOk, OnOk, IfSome, Some};
 ghost use Rattle.civl_tree.specs.declared.expr.Sort.TheVariants.{Bool as Truth};
 ghost use Rattle.civl_tree.specs.rules.Names.{global_names, names_in_proc, targets_of};
 ghost use Rattle.civl_tree.specs.rules.Rules.{Keeps};

@@ -1,5 +1,5 @@
 // The first item in which a name stands twice (E10), and the sets of the names that are declared.
-ghost use Rattle.std.specs.Prelude.{◌≡◌, ◌+◌, ◌<◌, ◌^◌, ◌++◌, ◌∷◌, [], map, take, length, IfOk};
+ghost use Rattle.std.specs.Prelude.{◌≡◌, ◌+◌, ◌<◌, ◌^◌, [], map, take, length, IfOk};
 ghost use Rattle.civl_tree.specs.Numbering.{statements_of};
 ghost use Rattle.civl_tree.specs.rules.Names.{global_names, action_names, proc_names};
 ghost use Rattle.civl_tree.specs.rules.Codes.{E10};

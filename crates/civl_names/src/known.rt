@@ -1,8 +1,6 @@
 // The names in scope at the places of expressions.
-ghost use Rattle.std.specs.Prelude.{◌≡◌, ◌++◌, not};
-ghost use Rattle.std.specs.List.{list_any};
+ghost use Rattle.std.specs.Prelude.{◌≡◌};
 ghost use Rattle.civl_tree.specs.rules.Names.{has_name};
-ghost use Rattle.civl_names.specs.NameSets.{names_in};
 ghost use Rattle.civl_names.specs.InScope.{names_of, olds_of, all_known, any_strange};
 
 use crate::name_set::NameSet;

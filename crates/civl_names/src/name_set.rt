@@ -1,11 +1,11 @@
 // Sets of names.
-ghost use Rattle.std.specs.Prelude.{◌≡◌, [], ◌∷◌, ◌++◌, not, if◌then◌else◌, IfOk, OnOk};
+ghost use Rattle.std.specs.Prelude.{◌≡◌, [], IfOk, OnOk};
 ghost use Rattle.civl_tree.specs.rules.Names.{has_name};
 ghost use Rattle.civl_names.specs.NameSets.{names_in, with_name};
 
 use civl_tree::{Memory, Name};
 use indexmap::IndexSet;
-use std::alloc::{AllocFailed, Global};
+use std::alloc::Global;
 
 /// A set of names, in the order in which they were added.
 #[derive(Drop)]

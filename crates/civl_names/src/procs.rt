@@ -1,7 +1,5 @@
 // Unknown names (E11) in procedures.
-ghost use Rattle.std.specs.Prelude.{◌≡◌, ◌<◌, ◌^◌, map, Some, IfOk, if◌then◌else◌};
-ghost use Rattle.std.specs.List.{list_any};
-ghost use Rattle.civl_tree.specs.declared.stmt.Stmt.{out-Stmt};
+ghost use Rattle.std.specs.Prelude.{◌≡◌, ◌<◌, ◌^◌, Some, IfOk, if◌then◌else◌};
 ghost use Rattle.civl_tree.specs.Numbering.{no_statement, sizes_of};
 ghost use Rattle.civl_tree.specs.rules.Names.{param_names};
 ghost use Rattle.civl_tree.specs.rules.Rules.{statements_where, first_of};

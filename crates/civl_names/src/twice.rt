@@ -1,8 +1,8 @@
 // Names that stand twice (E10).
-ghost use Rattle.std.specs.Prelude.{◌≡◌, ◌<◌, ◌^◌, ◌++◌, ◌||◌, map, length, IfOk};
+ghost use Rattle.std.specs.Prelude.{◌≡◌, ◌<◌, ◌^◌, ◌++◌, ◌||◌, length, IfOk};
 ghost use Rattle.std.specs.List.{list_any};
 ghost use Rattle.civl_tree.specs.Numbering.{statements_of};
-ghost use Rattle.civl_tree.specs.rules.Names.{has_name, any_twice, global_names, action_names, names_in_action, names_in_proc, targets_of};
+ghost use Rattle.civl_tree.specs.rules.Names.{has_name, any_twice, names_in_action, names_in_proc, targets_of};
 ghost use Rattle.civl_tree.specs.rules.Twice.{stmt_twice};
 ghost use Rattle.civl_tree.specs.rules.Rules.{numbers_where, first_of};
 ghost use Rattle.civl_names.specs.NameSets.{names_in, declared_in};

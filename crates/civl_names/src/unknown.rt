@@ -1,5 +1,5 @@
 // Unknown names (E11) in items other than procedures.
-ghost use Rattle.std.specs.Prelude.{ℕ, Bool, ◌≡◌, ◌+◌, ◌<◌, ◌^◌, ◌++◌, not, map, length, IfOk};
+ghost use Rattle.std.specs.Prelude.{Bool, ◌≡◌, ◌+◌, ◌<◌, ◌^◌, ◌++◌, not, map, length, IfOk};
 ghost use Rattle.std.specs.List.{list_any};
 ghost use Rattle.civl_tree.specs.rules.Names.{has_name, param_names};
 ghost use Rattle.civl_tree.specs.rules.Codes.{E11};

@@ -1,5 +1,5 @@
 -- Serves private functions: the weights of notes, by their places.
-use Rattle.std.specs.Prelude.{ℕ, ◌≡◌, ◌-◌, Bool, ◌&&◌, nat_eq, nat_lt, if◌then◌else◌, List, ◌∷◌, Option, None, Some, slice_get, ⊤}
+use Rattle.std.specs.Prelude.{ℕ, ◌≡◌, ◌-◌, nat_lt, if◌then◌else◌, List, ◌∷◌, Option, None, Some, slice_get, ⊤}
 use Rattle.std.specs.Option.{option_map, unwrap_or}
 use Rattle.std.specs.List.{find}
 use Rattle.indexmap.specs.IndexMap.{get_by}

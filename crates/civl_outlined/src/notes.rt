@@ -13,7 +13,7 @@ use civl_types::view::View;
 use civl_weighing::exprs::weight_of;
 use civl_weighing::weight::Weight;
 use indexmap::IndexMap;
-use std::alloc::{AllocFailed, Global};
+use std::alloc::Global;
 
 /// How many items stand before the procedures.
 pub(crate) fn first_item(program: &Program) -> usize

@@ -1,5 +1,4 @@
 // Lists of phrases, and optional phrases.
-ghost use Rattle.std.specs.Prelude.{◌≡◌};
 ghost use Rattle.civl_tree.specs.Token.{Sign};
 ghost use Rattle.civl_lex.specs.Spelled.{spelled};
 ghost use Rattle.civl_phrases.specs.Reader.{Gives};

@@ -1,5 +1,5 @@
 // Asking the provers in turn.
-ghost use Rattle.std.specs.Prelude.{◌≡◌, ℕ, List, Bool, IfOk, OnErr};
+ghost use Rattle.std.specs.Prelude.{◌≡◌, List, Bool, IfOk, OnErr};
 ghost use Rattle.civl_cnf.specs.Literal.{Literal};
 ghost use Rattle.civl_rup.specs.Rup.{Refutes, Spends};
 ghost use Rattle.civl_portfolio.specs.Attempt.{MakesTrue};

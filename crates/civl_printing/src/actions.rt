@@ -1,7 +1,6 @@
 // Actions, and what actions and procedures share.
-ghost use Rattle.std.specs.Prelude.{◌≡◌, ◌∷◌, [], ◌++◌, codes, map, OnOk};
-ghost use Rattle.civl_tree.specs.Token.{Reserved, Number};
-ghost use Rattle.civl_tree.specs.Spelling.{arrow, colon, name_token, enclosed, spell_sort, spell_expr};
+ghost use Rattle.std.specs.Prelude.{◌≡◌, ◌∷◌, ◌++◌, OnOk};
+ghost use Rattle.civl_tree.specs.Spelling.{colon, name_token, spell_sort};
 ghost use Rattle.civl_tree.specs.SpellingProgram.{mode_token, mover_token, spell_param, spell_choice, spell_update, spell_action};
 ghost use Rattle.civl_printing.specs.Written.{written, written_token};
 ghost use Rattle.civl_printing.specs.Parts.{signature, choices_of, layers_of, conditions, updates_of};

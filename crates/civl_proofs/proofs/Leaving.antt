@@ -1,15 +1,15 @@
 -- Logs of which clauses are left out: what refutes still refutes with a clause more that has reverse unit propagation there.
-use Rattle.std.proofs.Common.{◌≡◌, ◌⊎◌, inl, inr, ℕ, ◌+◌, ◌-◌, ◌<◌, ◌≤◌, zero, suc, List, [], ◌∷◌, ◌++◌, length, get_or, take, drop, refl, sym, ap, subst, ◌∙◌, arith, append_assoc, length-append, zero-add, Bool}
-use Rattle.std.specs.Prelude.{All, Contains}
+use Rattle.std.proofs.Common.{◌≡◌, inl, inr, ℕ, ◌+◌, ◌-◌, ◌<◌, ◌≤◌, zero, suc, List, [], ◌∷◌, ◌++◌, length, get_or, take, drop, refl, sym, ap, subst, ◌∙◌, arith, append_assoc, length-append, zero-add, Bool}
+use Rattle.std.specs.Prelude.{Contains}
 use Rattle.std.specs.List.{remove}
 use Rattle.std.proofs.lemmas.Bool.{cases_eq}
-use Rattle.std.proofs.lemmas.List.{append-nil, drop_more, take-append-drop, length-take-le, take_all, take-append-le, get_or_append_left, get_or_default}
+use Rattle.std.proofs.lemmas.List.{append-nil, drop_more, take-append-drop, length-take-le, take-append-le, get_or_append_left}
 use Rattle.std.proofs.lemmas.List.Elements.{All-contains, Contains-get_or, Contains-append_left, Contains-append_right, Contains-append_cases}
 use Rattle.civl_cnf.specs.Literal.{Literal}
-use Rattle.civl_cnf.specs.ClauseSet.{ClauseSet, IsBelow}
-use Rattle.civl_units.specs.Propagation.{Fails, IsFalsified, IsClosedAt, IsClosed, HasConflict, GivesConflict}
-use Rattle.civl_rup.specs.Rup.{HasEachOnce, HasRup, HaveRup, Refutes}
-use Rattle.civl_proofs.specs.Lean.{IsLean, IsSublist}
+use Rattle.civl_cnf.specs.ClauseSet.{ClauseSet}
+use Rattle.civl_units.specs.Propagation.{IsFalsified, IsClosedAt, IsClosed, HasConflict}
+use Rattle.civl_rup.specs.Rup.{HasRup, HaveRup, Refutes}
+use Rattle.civl_proofs.specs.Lean.{IsSublist}
 
 abbrev Clauses : Type 0
 Clauses = List (List Literal)

@@ -1,5 +1,5 @@
 // Words of clauses, byte by byte.
-ghost use Rattle.std.specs.Prelude.{◌≡◌, ◌<◌, ◌≤◌, ◌^◌, IfSome};
+ghost use Rattle.std.specs.Prelude.{◌≡◌, ◌<◌, ◌≤◌, IfSome};
 ghost use Rattle.civl_proofs.specs.Text.{is_blank};
 ghost use Rattle.civl_proofs.specs.Reading.{with_digit, begun, typed, ending_of, IsSoundWord};
 

@@ -1,5 +1,5 @@
 // Visits of clauses by their watched literals.
-ghost use Rattle.std.specs.Prelude.{◌≡◌, ◌<◌, ℕ, [], not, length, slice_index_or, IfOk};
+ghost use Rattle.std.specs.Prelude.{◌≡◌, ◌<◌, ℕ, length, IfOk};
 ghost use Rattle.civl_cnf.specs.ClauseSet.{IsBelow, AreBelow};
 ghost use Rattle.civl_units.specs.Propagation.{Holds};
 ghost use Rattle.civl_units.specs.Marks.{marked};

@@ -1,5 +1,5 @@
 // The literals of clauses that are watched.
-ghost use Rattle.std.specs.Prelude.{◌≡◌, ◌≢◌, ◌<◌, ◌++◌, ◌∷◌, [], None, Some, length, replicate, slice_set, slice_index_or, IfOk, OnOk};
+ghost use Rattle.std.specs.Prelude.{◌≡◌, ◌≢◌, ◌<◌, [], None, Some, length, replicate, slice_set, slice_index_or, IfOk, OnOk};
 ghost use Rattle.civl_units.specs.Occurrences.{nowhere, of_sign, with_number};
 ghost use Rattle.civl_propagation.specs.Watches.{watchers, without_number, with_listed, with_unlisted, with_pair, IsPairBelow, IsPairApart, OtherSays, IsRewatched};
 

@@ -1,7 +1,6 @@
 // A prover that tries bits.
-ghost use Rattle.std.specs.Prelude.{◌≡◌, ◌≤◌, ◌⊎◌, ℕ, List, Bool, true, All, IfOk, IfSome, Some, IsTrue};
+ghost use Rattle.std.specs.Prelude.{◌≡◌, ◌≤◌, ◌⊎◌, List, Bool, true, All, IfOk, Some};
 ghost use Rattle.civl_cnf.specs.Literal.{Literal};
-ghost use Rattle.civl_cnf.specs.ClauseSet.{ClauseSet};
 ghost use Rattle.civl_outside.specs.Count.{count_up, Rose};
 ghost use Rattle.civl_portfolio.specs.Attempt.{Stands, MakesTrue};
 ghost use Rattle.civl_provers.specs.Probe.{makes_true, first_true, IsFirstTrue};

@@ -1,6 +1,6 @@
 // The exchange of two moves.
-ghost use Rattle.std.specs.Prelude.{◌≡◌, ◌+◌, ◌<◌, ◌^◌, length, take, IfOk, IfSome, IfNone, ◌⊎◌};
-ghost use Rattle.civl_reduction.specs.Swap.{RunAlike, RunsFailing, exchanged_at, before, one_more, IsSwapped};
+ghost use Rattle.std.specs.Prelude.{◌≡◌, ◌+◌, ◌<◌, ◌^◌, length, take, IfOk, IfSome, IfNone};
+ghost use Rattle.civl_reduction.specs.Swap.{RunAlike, RunsFailing, exchanged_at, before, IsSwapped};
 
 use crate::running::{run_alike, runs_failing};
 use crate::swapped::Swapped;

@@ -1,5 +1,5 @@
 // What is assumed at a cut.
-ghost use Rattle.std.specs.Prelude.{◌≡◌, ◌+◌, ◌*◌, ◌≤◌, ◌&&◌, ◌++◌, Bool, ℕ, Some, IfOk, OnOk, IfSome, length, if◌then◌else◌};
+ghost use Rattle.std.specs.Prelude.{◌≡◌, ◌+◌, ◌*◌, ◌≤◌, ◌&&◌, Some, IfOk, OnOk, IfSome, length, if◌then◌else◌};
 ghost use Rattle.civl_tree.specs.declared.expr.Sort.TheVariants.{Bool as Truth};
 ghost use Rattle.civl_meaning.specs.Permissions.{pairwise_disjoint};
 ghost use Rattle.civl_terms.specs.Graphs.{sort_at};

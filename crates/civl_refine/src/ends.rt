@@ -1,5 +1,5 @@
 // What a part of the condition on paths comes to at each end.
-ghost use Rattle.std.specs.Prelude.{◌≡◌, ◌+◌, ◌*◌, ◌≤◌, ◌&&◌, not, true, Bool, ℕ, Some, IfOk, OnOk, option_copied, map, slice_get, if◌then◌else◌};
+ghost use Rattle.std.specs.Prelude.{◌≡◌, ◌+◌, ◌*◌, ◌≤◌, not, true, Some, IfOk, OnOk, option_copied, map, slice_get};
 ghost use Rattle.civl_tree.specs.declared.stmt.Stmt.{out-Stmt};
 ghost use Rattle.civl_tree.specs.Numbering.{statements_of};
 ghost use Rattle.civl_layers.specs.Cuts.{proc_cuts};
@@ -7,7 +7,7 @@ ghost use Rattle.civl_terms.specs.Building.{Grows};
 ghost use Rattle.civl_terms.specs.Weights.{graph_weight};
 ghost use Rattle.std.specs.Option.{option_map_or};
 ghost use Rattle.civl_conditions.specs.paths.Ends.{is_rank_loop};
-ghost use Rattle.civl_conditions.specs.declared.condition.Part.TheVariants.{Gate, Invariant, Once, Stutter, Perform, Rank};
+ghost use Rattle.civl_conditions.specs.declared.condition.Part.TheVariants.{Invariant, Once, Stutter, Perform, Rank};
 ghost use Rattle.civl_conditions.specs.Assumed.{layer_rank, cut_rank};
 ghost use Rattle.civl_conditions.specs.Weights.{part_weight};
 ghost use Rattle.civl_states.specs.Beginnings.{CanBegin};

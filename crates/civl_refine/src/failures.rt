@@ -1,11 +1,11 @@
 // When a part of the condition on paths fails.
-ghost use Rattle.std.specs.Prelude.{◌≡◌, ◌+◌, ◌*◌, ◌≤◌, ◌&&◌, not, Bool, ℕ, Some, All, IfOk, OnOk, map, if◌then◌else◌};
+ghost use Rattle.std.specs.Prelude.{◌≡◌, ◌+◌, ◌*◌, ◌≤◌, ◌&&◌, not, Bool, Some, All, IfOk, OnOk, map, if◌then◌else◌};
 ghost use Rattle.civl_tree.specs.declared.expr.Sort.TheVariants.{Bool as Truth};
 ghost use Rattle.civl_tree.specs.Numbering.{statements_of};
 ghost use Rattle.civl_terms.specs.Graphs.{sort_at};
 ghost use Rattle.civl_terms.specs.Building.{Grows};
 ghost use Rattle.civl_terms.specs.Weights.{graph_weight};
-ghost use Rattle.civl_conditions.specs.paths.Paths.{Outcome, progress_of, has_failed};
+ghost use Rattle.civl_conditions.specs.paths.Paths.{Outcome};
 ghost use Rattle.civl_conditions.specs.paths.Ends.{is_rank_loop};
 ghost use Rattle.civl_conditions.specs.Assumed as says;
 ghost use Rattle.civl_conditions.specs.Parts.{part_fails};

@@ -1,5 +1,5 @@
 // The invariants of a step, and that of a cut.
-ghost use Rattle.std.specs.Prelude.{◌≡◌, ◌+◌, ◌*◌, ◌≤◌, ◌&&◌, Bool, ℕ, Some, IfOk, OnOk, IfSome, option_copied, map, slice_get, if◌then◌else◌, nat_eq};
+ghost use Rattle.std.specs.Prelude.{◌≡◌, ◌+◌, ◌*◌, ◌≤◌, ◌&&◌, Bool, Some, IfOk, OnOk, IfSome, option_copied, map, if◌then◌else◌, nat_eq};
 ghost use Rattle.civl_tree.specs.declared.expr.Sort.TheVariants.{Bool as Truth};
 ghost use Rattle.civl_tree.specs.declared.expr.Expr.{Expr};
 ghost use Rattle.civl_tree.specs.Numbering.{statements_of};
@@ -13,7 +13,7 @@ ghost use Rattle.civl_terms.specs.Graphs.{sort_at};
 ghost use Rattle.civl_terms.specs.Building.{Grows};
 ghost use Rattle.civl_terms.specs.Weights.{graph_weight};
 ghost use Rattle.civl_actions.specs.Scopes.{IsTyped};
-ghost use Rattle.civl_conditions.specs.Invariants.{invariants_hold, holds_in};
+ghost use Rattle.civl_conditions.specs.Invariants.{invariants_hold};
 ghost use Rattle.civl_conditions.specs.Steps.{step_invariants};
 ghost use Rattle.civl_conditions.specs.Assumed.{layer_invariant, cut_invariant, note_holds};
 ghost use Rattle.civl_conditions.specs.Weights.{global_weight, note_weight, weights_of, maybe_weight};

@@ -1,5 +1,5 @@
 // The permissions that are owned at a cut.
-ghost use Rattle.std.specs.Prelude.{◌≡◌, ◌+◌, ◌*◌, ◌≤◌, ◌<◌, ◌^◌, ◌++◌, All, List, ℕ, length, map, get_or, slice_get, Some, IfOk, OnOk};
+ghost use Rattle.std.specs.Prelude.{◌≡◌, ◌+◌, ◌*◌, ◌≤◌, ◌<◌, ◌^◌, ◌++◌, All, List, length, map, get_or, Some, IfOk, OnOk};
 ghost use Rattle.civl_bits.specs.declared.value.Value.{Value};
 ghost use Rattle.civl_tree.specs.declared.expr.Sort.TheVariants.{Bool as Truth, Word};
 ghost use Rattle.civl_tree.specs.rules.Rules.{Keeps};

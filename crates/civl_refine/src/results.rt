@@ -1,9 +1,8 @@
 // Whether what a block comes to is the same as something else: the globals of the upper program, and the outputs.
-ghost use Rattle.std.specs.Prelude.{◌≡◌, ◌+◌, ◌*◌, ◌≤◌, ◌&&◌, ◌||◌, not, Bool, ℕ, List, length, Some, IfOk, OnOk};
+ghost use Rattle.std.specs.Prelude.{◌≡◌, ◌+◌, ◌*◌, ◌≤◌, ◌&&◌, ◌||◌, not, Bool, List, Some, IfOk, OnOk};
 ghost use Rattle.civl_bits.specs.declared.value.Value.{Value};
 ghost use Rattle.civl_tree.specs.declared.expr.Sort.TheVariants.{Bool as Truth};
 ghost use Rattle.civl_tree.specs.rules.Uses.{param_sorts};
-ghost use Rattle.civl_firing.specs.declared.store.Store.{Store};
 ghost use Rattle.civl_meaning.specs.Config.{frame_sorts};
 ghost use Rattle.civl_meaning.specs.Change.{outs_in};
 ghost use Rattle.civl_terms.specs.Graphs.{sort_at};
@@ -16,8 +15,7 @@ ghost use Rattle.civl_conditions.specs.Values.{Begun, same_bool, same_values, sa
 ghost use Rattle.civl_conditions.specs.Weights.{result_bits};
 ghost use Rattle.civl_states.specs.formula_parts.Said.{Env, IsTest};
 ghost use Rattle.civl_states.specs.formula_parts.Lists.{AreSaid};
-ghost use Rattle.civl_states.specs.Stores.{AreGlobals, AreStore};
-ghost use Rattle.civl_states.specs.Same.{layer_sorts, same_weight};
+ghost use Rattle.civl_states.specs.Same.{same_weight};
 ghost use Rattle.civl_states.specs.Beginnings.{AreBegun, CanBegin};
 ghost use Rattle.civl_body.specs.Walks.{CanEnd};
 ghost use Rattle.civl_refine.specs.Assuming.{IsStart};

@@ -1,12 +1,12 @@
 // A part of the condition on paths over all ways.
-ghost use Rattle.std.specs.Prelude.{◌≡◌, ◌+◌, ◌*◌, ◌≤◌, ◌&&◌, ◌||◌, not, Bool, ℕ, Some, All, IfOk, OnOk, map};
+ghost use Rattle.std.specs.Prelude.{◌≡◌, ◌+◌, ◌*◌, ◌≤◌, ◌&&◌, ◌||◌, not, Bool, Some, All, IfOk, OnOk, map};
 ghost use Rattle.std.specs.List.{list_all};
 ghost use Rattle.civl_tree.specs.declared.expr.Sort.TheVariants.{Bool as Truth};
 ghost use Rattle.civl_tree.specs.Numbering.{statements_of};
 ghost use Rattle.civl_terms.specs.Graphs.{sort_at};
 ghost use Rattle.civl_terms.specs.Building.{Grows};
 ghost use Rattle.civl_terms.specs.Weights.{graph_weight};
-ghost use Rattle.civl_conditions.specs.paths.Paths.{Outcome, progress_of};
+ghost use Rattle.civl_conditions.specs.paths.Paths.{Outcome};
 ghost use Rattle.civl_conditions.specs.Values.{Begun};
 ghost use Rattle.civl_conditions.specs.Weights.{part_weight, summed};
 ghost use Rattle.civl_states.specs.formula_parts.Said.{Env, IsTest};

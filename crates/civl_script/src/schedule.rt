@@ -1,5 +1,5 @@
 // The store and the moves of a script.
-ghost use Rattle.std.specs.Prelude.{◌≡◌, ◌+◌, ◌<◌, ◌^◌, length, None, IfSome, IfOk};
+ghost use Rattle.std.specs.Prelude.{◌≡◌, ◌+◌, ◌<◌, None, IfSome, IfOk};
 ghost use Rattle.civl_bits.specs.declared.value.Value.{Value as Of};
 ghost use Rattle.civl_firing.specs.values.Values.{is_of};
 ghost use Rattle.civl_script.specs.Schedules.{IsEntryOf, IsStoreFound, AreValuesFound, AreMovesFound, IsSchedule};

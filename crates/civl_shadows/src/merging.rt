@@ -1,5 +1,5 @@
 // The store with the shadow's values.
-ghost use Rattle.std.specs.Prelude.{◌≡◌, ◌+◌, ◌<◌, ◌^◌, IfOk, length, drop};
+ghost use Rattle.std.specs.Prelude.{◌≡◌, ◌+◌, ◌<◌, ◌^◌, IfOk, drop};
 ghost use Rattle.civl_reduction.specs.blocks.Shadow.{merged_values};
 ghost use Rattle.civl_shadows.specs.Merging.{picked};
 

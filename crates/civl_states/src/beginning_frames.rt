@@ -1,25 +1,21 @@
 // The terms of the globals, of a frame and of `done` at the beginning of a path.
-ghost use Rattle.std.specs.Prelude.{◌≡◌, ◌+◌, ◌≤◌, ◌<◌, ◌^◌, ◌∷◌, [], not, length, map, drop, take, All, IsTrue, IfOk, OnOk, if◌then◌else◌, List};
-ghost use Rattle.civl_bits.specs.declared.value.Value.{Value};
+ghost use Rattle.std.specs.Prelude.{◌≡◌, ◌+◌, ◌≤◌, ◌<◌, ◌^◌, ◌∷◌, [], not, length, map, All, IsTrue, IfOk, OnOk, if◌then◌else◌};
 ghost use Rattle.civl_tree.specs.declared.expr.Sort.TheVariants.{Bool as Truth};
 ghost use Rattle.civl_tree.specs.rules.Rules.{Keeps};
 ghost use Rattle.civl_tree.specs.rules.Typing.{typing_rules};
 ghost use Rattle.civl_tree.specs.rules.Uses.{param_sorts};
 ghost use Rattle.civl_firing.specs.values.Values.{is_sort, is_true, zero_of};
 ghost use Rattle.civl_meaning.specs.Config.{frame_sorts};
-ghost use Rattle.civl_meaning.specs.Change.{outs_in};
-ghost use Rattle.civl_terms.specs.Graphs.{sort_at};
 ghost use Rattle.civl_terms.specs.Building.{Grows, Lengthens};
 ghost use Rattle.civl_terms.specs.Weights.{graph_weight};
 ghost use Rattle.civl_conditions.specs.paths.Ends.{is_entry, is_rank_loop};
-ghost use Rattle.civl_states.specs.formula_parts.Said.{Env, IsTest};
+ghost use Rattle.civl_states.specs.formula_parts.Said.{IsTest};
 ghost use Rattle.civl_states.specs.formula_parts.Lists.{AreSaid};
-ghost use Rattle.civl_states.specs.formula_parts.Given.{given, bits_of_sorts, AreVariablesOf};
+ghost use Rattle.civl_states.specs.formula_parts.Given.{bits_of_sorts, AreVariablesOf};
 ghost use Rattle.civl_states.specs.Stores.{AreStore};
 ghost use Rattle.civl_states.specs.declared.stores.Existing.TheVariants.{Near};
 ghost use Rattle.civl_states.specs.Existing.{existing_sorts};
 ghost use Rattle.civl_states.specs.Groups.{StandFrom};
-ghost use Rattle.civl_states.specs.Notes.{IsProcIn};
 ghost use Rattle.civl_states.specs.Laying.{sorts_where, inner_sorts, near_store, inner_values, begun_locals, begun_outs, begun_done, begun_old_done, frame_bits, FrameBegins};
 
 use crate::beginning_places::Places;

@@ -1,5 +1,5 @@
 // The terms of notes: of invariants, ranks, and the values behind `with` and in intros.
-ghost use Rattle.std.specs.Prelude.{◌≡◌, ◌+◌, ◌≤◌, ◌++◌, length, take, drop, map, Some, slice_get, IfOk, OnOk};
+ghost use Rattle.std.specs.Prelude.{◌≡◌, ◌+◌, ◌≤◌, ◌++◌, length, take, drop, IfOk, OnOk};
 ghost use Rattle.civl_tree.specs.rules.Rules.{Keeps};
 ghost use Rattle.civl_tree.specs.rules.Typing.{typing_rules};
 ghost use Rattle.civl_tree.specs.rules.Sorts.{sort_of};
@@ -8,7 +8,7 @@ ghost use Rattle.civl_tree.specs.rules.Scopes.{global_scope, note_scope};
 ghost use Rattle.civl_terms.specs.Graphs.{sort_at};
 ghost use Rattle.civl_terms.specs.Building.{Grows};
 ghost use Rattle.civl_terms.specs.Weights.{graph_weight};
-ghost use Rattle.civl_actions.specs.Scopes.{AreOf, IsTyped};
+ghost use Rattle.civl_actions.specs.Scopes.{IsTyped};
 ghost use Rattle.civl_firing.specs.Names.{names_of};
 ghost use Rattle.civl_conditions.specs.paths.NoteValues.{note_names};
 ghost use Rattle.civl_conditions.specs.Weights.{global_weight, note_weight};

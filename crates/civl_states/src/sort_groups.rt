@@ -1,5 +1,5 @@
 //! The sorts of one kind of variables: of globals, parameters, choices and locals.
-ghost use Rattle.std.specs.Prelude.{◌≡◌, ◌++◌, ◌∷◌, [], filter, map, OnOk};
+ghost use Rattle.std.specs.Prelude.{◌≡◌, ◌++◌, [], filter, map, OnOk};
 ghost use Rattle.civl_tree.specs.rules.Uses.{param_sorts};
 ghost use Rattle.civl_conditions.specs.Steps.{of_action};
 ghost use Rattle.civl_states.specs.Existing.{passes, existing_sorts};

@@ -1,9 +1,7 @@
 // Constants and variables.
-ghost use Rattle.std.specs.Prelude.{◌≡◌, ◌≤◌, ◌<◌, ◌+◌, ◌^◌, ℕ, Bool, length, Some, IsTrue, IfOk};
+ghost use Rattle.std.specs.Prelude.{◌≤◌, ◌<◌, ◌+◌, ◌^◌, Bool, IsTrue, IfOk};
 ghost use Rattle.civl_tree.specs.rules.StoreSize.{bits_of};
 ghost use Rattle.civl_firing.specs.values.Values.{is_sort};
-ghost use Rattle.civl_bits.specs.Value.{IsValue};
-ghost use Rattle.civl_cnf.specs.Literal.{truth_of};
 ghost use Rattle.civl_symbolic.specs.Symbolic.{IsConstant, IsVariable, is_flat, is_flat_value};
 
 use crate::{Lits, Symbolic};

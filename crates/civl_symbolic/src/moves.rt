@@ -1,8 +1,8 @@
 // Operations that only move bits.
-ghost use Rattle.std.specs.Prelude.{◌≡◌, ◌≤◌, ◌*◌, ◌^◌, Some, IsSome, IfOk, ℕ, Bool, IsTrue};
+ghost use Rattle.std.specs.Prelude.{Some, IsSome, IfOk, Bool};
 ghost use Rattle.civl_tree.specs.rules.Sorts.{slice_sort, widen_sort, join_sort};
 ghost use Rattle.civl_firing.specs.values.Operators.{slice_value, widen_value, join_value};
-ghost use Rattle.civl_cnf.specs.Literal.{Literal, truth_of};
+ghost use Rattle.civl_cnf.specs.Literal.{Literal};
 ghost use Rattle.civl_symbolic.specs.Symbolic.{value_under, sort_of, Moves};
 
 use crate::{Lits, Symbolic};

@@ -1,5 +1,5 @@
 // Operations with one operand.
-ghost use Rattle.std.specs.Prelude.{◌≡◌, ◌≤◌, ◌*◌, ◌^◌, length, Some, IsSome, IsTrue, IfOk};
+ghost use Rattle.std.specs.Prelude.{◌≤◌, ◌*◌, ◌^◌, length, Some, IsSome, IsTrue, IfOk};
 ghost use Rattle.civl_bits.specs.declared.value.Value.TheVariants as value;
 ghost use Rattle.civl_tree.specs.declared.expr.Sort.TheVariants as sort;
 ghost use Rattle.civl_tree.specs.rules.Sorts.{one_sort};

@@ -8,9 +8,7 @@ ghost use Rattle.civl_tree.specs.declared.expr.Expr.{Expr as OfExpr};
 ghost use Rattle.civl_tree.specs.declared.expr.One.TheVariants.{Not};
 ghost use Rattle.civl_trial.specs.Phrases.{Makes};
 
-use civl_tree::{
-    Boxed, Expr, List, Local, Memory, Mode, Name, One, Param, Sort, Two, Update, both,
-};
+use civl_tree::{Boxed, Expr, List, Local, Memory, Mode, Name, One, Param, Sort, Two, both};
 use itoa::Buffer;
 use std::alloc::Global as Alloc;
 

@@ -1,12 +1,11 @@
 // Numbers of arguments, results and updates (E23), and the sorts of results (a part of E21).
-ghost use Rattle.std.specs.Prelude.{◌≡◌, ◌||◌, map, length, not, nat_eq, option_copied};
+ghost use Rattle.std.specs.Prelude.{◌≡◌, ◌||◌, map, not, option_copied};
 ghost use Rattle.std.specs.List.{list_any};
 ghost use Rattle.civl_tree.specs.rules.Names.{has_name, param_names, targets_of, action_named, callee_signature};
-ghost use Rattle.civl_tree.specs.rules.Arity.{differs_in_length, action_arity, with_arity, refines_arity, call_arity, thread_arity, stmt_arity};
+ghost use Rattle.civl_tree.specs.rules.Arity.{action_arity, with_arity, refines_arity, call_arity, thread_arity, stmt_arity};
 ghost use Rattle.civl_tree.specs.rules.Sorted.{results_missorted, form_missorted, stmt_missorted};
 ghost use Rattle.civl_tree.specs.rules.Uses.{given_sorts, param_sorts, serves, place_sort, Only as OnlySort};
 ghost use Rattle.civl_tree.specs.declared.stmt.Stmt.{out-Stmt};
-ghost use Rattle.civl_types.specs.Rules.{any_use};
 ghost use Rattle.civl_types.specs.Views.{signature_of};
 
 use crate::names::{Signature, action_named, callee_signature, proc_named, same_name};

@@ -1,8 +1,8 @@
 // Counts (E12) and the size of a store (E24). Sums are counted up to one past their limit.
-ghost use Rattle.std.specs.Prelude.{◌≡◌, ◌+◌, ◌*◌, ◌^◌, ◌≤◌, ℕ, min, take, map, sum, length, nat_lt};
+ghost use Rattle.std.specs.Prelude.{◌≡◌, ◌+◌, ◌*◌, ◌^◌, ◌≤◌, ℕ, min, map, sum, length, nat_lt};
 ghost use Rattle.civl_tree.specs.declared.stmt.Stmt.TheFolds.{fold-Stmt};
-ghost use Rattle.civl_tree.specs.rules.Count.{layer_limit, permission_limit, name_limit, cut_limit, action_limit, proc_limit, is_within, header_count, passes_limit, first_over, action_count, cut_step, cuts_in, cuts_of, cuts_before, proc_count};
-ghost use Rattle.civl_tree.specs.rules.StoreSize.{store_limit, bits_of, bits_before, global_store_size};
+ghost use Rattle.civl_tree.specs.rules.Count.{name_limit, cut_limit, is_within, header_count, passes_limit, first_over, action_count, cut_step, cuts_in, cuts_of, cuts_before, proc_count};
+ghost use Rattle.civl_tree.specs.rules.StoreSize.{bits_of, global_store_size};
 
 use crate::exprs::power;
 use civl_tree::{Action, Global, List, Proc, Program, Sort, Stmt};

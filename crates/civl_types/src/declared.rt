@@ -1,5 +1,5 @@
 // The sorts of declared names: their widths (E20) and indices (E22).
-ghost use Rattle.std.specs.Prelude.{◌≡◌, ◌++◌, ◌^◌};
+ghost use Rattle.std.specs.Prelude.{◌≡◌, ◌^◌};
 ghost use Rattle.std.specs.List.{list_any};
 ghost use Rattle.civl_tree.specs.declared.expr.Sort.TheVariants.{Word as WordOf};
 ghost use Rattle.civl_tree.specs.rules.Sorts.{same_sort};

@@ -1,5 +1,4 @@
 // Whether a part of a program breaks a rule.
-ghost use Rattle.std.specs.Prelude.{◌≡◌};
 ghost use Rattle.civl_types.specs.Rules.{rule_of, stmt_breaks};
 
 use crate::arity::{action_arity, refines_arity, stmt_arity, stmt_missorted, thread_arity};

@@ -1,5 +1,5 @@
 //! The sort of an expression, and of each operation whose operands have given sorts; none, where a rule on sorts is broken.
-ghost use Rattle.std.specs.Prelude.{◌≡◌, ◌^◌, ◌≤◌};
+ghost use Rattle.std.specs.Prelude.{◌≡◌};
 ghost use Rattle.civl_tree.specs.rules.Sorts.{same_sort, is_truth, is_word, word_sort, common_sort, words_sort, truth_over, truths_sort, slice_fits, widen_fits, join_fits, one_sort, two_sort, pick_sort, get_sort, set_sort, fill_sort, slice_sort, widen_sort, join_sort, joined_sort, sort_of};
 ghost use Rattle.civl_types.specs.Views.{scope_of};
 

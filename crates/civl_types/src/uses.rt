@@ -1,7 +1,7 @@
 // The expressions of a program at their places.
-ghost use Rattle.std.specs.Prelude.{◌≡◌, ◌∷◌, [], ◌++◌, ◌||◌, map, slice_get, Some, option_copied};
-ghost use Rattle.civl_tree.specs.rules.Scopes.{gate_scope, guard_scope, note_scope};
-ghost use Rattle.civl_tree.specs.rules.Uses.{serves, is_any_word, need_of, truth_use, target_use, argument_uses, action_uses, with_uses, stmt_uses, thread_uses, update_sort, init_uses, invariant_uses};
+ghost use Rattle.std.specs.Prelude.{◌≡◌, [], ◌||◌, map, slice_get, Some, option_copied};
+ghost use Rattle.civl_tree.specs.rules.Scopes.{guard_scope};
+ghost use Rattle.civl_tree.specs.rules.Uses.{serves, need_of, truth_use, target_use, argument_uses, action_uses, with_uses, stmt_uses, thread_uses, update_sort, init_uses, invariant_uses};
 ghost use Rattle.civl_types.specs.Rules.{need_for, sorts_at, use_breaks, any_use};
 ghost use Rattle.civl_types.specs.Views.{scope_of, signature_of};
 ghost use Rattle.civl_tree.specs.rules.Uses.{taken_sorts, chosen_sorts};
@@ -13,7 +13,7 @@ use crate::rule::TypingRule;
 use crate::sorts::{same_sort, sort_of};
 use crate::view::{View, global_sort, outer_sort, place_sort};
 use civl_tree::{
-    Action, Choice, Expr, Invariant, Param, Proc, Program, Refines, Sort, Stmt, Thread, Update,
+    Action, Choice, Expr, Invariant, Param, Proc, Program, Sort, Stmt, Thread, Update,
 };
 
 /// What the place of an expression needs: any sort, a word, or this sort.

@@ -1,5 +1,5 @@
 -- Sums and products of numbers as far as the limit tells them apart.
-use Rattle.std.proofs.Common.{◌≡◌, ℕ, zero, suc, ◌+◌, ◌*◌, ◌<◌, ◌≤◌, ◌-◌, ◌/◌, nat_lt, ap, sym, ◌∙◌, arith, rules, refl, ⊎_elim, inl, inr}
+use Rattle.std.proofs.Common.{◌≡◌, ℕ, zero, suc, ◌+◌, ◌*◌, ◌<◌, ◌≤◌, ◌-◌, ◌/◌, nat_lt, ap, sym, ◌∙◌, arith, rules, refl, ⊎_elim}
 use Rattle.std.specs.Prelude.{Bool, if◌then◌else◌}
 use Rattle.std.proofs.Math.Nat.{le-mul_of_pos_right, mul-le-mul, mul_comm}
 use Rattle.std.proofs.lemmas.Bool.{cases_lt}

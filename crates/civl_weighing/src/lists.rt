@@ -1,5 +1,4 @@
 // Lists of weights.
-ghost use Rattle.std.specs.Prelude.{◌++◌, ◌∷◌, []};
 ghost use Rattle.civl_weighing.specs.Weighing.{IsAt, IsTotal, AreSummed};
 
 use crate::weight::Weight;

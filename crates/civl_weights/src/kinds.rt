@@ -7,7 +7,7 @@ ghost use Rattle.civl_conditions.specs.Steps.{of_action};
 ghost use Rattle.civl_conditions.specs.Weights.{weight, outs_bits, keep_weight, pair_weight, linear_globals, target_items};
 ghost use Rattle.civl_weighing.specs.Weighing.{Weighs};
 ghost use Rattle.civl_weights.specs.sums.Sums.{OfAction, OfStep};
-ghost use Rattle.civl_weights.specs.sums.Tables.{OfProgram, OfTarget};
+ghost use Rattle.civl_weights.specs.sums.Tables.{OfProgram};
 ghost use Rattle.civl_weights.specs.Kinds.{instance_bits, OfCutFound, IsKeep, IsPair, IsAct, IsActAt, IsPart, IsPath, IsBlock, step_of};
 
 use crate::sums::actions::ActionSums;

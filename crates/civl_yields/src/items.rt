@@ -1,5 +1,4 @@
 // Stray `done` and `old`, part by part (E53).
-ghost use Rattle.std.specs.Prelude.{◌≡◌};
 ghost use Rattle.civl_yields.specs.YieldRules.{done_rule};
 
 use crate::finders::is_layered;

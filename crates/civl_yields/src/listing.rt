@@ -1,6 +1,5 @@
 // The phases before the calls of each procedure.
 ghost use Rattle.std.specs.Prelude.{◌≡◌, map, IfOk, List};
-ghost use Rattle.civl_tree.specs.Numbering.{statements_of};
 ghost use Rattle.civl_yields.specs.Phases.{before_calls, phases_of};
 
 use crate::marking::phases_before;

@@ -1,5 +1,5 @@
 // Nodes without rows: the calls of a graph, with what is reached of what they answer.
-ghost use Rattle.std.specs.Prelude.{◌≡◌, ℕ, ◌<◌, List, length, IfOk, Some, IsTrue};
+ghost use Rattle.std.specs.Prelude.{◌<◌, length, IfOk, Some, IsTrue};
 ghost use Rattle.civl_tree.specs.rules.Sorts.{one_sort, two_sort, pick_sort, slice_sort, widen_sort, join_sort};
 ghost use Rattle.civl_firing.specs.values.Operators.{one_value, two_value, pick_value, slice_value, widen_value, join_value};
 ghost use Rattle.civl_firing.specs.values.Values.{sort_of_value};
@@ -7,7 +7,7 @@ ghost use Rattle.civl_firing.specs.values.Weights.{bits_in, one_weight, two_weig
 ghost use Rattle.civl_terms.specs.Graphs.{sort_at, value_at};
 ghost use Rattle.civl_terms.specs.Building.{Grows};
 ghost use Rattle.civl_blast.specs.reach.Reaching.{is_plain};
-ghost use Rattle.civl_blast.specs.rows.Making.{Has, MakesOne, UsesNone, UsesOne, UsesTwo, UsesThree};
+ghost use Rattle.civl_blast.specs.rows.Making.{MakesOne, UsesNone, UsesOne, UsesTwo, UsesThree};
 
 use crate::rows::memory::Memory;
 use civl_bits::Value;

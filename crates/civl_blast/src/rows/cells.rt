@@ -1,21 +1,20 @@
 // The cells of rows, by the operation that makes the row.
-ghost use Rattle.std.specs.Prelude.{◌≡◌, ℕ, ◌+◌, ◌*◌, ◌/◌, ◌-◌, ◌^◌, ◌<◌, ◌≤◌, List, [], ◌∷◌, length, replicate, slice_index, IfOk, Some, IsTrue};
-ghost use Rattle.civl_bits.specs.Word.{IsWord};
-ghost use Rattle.civl_bits.specs.Row.{IsRow, cell_at};
+ghost use Rattle.std.specs.Prelude.{◌≡◌, ◌*◌, ◌/◌, ◌-◌, ◌^◌, ◌<◌, ◌≤◌, List, [], ◌∷◌, length, replicate, slice_index, IfOk, Some, IsTrue};
+ghost use Rattle.civl_bits.specs.Row.{cell_at};
 ghost use Rattle.civl_bits.specs.declared.value.Value.TheVariants as value;
 ghost use Rattle.civl_tree.specs.declared.expr.Sort.TheVariants as sort;
-ghost use Rattle.civl_firing.specs.values.Operators.{two_value, pick_value};
+ghost use Rattle.civl_firing.specs.values.Operators.{pick_value};
 ghost use Rattle.civl_firing.specs.values.Weights.{bits_in};
 ghost use Rattle.civl_terms.specs.Graphs.{sort_at, value_at};
 ghost use Rattle.civl_terms.specs.Building.{Grows};
 ghost use Rattle.civl_blast.specs.reach.Reaching.{is_plain};
-ghost use Rattle.civl_blast.specs.rows.Making.{HaveSort, Makes, MakesOne, UsesNone, UsesOne, UsesThree, UsesPicks, UsesPairs, UsesWrite, UsesRead, joined, bit_value, written};
+ghost use Rattle.civl_blast.specs.rows.Making.{HaveSort, Makes, UsesNone, UsesPicks};
 
-use crate::rows::building::{constant, pick, slice, two};
+use crate::rows::building::{constant, pick};
 use crate::rows::memory::Memory;
 use civl_bits::{Row, Value, Word};
 use civl_terms::{Id, Terms};
-use civl_tree::{List, Two};
+use civl_tree::List;
 use std::alloc::Global;
 
 /// One node alone.

@@ -1,5 +1,5 @@
 //! Laws of the definitions. Each function computes nothing; its clauses are theorems.
-ghost use Rattle.std.specs.Prelude.{◌≡◌, ℕ, true, Some, IsTrue};
+ghost use Rattle.std.specs.Prelude.{◌≡◌, ℕ, true, Some};
 ghost use Rattle.civl_bits.specs.declared.value.Value.{Value};
 ghost use Rattle.civl_bits.specs.declared.value.Value.TheVariants as value;
 ghost use Rattle.civl_tree.specs.declared.expr.Sort.TheVariants as sort;

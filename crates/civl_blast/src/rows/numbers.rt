@@ -1,6 +1,5 @@
 // The numbers of variables.
 ghost use Rattle.std.specs.Prelude.{◌≡◌, ℕ, ◌≤◌, ◌^◌, Some, slice_get};
-ghost use Rattle.civl_tree.specs.declared.expr.Sort.{Sort};
 ghost use Rattle.civl_terms.specs.declared.node.Node.{Node};
 ghost use Rattle.civl_terms.specs.declared.node.Node.TheVariants as node;
 ghost use Rattle.civl_blast.specs.rows.Cells.{next_number, number_above};

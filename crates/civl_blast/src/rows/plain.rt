@@ -1,5 +1,5 @@
 // The only cell of a node that is a bool or a word.
-ghost use Rattle.std.specs.Prelude.{◌≡◌, ◌<◌, ℕ, List, [], ◌∷◌, false, length, slice_get, slice_index, IfOk, Some, IsTrue};
+ghost use Rattle.std.specs.Prelude.{◌≡◌, ◌<◌, List, false, length, slice_index, IfOk};
 ghost use Rattle.civl_bits.specs.declared.value.Value.TheVariants as value;
 ghost use Rattle.civl_terms.specs.declared.node.Node.TheVariants as node;
 ghost use Rattle.civl_terms.specs.Building.{Grows};

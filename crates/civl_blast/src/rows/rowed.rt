@@ -1,5 +1,5 @@
 // The cells of rows, and of what is read from them.
-ghost use Rattle.std.specs.Prelude.{◌≡◌, ◌<◌, ℕ, List, [], ◌∷◌, length, slice_get, slice_index, IfOk, Some, IsTrue};
+ghost use Rattle.std.specs.Prelude.{◌≡◌, ◌<◌, ℕ, List, length, IfOk};
 ghost use Rattle.civl_bits.specs.declared.value.Value.TheVariants as value;
 ghost use Rattle.civl_terms.specs.declared.node.Node.TheVariants as node;
 ghost use Rattle.civl_terms.specs.Graphs.{sort_at};

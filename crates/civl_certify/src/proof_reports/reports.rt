@@ -1,5 +1,5 @@
 // The reports.
-ghost use Rattle.std.specs.Prelude.{◌≡◌, ◌++◌, codes, decimal, OnOk, IfOk};
+ghost use Rattle.std.specs.Prelude.{◌≡◌, ◌++◌, decimal, OnOk, IfOk};
 ghost use Rattle.civl_verdicts.specs.reports.Lines.{line};
 ghost use Rattle.civl_certify.specs.proof_reports.Reports.{beyond_text, certificate_text, fails_text, open_text, shown_text, making_text, replaying_text};
 

@@ -1,5 +1,5 @@
 // Zeros, and the sorts of values.
-ghost use Rattle.std.specs.Prelude.{◌≡◌, ◌<◌, ◌^◌};
+ghost use Rattle.std.specs.Prelude.{◌≡◌, ◌<◌};
 ghost use Rattle.civl_tree.specs.rules.Exprs.{is_width};
 ghost use Rattle.civl_bits.specs.Value.{IsValue};
 ghost use Rattle.civl_firing.specs.values.Values.{zero_of, is_of, is_true, sort_of_value};

@@ -1,5 +1,5 @@
 // K1: initial stores meet the invariants.
-ghost use Rattle.std.specs.Prelude.{◌≡◌, ◌+◌, ◌*◌, ◌≤◌, IfOk, OnOk, Some, not, slice_get, option_copied};
+ghost use Rattle.std.specs.Prelude.{◌≡◌, ◌+◌, ◌*◌, ◌≤◌, IfOk, OnOk, Some, not, option_copied};
 ghost use Rattle.civl_tree.specs.rules.Scopes.{global_scope};
 ghost use Rattle.civl_tree.specs.declared.expr.Sort.TheVariants.{Bool as Truth};
 ghost use Rattle.civl_tree.specs.rules.Rules.{Keeps};
@@ -13,7 +13,7 @@ ghost use Rattle.civl_conditions.specs.Invariants.{holds_of_globals, invariant_a
 ghost use Rattle.civl_conditions.specs.Weights.{initial_own, global_weight, maybe_weight, weight};
 ghost use Rattle.civl_states.specs.formula_parts.Said.{Env, IsTest};
 ghost use Rattle.civl_states.specs.formula_parts.Given.{AreVariablesOf};
-ghost use Rattle.civl_states.specs.Stores.{AreGlobals, AreStore, global_sorts};
+ghost use Rattle.civl_states.specs.Stores.{AreGlobals, AreStore};
 ghost use Rattle.civl_states.specs.Formulas.{sorts_of, IsViolation};
 ghost use Rattle.civl_states.specs.Notes.{HasType};
 

@@ -1,11 +1,11 @@
 // The first place at which a rule is broken, found without memory.
 ghost use Rattle.std.specs.Prelude.{◌≡◌, ◌≤◌, ◌<◌, ◌^◌, length};
-ghost use Rattle.civl_tree.specs.Numbering.{statements_of, header_item, init_item};
+ghost use Rattle.civl_tree.specs.Numbering.{statements_of};
 ghost use Rattle.civl_tree.specs.Numbered.{IsNumbered};
 ghost use Rattle.civl_tree.specs.rules.Codes.{number_of};
 ghost use Rattle.civl_tree.specs.rules.Rules.{Rule, refusals_of, first_of};
 
-use crate::walks::item::{Item, first_item, item_refusal};
+use crate::walks::item::{first_item, item_refusal};
 use civl_tree::{Action, Global, Invariant, Proc, Program, Refusal, Thread};
 
 /// A rule whose parts are judged without memory. Each item is handed on with its place among those of its kind.

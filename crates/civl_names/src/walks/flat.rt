@@ -1,5 +1,5 @@
 // The statements of a body as a list.
-ghost use Rattle.std.specs.Prelude.{◌≡◌, ◌∷◌, [], ◌++◌, map, length, IfOk, OnOk};
+ghost use Rattle.std.specs.Prelude.{◌≡◌, ◌++◌, map, length, IfOk, OnOk};
 ghost use Rattle.civl_tree.specs.Numbering.{statements_of, inner_of, sizes_of};
 
 use civl_tree::{List, Memory, Stmt};

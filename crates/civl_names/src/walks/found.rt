@@ -1,5 +1,5 @@
 // The first place in a procedure at which a rule is broken, found with memory.
-ghost use Rattle.std.specs.Prelude.{◌≡◌, ℕ, ◌+◌, ◌<◌, ◌^◌, List, length, map, IfOk};
+ghost use Rattle.std.specs.Prelude.{◌≡◌, ◌+◌, ◌<◌, ◌^◌, length, map, IfOk};
 ghost use Rattle.civl_tree.specs.Numbering.{proc_item, sizes_of};
 ghost use Rattle.civl_tree.specs.Numbered.{IsNumbered};
 ghost use Rattle.civl_tree.specs.rules.Codes.{number_of};

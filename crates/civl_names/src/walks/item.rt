@@ -1,7 +1,6 @@
 // The first item of a kind that breaks a rule.
-ghost use Rattle.std.specs.Prelude.{ℕ, ◌≡◌, List, length, map, slice_get, Some};
+ghost use Rattle.std.specs.Prelude.{ℕ, ◌≡◌, List, map, slice_get, Some};
 ghost use Rattle.civl_tree.specs.declared.program.Program.{Program};
-ghost use Rattle.civl_tree.specs.Numbering.{statements_of};
 ghost use Rattle.civl_tree.specs.Numbered.{IsNumbered};
 ghost use Rattle.civl_tree.specs.rules.Rules.{Rule, Place, refusal_at, item_place, each_place, global_places, invariant_places, action_places, proc_places, thread_places, first_of};
 

@@ -1,5 +1,5 @@
 // What a rule asks of statements.
-ghost use Rattle.std.specs.Prelude.{ℕ, Bool, ◌≡◌, ◌<◌, ◌^◌, map, length};
+ghost use Rattle.std.specs.Prelude.{Bool, ◌≡◌, ◌<◌, ◌^◌, map, length};
 ghost use Rattle.civl_tree.specs.declared.stmt.Stmt.{Stmt};
 ghost use Rattle.civl_tree.specs.rules.Rules.{first_of};
 ghost use Rattle.civl_names.specs.walks.Walks.{numbers_with};

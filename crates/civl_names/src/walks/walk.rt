@@ -1,5 +1,5 @@
 // The first statement of a body that breaks a rule, found without a list of the statements.
-ghost use Rattle.std.specs.Prelude.{◌≡◌, ◌+◌, ◌<◌, ◌^◌, ◌∷◌, ◌++◌, length};
+ghost use Rattle.std.specs.Prelude.{◌≡◌, ◌+◌, ◌<◌, ◌^◌, length};
 ghost use Rattle.civl_tree.specs.Numbering.{statements_of, inner_of};
 ghost use Rattle.civl_tree.specs.rules.Rules.{numbers_where, first_of};
 ghost use Rattle.civl_names.specs.walks.Walked.{IsWalked};

@@ -21,7 +21,7 @@ use Rattle.civl_tree.specs.rules.Names.{names_in_proc}
 use Rattle.civl_meaning.specs.Places.{Spot, spot_at}
 use Rattle.civl_meaning.specs.Meaning.{Meaning, Does, Runs, Missing, called, meaning_of}
 use Rattle.civl_meaning.specs.Change.{call_change, layer_change, leaves, spot_change, proc_change, state_change, caller_of, outs_in}
-use Rattle.civl_reduction.specs.exchanges.Doing.{Doing, done_by, call_doing, layer_doing, leaving, spot_doing, proc_doing, state_doing, StepIsDone}
+use Rattle.civl_reduction.specs.exchanges.Doing.{done_by, call_doing, layer_doing, leaving, spot_doing, proc_doing, state_doing, StepIsDone}
 use Rattle.civl_reduction.specs.exchanges.Doing as does
 
 by_call : (plain : Plain) (s : Store) (ch : List Value) (ns : List Name) (ls : List Value) (rs : List Name) (at next : ℕ) (m : Meaning) (vs : List Value) →

@@ -1,5 +1,5 @@
 // What is owned at a cut and by another thread's frame is pairwise disjoint.
-ghost use Rattle.std.specs.Prelude.{◌≡◌, ◌+◌, ◌*◌, ◌≤◌, ◌++◌, ◌&&◌, Bool, length, Some, IfOk, OnOk};
+ghost use Rattle.std.specs.Prelude.{◌≡◌, ◌+◌, ◌*◌, ◌≤◌, ◌++◌, Bool, length, Some, IfOk, OnOk};
 ghost use Rattle.civl_tree.specs.declared.expr.Sort.TheVariants.{Bool as Truth};
 ghost use Rattle.civl_meaning.specs.Permissions.{pairwise_disjoint};
 ghost use Rattle.civl_terms.specs.Graphs.{sort_at};

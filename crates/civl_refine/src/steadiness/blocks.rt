@@ -1,5 +1,5 @@
 // Blocks that lose what has to be kept.
-ghost use Rattle.std.specs.Prelude.{◌≡◌, ◌+◌, ◌*◌, ◌≤◌, ◌&&◌, Bool, ℕ, All, Some, IfOk, OnOk, map, if◌then◌else◌};
+ghost use Rattle.std.specs.Prelude.{◌≡◌, ◌+◌, ◌*◌, ◌≤◌, ◌&&◌, Bool, All, Some, IfOk, OnOk, map, if◌then◌else◌};
 ghost use Rattle.std.specs.List.{list_all};
 ghost use Rattle.civl_tree.specs.declared.expr.Sort.TheVariants.{Bool as Truth};
 ghost use Rattle.civl_terms.specs.Graphs.{sort_at};

@@ -1,5 +1,5 @@
 // Another thread at a yield.
-ghost use Rattle.std.specs.Prelude.{◌≡◌, ◌≤◌, ◌+◌, ℕ, IfOk, OnOk, Some};
+ghost use Rattle.std.specs.Prelude.{◌≡◌, ◌≤◌, ◌+◌, IfOk, OnOk, Some};
 ghost use Rattle.civl_tree.specs.declared.expr.Sort.TheVariants.{Bool as Truth};
 ghost use Rattle.civl_tree.specs.rules.Rules.{Keeps};
 ghost use Rattle.civl_tree.specs.rules.Typing.{typing_rules};

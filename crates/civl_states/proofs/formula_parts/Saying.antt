@@ -16,7 +16,7 @@ use Rattle.civl_firing.specs.values.Weights.{bits_in, one_weight, two_weight}
 use Rattle.civl_terms.specs.declared.node.Node.{Node}
 use Rattle.civl_terms.specs.Graphs.{value_at, sort_at, Fits}
 use Rattle.civl_terms.specs.Building.{Grows, Built}
-use Rattle.civl_terms.proofs.Growing.{growth, grows_trans, grows_same}
+use Rattle.civl_terms.proofs.Growing.{growth}
 use Rattle.civl_actions.proofs.Staying.{sorted_within}
 use Rattle.civl_states.specs.formula_parts.Said.{Env, IsTest, IsSaid, AreTests, all_true, some_true}
 

@@ -1,5 +1,5 @@
 // The variables of a formula.
-ghost use Rattle.std.specs.Prelude.{◌≡◌, ◌+◌, ◌≤◌, ◌<◌, ◌^◌, length, All, IsTrue, IfOk, OnOk, [], ◌∷◌};
+ghost use Rattle.std.specs.Prelude.{◌+◌, ◌≤◌, ◌<◌, ◌^◌, length, All, IsTrue, IfOk, OnOk, [], ◌∷◌};
 ghost use Rattle.civl_firing.specs.values.Values.{is_sort};
 ghost use Rattle.civl_terms.specs.Building.{Lengthens};
 ghost use Rattle.civl_terms.specs.Weights.{graph_weight};

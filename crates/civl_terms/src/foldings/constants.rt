@@ -1,5 +1,5 @@
 // The constants at which an operation is a constant or one of its operands.
-ghost use Rattle.std.specs.Prelude.{◌≡◌, ◌<◌, ◌^◌, Some};
+ghost use Rattle.std.specs.Prelude.{◌≡◌, ◌<◌, Some};
 ghost use Rattle.civl_terms.specs.foldings.Constants.{is_bit, is_zero, is_one, is_ones, is_least, is_greatest, is_past, is_narrow, zero_like, ones_like, is_filled, first_cell, is_identity, counts_from};
 
 use civl_bits::{Row, Value, Word};

@@ -1,5 +1,5 @@
 // All lists of values of some sorts, by their numbers.
-ghost use Rattle.std.specs.Prelude.{◌≡◌, ◌*◌, ◌/◌, ◌%◌, ◌^◌, ◌<◌, ◌≤◌, length, All, IsTrue, IfOk, IfSome, IfNone};
+ghost use Rattle.std.specs.Prelude.{◌≡◌, ◌*◌, ◌/◌, ◌%◌, ◌^◌, ◌<◌, ◌≤◌, All, IsTrue, IfOk, IfSome, IfNone};
 ghost use Rattle.civl_tree.specs.rules.StoreSize.{bits_of};
 ghost use Rattle.civl_tree.specs.rules.Exprs.{is_width, is_index};
 ghost use Rattle.civl_firing.specs.values.Values.{is_sort};

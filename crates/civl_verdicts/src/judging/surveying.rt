@@ -1,5 +1,5 @@
 // What is found of all conditions of a layered program.
-ghost use Rattle.std.specs.Prelude.{◌≡◌, ◌≤◌, ◌+◌, None, IsTrue, IfOk, IfErr, length};
+ghost use Rattle.std.specs.Prelude.{◌≡◌, ◌≤◌, None, IsTrue, IfOk, IfErr, length};
 ghost use Rattle.std.specs.List.{Contains};
 ghost use Rattle.civl_tree.specs.SpellingDomain.{allows_program};
 ghost use Rattle.civl_tree.specs.rules.Rules.{Keeps};

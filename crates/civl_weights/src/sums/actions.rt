@@ -1,5 +1,5 @@
 // What is worked out of each action, once.
-ghost use Rattle.std.specs.Prelude.{◌≡◌, IfOk};
+ghost use Rattle.std.specs.Prelude.{IfOk};
 ghost use Rattle.std.specs.List.{AllZip};
 ghost use Rattle.civl_tree.specs.rules.Names.{action_named};
 ghost use Rattle.civl_types.specs.Views.{scope_of};

@@ -19,7 +19,7 @@ ghost use Rattle.civl_weights.specs.sums.Sums.{OfAction, updated_globals, joined
 use crate::sums::actions::{ActionSums, sums_called};
 use civl_conditions::action_called;
 use civl_names::walks::statements;
-use civl_tree::{Action, Global, List, Local, Memory, Name, Param, Proc, Program, Stmt, Update};
+use civl_tree::{Global, List, Local, Memory, Name, Param, Proc, Program, Stmt, Update};
 use civl_types::names::same_name;
 use civl_types::view::View;
 use civl_weighing::bits::bits_where;

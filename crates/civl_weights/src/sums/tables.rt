@@ -1,10 +1,9 @@
 // All that is worked out of a program, whatever the condition.
-ghost use Rattle.std.specs.Prelude.{◌≡◌, [], Some, map, slice_get, IfOk, OnOk};
+ghost use Rattle.std.specs.Prelude.{◌≡◌, Some, map, slice_get, IfOk};
 ghost use Rattle.std.specs.List.{AllZip};
 ghost use Rattle.civl_layers.specs.Cuts.{proc_cuts};
 ghost use Rattle.civl_linear.specs.Cuts.{held_of, all_held};
-ghost use Rattle.civl_conditions.specs.Variables.{of_globals};
-ghost use Rattle.civl_conditions.specs.Weights.{bits_of_variables, linear_globals, weights_of, global_weight, linear_inputs, initial_own, summed, thread_items};
+ghost use Rattle.civl_conditions.specs.Weights.{linear_globals, weights_of, global_weight, linear_inputs, initial_own, summed, thread_items};
 ghost use Rattle.civl_weighing.specs.Weighing.{Weighs};
 ghost use Rattle.civl_weights.specs.sums.Sums.{OfAction, OfStep, OfNotes, OfCuts};
 ghost use Rattle.civl_weights.specs.sums.Tables.{OfProc, OfProgram, own_step};

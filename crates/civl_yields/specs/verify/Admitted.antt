@@ -1,5 +1,5 @@
 -- All static rules, and programs that keep those on linear locals, yields and movers.
-use Rattle.std.specs.Prelude.{ℕ, Bool, List, ◌++◌, map}
+use Rattle.std.specs.Prelude.{Bool, List, ◌++◌, map}
 use Rattle.civl_tree.specs.declared.program.Program.{Program}
 use Rattle.civl_tree.specs.rules.Rules.{Rule}
 use Rattle.civl_tree.specs.rules.Typing.{typing_rules}

@@ -1,4 +1,4 @@
-use Rattle.std.proofs.Common.{List, [], subst, sym, refl}
+use Rattle.std.proofs.Common.{List, [], subst}
 use Rattle.std.specs.Prelude.{Contains}
 use Rattle.civl_cnf.specs.Literal.{Literal}
 use Rattle.civl_proofs.proofs.trimming.refutes.Goals as goal

@@ -18,7 +18,7 @@ use Rattle.civl_layers.specs.Layered.{IsLayered}
 use Rattle.civl_linear.specs.LinearRules.{linear_rules}
 use Rattle.civl_yields.specs.YieldRules.{yield_rules}
 use Rattle.civl_conditions.specs.Steps.{has_layer}
-use Rattle.civl_reduction.specs.exchanges.Doing.{Doing, leaving, spot_doing, proc_doing, state_doing, doing}
+use Rattle.civl_reduction.specs.exchanges.Doing.{leaving, spot_doing, proc_doing, state_doing, doing}
 use Rattle.civl_reduction.specs.exchanges.Doing as does
 use Rattle.civl_reduction.specs.blocks.Blocks.{framed_in, framed_state, frame_of_layer}
 use Rattle.civl_reduction.proofs.simulation.Meets.Inputs.{StaysIn, stays_in}

@@ -20,7 +20,7 @@ use Rattle.civl_meaning.specs.Layers.{program_at}
 use Rattle.civl_reduction.specs.interleavings.Systems.{System}
 use Rattle.civl_reduction.specs.interleavings.Runs.{MayStep, Staged, begun, goes, ends}
 use Rattle.civl_reduction.specs.interleavings.Reduction.{is_inside, IsReducible}
-use Rattle.civl_reduction.specs.interleavings.Threads.{inside_in, system_of, place_in}
+use Rattle.civl_reduction.specs.interleavings.Threads.{system_of, place_in}
 use Rattle.civl_reduction.specs.interleavings.Threads as threads
 use Rattle.civl_reduction.proofs.interleavings.Threading.{threads_are_reducible}
 use Rattle.civl_reduction.specs.exchanges.Interleavings.{Chosen}
