@@ -6,20 +6,32 @@ Usage, at the top of the repository:
     unused.py [CRATE ..]            a line a name: the file, and the name
     unused.py --write [CRATE ..]    takes them out of the files, and an import with none left too
 
-The compiler doesn't tell of them. What is passed on (`pub use`) is left out; of an operator all parts are looked for. A trait whose
-methods alone are used seems unused, so after --write all crates have to be compiled again (`rt try`), and files of src/ formatted
-(`rattle fmt --write`).
+The compiler doesn't tell of them. What is passed on (`pub use`) is left out; of an operator all parts are looked for, and of a trait of
+the crates its methods. After --write all crates have to be compiled again (`rt try`), and files of src/ formatted (`rattle fmt --write`).
 """
 import glob
 import re
 import sys
 
 IMPORT = re.compile(r"^((?:ghost )?use [^\s{};]+?(?:\.|::))(?:\{([^{}]*)\}|(\w+))(;?)\n", re.MULTILINE)
+TRAIT = re.compile(r"^pub trait (\w+)[^{]*\{\n(.*?)^\}", re.MULTILINE | re.DOTALL)
 ANY_IMPORT = re.compile(r"^(?:ghost |pub )*use [^;{}\n]*(?:\{[^{}]*\})?;?\n", re.MULTILINE)
 
 
-def is_used(name, body):
-    """Whether what is written as this name, or as the one behind `as`, stands in a text."""
+def methods_of_traits():
+    """The methods of each public trait of the crates, by its name."""
+    methods = {}
+    for path in glob.glob("crates/*/src/**/*.rt", recursive=True):
+        with open(path, encoding="utf-8") as file:
+            for name, inside in TRAIT.findall(file.read()):
+                methods.setdefault(name, set()).update(re.findall(r"^    fn (\w+)", inside, re.MULTILINE))
+    return methods
+
+
+def is_used(name, body, methods):
+    """Whether what is written as this name, or as the one behind `as`, stands in a text, or a method of the trait that it is."""
+    if any(f".{method}(" in body for method in methods.get(name, ())):
+        return True
     word = name.split(" as ")[-1].strip()
     if word == "self":
         return True
@@ -30,13 +42,13 @@ def is_used(name, body):
     return word in body
 
 
-def looked_through(text):
+def looked_through(text, methods):
     """The text without the names that it imports and doesn't use, and these names."""
     body, unused = ANY_IMPORT.sub("", text), []
 
     def cut(found):
         names = [name.strip() for name in (found[2] or found[3]).split(",") if name.strip()]
-        kept = [name for name in names if is_used(name, body)]
+        kept = [name for name in names if is_used(name, body, methods)]
         unused.extend(name for name in names if name not in kept)
         if len(kept) == len(names):
             return found[0]
@@ -52,11 +64,12 @@ def main():
     words = sys.argv[1:]
     is_writing = words[:1] == ["--write"]
     crates = words[is_writing:] or ["*"]
+    methods = methods_of_traits()
     for crate in crates:
         for path in sorted(glob.glob(f"crates/{crate}/s*/**/*.rt", recursive=True) + glob.glob(f"crates/{crate}/[ps]*/**/*.antt", recursive=True)):
             with open(path, encoding="utf-8") as file:
                 text = file.read()
-            rest, unused = looked_through(text)
+            rest, unused = looked_through(text, methods)
             for name in unused:
                 print(path, name)
             if unused and is_writing:

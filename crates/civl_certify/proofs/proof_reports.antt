@@ -5,3 +5,4 @@ pub mod Agreeing
 pub mod Deciding
 pub mod Running
 pub mod Scanning
+pub mod Existing

@@ -24,6 +24,7 @@ use Rattle.civl_verdicts.proofs.findings.Surveying.{each_program_has_a_survey}
 use Rattle.civl_verdicts.proofs.judgements.Judging.{each_program_has_a_verdict}
 use Rattle.civl_outlines.specs.declared.outline.Outline.{Outline}
 use Rattle.civl_prove.proofs.outline_reports.Existing.{each_outline_is_answered}
+use Rattle.civl_certify.proofs.proof_reports.Existing.{each_program_has_a_making}
 use Rattle.civl_certify.proofs.proof_reports.Scanning.{each_text_has_a_replaying}
 use Rattle.civl_frontend.specs.Rules.{static_refusal, IsLawful}
 use Rattle.civl_frontend.specs.Texts.{IsReading, IsScriptReading, IsOutlineReading, limit}
@@ -31,8 +32,8 @@ use Rattle.civl_frontend.specs.declared.reader.Fault.{Fault}
 use Rattle.civl_frontend.proofs.Reading.{some_reading, some_script_reading, some_outline_reading}
 use Rattle.civl_command.specs.declared.task.Task.{Task}
 use Rattle.civl_command.specs.declared.task.Task.TheVariants.{Check, Conditions, Fmt, RunLow, RunTop, Prove, Make, Replay}
-use Rattle.civl_command.specs.Outcome.{Outcome, TooLong, Unread, Broken, Judged, Heavy, Surveyed, Printed, Misfit, Ran, Proven, Replayed, Checks, Surveys, Prints, Proves, Runs, OfRead, Finds, FindsBy, CallsFor, limit_of}
-use Rattle.civl_command.specs.Laws.{MakesNoCertificate, EachInputIsAnswered}
+use Rattle.civl_command.specs.Outcome.{Outcome, TooLong, Unread, Broken, Judged, Heavy, Surveyed, Printed, Misfit, Ran, Proven, Asked, Replayed, Checks, Surveys, Prints, Proves, Asks, Runs, OfRead, Finds, FindsBy, CallsFor, limit_of}
+use Rattle.civl_command.specs.Laws.{EachInputIsAnswered}
 
 -- an outcome of which this is so
 abbrev Has : (Outcome → Type 0) → Type 0
@@ -72,6 +73,17 @@ module _ (budget : ℕ) (program : Program) where
 
   some_survey : Has (Surveys budget program)
   some_survey = survey_by (static_refusal program) refl
+
+module _ (at budget : ℕ) (program : Program) where
+  ask_by : (refusal : Option Refusal) → static_refusal program ≡ refusal → Has (Asks at budget program)
+  ask_by (Some refusal) e = (Broken refusal, e)
+  ask_by None e =
+      let rules = lawful program e in
+      let found = each_program_has_a_making program budget at (typed program rules) in
+      (Asked program at budget found.0, (refl, refl, refl, rules, found.1))
+
+  some_ask : Has (Asks at budget program)
+  some_ask = ask_by (static_refusal program) refl
 
 -- ---- an outline
 
@@ -122,21 +134,21 @@ module _ {A : Type 0} (IsRead : List ℕ → Result A Fault → Type 0) (Says : 
       let found = some_of reading.0 in
       (found.0, record { short = short; reading = reading.0; read = reading.1; says = found.1 })
 
-some_found : (task : Task) (input : List ℕ) → MakesNoCertificate task → length input ≤ limit_of task → Has (FindsBy task input)
-some_found (Check budget) input plain short = some_find IsReading (Checks budget) some_reading (some_check budget) input short
-some_found (Conditions budget) input plain short = some_find IsReading (Surveys budget) some_reading (some_survey budget) input short
-some_found Fmt input plain short = some_find IsReading Prints some_reading some_print input short
-some_found RunLow input plain short = some_find IsScriptReading (Runs lowest) some_script_reading (some_run lowest) input short
-some_found RunTop input plain short = some_find IsScriptReading (Runs topmost) some_script_reading (some_run topmost) input short
-some_found (Prove budget) input plain short = some_find IsOutlineReading (Proves budget) some_outline_reading (some_prove budget) input short
-some_found (Make at budget) input plain short = absurd plain
-some_found Replay input plain short =
+some_found : (task : Task) (input : List ℕ) → length input ≤ limit_of task → Has (FindsBy task input)
+some_found (Check budget) input short = some_find IsReading (Checks budget) some_reading (some_check budget) input short
+some_found (Conditions budget) input short = some_find IsReading (Surveys budget) some_reading (some_survey budget) input short
+some_found Fmt input short = some_find IsReading Prints some_reading some_print input short
+some_found RunLow input short = some_find IsScriptReading (Runs lowest) some_script_reading (some_run lowest) input short
+some_found RunTop input short = some_find IsScriptReading (Runs topmost) some_script_reading (some_run topmost) input short
+some_found (Prove budget) input short = some_find IsOutlineReading (Proves budget) some_outline_reading (some_prove budget) input short
+some_found (Make at budget) input short = some_find IsReading (Asks at budget) some_reading (some_ask at budget) input short
+some_found Replay input short =
     let found = each_text_has_a_replaying input in
     (Replayed found.0, record { short = short; replaying_ = found.0; is = found.1; outcome_is = refl })
 
-called : (task : Task) (input : List ℕ) → MakesNoCertificate task → (limit_of task < length input) ⊎ (length input ≤ limit_of task) → Has (CallsFor task input)
-called task input plain (inl long) = (TooLong (limit_of task), inl (refl, long))
-called task input plain (inr short) = let found = some_found task input plain short in (found.0, inr found.1)
+called : (task : Task) (input : List ℕ) → (limit_of task < length input) ⊎ (length input ≤ limit_of task) → Has (CallsFor task input)
+called task input (inl long) = (TooLong (limit_of task), inl (refl, long))
+called task input (inr short) = let found = some_found task input short in (found.0, inr found.1)
 
 pub some_outcome : EachInputIsAnswered
-some_outcome task input plain = called task input plain (cases_lt (limit_of task) (length input))
+some_outcome task input = called task input (cases_lt (limit_of task) (length input))

@@ -1,18 +1,12 @@
 -- What follows from the definitions: for each task each input has one answer.
-use Rattle.std.specs.Prelude.{ℕ, List, ⊤}
+use Rattle.std.specs.Prelude.{ℕ, List}
 use Rattle.civl_command.specs.declared.task.Task.{Task}
-use Rattle.civl_command.specs.declared.task.Task.TheVariants.{Make}
 use Rattle.civl_command.specs.Outcome.{Outcome, CallsFor}
 use Rattle.civl_command.specs.Alike.{AreAlike}
 
--- no certificate is made
-abbrev pub MakesNoCertificate : Task → Type 0
-MakesNoCertificate (Make at budget) = ⊥
-MakesNoCertificate _ = ⊤
-
--- for each task that makes no certificate each list of numbers as the input calls for some outcome
+-- for each task each list of numbers as the input calls for some outcome
 abbrev pub EachInputIsAnswered : Type 0
-EachInputIsAnswered = (task : Task) (input : List ℕ) → MakesNoCertificate task → (outcome : Outcome) × CallsFor task input outcome
+EachInputIsAnswered = (task : Task) (input : List ℕ) → (outcome : Outcome) × CallsFor task input outcome
 
 -- and all outcomes for which it calls are alike
 abbrev pub EachInputIsAnsweredOnce : Type 0

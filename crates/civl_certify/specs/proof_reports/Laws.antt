@@ -2,6 +2,8 @@
 use Rattle.std.specs.Prelude.{◌≡◌, ℕ, List, Option, IsTrue}
 use Rattle.civl_tree.specs.SpellingDomain.{allows_program}
 use Rattle.civl_tree.specs.declared.program.Program.{Program}
+use Rattle.civl_tree.specs.rules.Rules.{Keeps}
+use Rattle.civl_tree.specs.rules.Typing.{typing_rules}
 use Rattle.civl_cnf.specs.Literal.{Literal}
 use Rattle.civl_cnf.specs.ClauseSet.{ClauseSet}
 use Rattle.civl_rup.specs.Rup.{IsUnsatisfiable}
@@ -42,6 +44,10 @@ RefutedIsUnsatisfiable = (text : List ℕ) (set : ClauseSet) (log : List (List L
 
 abbrev pub MakingsAgree : Type 0
 MakingsAgree = (program : Program) (budget limit at : ℕ) (first second : Making) → IsMaking program budget at first → IsMaking program limit at second → Agree first second
+
+-- something is found of each program that keeps the rules on names and sorts, under each budget, by each number
+abbrev pub EachProgramHasAMaking : Type 0
+EachProgramHasAMaking = (program : Program) (budget at : ℕ) → Keeps typing_rules program → (making : Making) × IsMaking program budget at making
 
 -- something is found of each text
 abbrev pub EachTextHasAReplaying : Type 0
