@@ -6,8 +6,10 @@ Usage, at the top of the repository:
     unused.py [CRATE ..]            a line a name: the file, and the name
     unused.py --write [CRATE ..]    takes them out of the files, and an import with none left too
 
-The compiler doesn't tell of them. What is passed on (`pub use`) is left out; of an operator all parts are looked for, and of a trait of
-the crates its methods. After --write all crates have to be compiled again (`rt try`), and files of src/ formatted (`rattle fmt --write`).
+The compiler tells of none in src/. Of .antt files `rattle check --fix-imports` takes them out, but only of a crate or of functions that it
+has just proved; this proves nothing. Whole modules that are imported under another name are looked for too. What is passed on (`pub use`)
+is left out; of an operator all parts are looked for, and of a trait of the crates its methods. After --write all crates have to be
+compiled again (`rt try`), and files of src/ formatted (`rattle fmt --write`).
 """
 import glob
 import re
@@ -15,6 +17,7 @@ import sys
 
 IMPORT = re.compile(r"^((?:ghost )?use [^\s{};]+?(?:\.|::))(?:\{([^{}]*)\}|(\w+))(;?)\n", re.MULTILINE)
 TRAIT = re.compile(r"^pub trait (\w+)[^{]*\{\n(.*?)^\}", re.MULTILINE | re.DOTALL)
+MODULE = re.compile(r"^use \S+ as ([\w\-]+)\n", re.MULTILINE)
 ANY_IMPORT = re.compile(r"^(?:ghost |pub )*use [^;{}\n]*(?:\{[^{}]*\})?;?\n", re.MULTILINE)
 
 
@@ -57,7 +60,13 @@ def looked_through(text, methods):
         bare = len(kept) == 1 and found[1].endswith("::") and not found[1].startswith("ghost") and " as " not in kept[0] and kept[0] != "self"
         return found[1] + (kept[0] if bare else "{" + ", ".join(kept) + "}") + found[4] + "\n"
 
-    return IMPORT.sub(cut, text), unused
+    def cut_module(found):
+        if is_used(found[1], MODULE.sub("", body), methods):
+            return found[0]
+        unused.append(found[1])
+        return ""
+
+    return MODULE.sub(cut_module, IMPORT.sub(cut, text)), unused
 
 
 def main():

@@ -47,56 +47,52 @@ lawful program e = none_first _ e
 typed : (program : Program) → IsLawful program → Keeps typing_rules program
 typed program rules = keeps_first typing_rules (layer_rules ++ admission_rules) program rules
 
-module _ (budget : ℕ) (program : Program) where
-  check_light : (first : Option (Option Condition)) → IsLawful program → heavy program ≡ first → Has (Checks budget program)
-  check_light (Some first) rules e = (Heavy program first, (refl, rules, e))
-  check_light None rules e =
-      let found = each_program_has_a_verdict program budget (typed program rules) in
-      (Judged program budget found.0, (refl, refl, record { rules = rules; light = e }, found.1))
+-- its first broken rule, or what is found of it where it breaks none
+module _ (program : Program) (Says : Outcome → Type 0) (broken : (refusal : Refusal) → static_refusal program ≡ Some refusal → Says (Broken refusal)) (taken : IsLawful program → Has Says) where
+  by_refusal : (refusal : Option Refusal) → static_refusal program ≡ refusal → Has Says
+  by_refusal (Some refusal) e = (Broken refusal, broken refusal e)
+  by_refusal None e = taken (lawful program e)
 
-  check_by : (refusal : Option Refusal) → static_refusal program ≡ refusal → Has (Checks budget program)
-  check_by (Some refusal) e = (Broken refusal, e)
-  check_by None e = check_light (heavy program) (lawful program e) refl
+  broken_or : Has Says
+  broken_or = by_refusal (static_refusal program) refl
+
+-- the first formula that weighs too much, or what is found of it where none does
+module _ (program : Program) (Says : Outcome → Type 0) (weighty : (first : Option Condition) → heavy program ≡ Some first → Says (Heavy program first)) (light : heavy program ≡ None → Has Says) where
+  by_weight : (first : Option (Option Condition)) → heavy program ≡ first → Has Says
+  by_weight (Some first) e = (Heavy program first, weighty first e)
+  by_weight None e = light e
+
+  heavy_or : Has Says
+  heavy_or = by_weight (heavy program) refl
+
+module _ (budget : ℕ) (program : Program) where
+  lawful_check : IsLawful program → Has (Checks budget program)
+  lawful_check rules = heavy_or program (Checks budget program) (λ first e. (refl, rules, e)) (λ e.
+      let found = each_program_has_a_verdict program budget (typed program rules) in
+      (Judged program budget found.0, (refl, refl, record { rules = rules; light = e }, found.1)))
 
   some_check : Has (Checks budget program)
-  some_check = check_by (static_refusal program) refl
+  some_check = broken_or program (Checks budget program) (λ refusal e. e) lawful_check
 
-  survey_light : (first : Option (Option Condition)) → IsLawful program → heavy program ≡ first → Has (Surveys budget program)
-  survey_light (Some first) rules e = (Heavy program first, (refl, rules, e))
-  survey_light None rules e =
+  lawful_survey : IsLawful program → Has (Surveys budget program)
+  lawful_survey rules = heavy_or program (Surveys budget program) (λ first e. (refl, rules, e)) (λ e.
       let found = each_program_has_a_survey program budget (typed program rules) in
-      (Surveyed program budget found.0, (refl, refl, record { rules = rules; light = e }, found.1))
-
-  survey_by : (refusal : Option Refusal) → static_refusal program ≡ refusal → Has (Surveys budget program)
-  survey_by (Some refusal) e = (Broken refusal, e)
-  survey_by None e = survey_light (heavy program) (lawful program e) refl
+      (Surveyed program budget found.0, (refl, refl, record { rules = rules; light = e }, found.1)))
 
   some_survey : Has (Surveys budget program)
-  some_survey = survey_by (static_refusal program) refl
+  some_survey = broken_or program (Surveys budget program) (λ refusal e. e) lawful_survey
 
-module _ (at budget : ℕ) (program : Program) where
-  ask_by : (refusal : Option Refusal) → static_refusal program ≡ refusal → Has (Asks at budget program)
-  ask_by (Some refusal) e = (Broken refusal, e)
-  ask_by None e =
-      let rules = lawful program e in
-      let found = each_program_has_a_making program budget at (typed program rules) in
-      (Asked program at budget found.0, (refl, refl, refl, rules, found.1))
-
-  some_ask : Has (Asks at budget program)
-  some_ask = ask_by (static_refusal program) refl
+some_ask : (at budget : ℕ) (program : Program) → Has (Asks at budget program)
+some_ask at budget program = broken_or program (Asks at budget program) (λ refusal e. e) (λ rules.
+    let found = each_program_has_a_making program budget at (typed program rules) in
+    (Asked program at budget found.0, (refl, refl, refl, rules, found.1)))
 
 -- ---- an outline
 
-module _ (budget : ℕ) (outline : Outline) where
-  prove_by : (refusal : Option Refusal) → static_refusal outline.program ≡ refusal → Has (Proves budget outline)
-  prove_by (Some refusal) e = (Broken refusal, e)
-  prove_by None e =
-      let rules = lawful outline.program e in
-      let found = each_outline_is_answered outline.program outline budget (typed outline.program rules) in
-      (Proven outline budget found.0, (refl, refl, rules, found.1))
-
-  some_prove : Has (Proves budget outline)
-  some_prove = prove_by (static_refusal outline.program) refl
+some_prove : (budget : ℕ) (outline : Outline) → Has (Proves budget outline)
+some_prove budget outline = broken_or outline.program (Proves budget outline) (λ refusal e. e) (λ rules.
+    let found = each_outline_is_answered outline.program outline budget (typed outline.program rules) in
+    (Proven outline budget found.0, (refl, refl, rules, found.1)))
 
 some_print : (program : Program) → Has (Prints program)
 some_print program = (Printed program, refl)
@@ -111,14 +107,10 @@ module _ (plain_of : Program → Plain) (script : Script) where
   )
   run_lawful (Wrong number) rules wrong = (Misfit number, (rules, wrong))
 
-  run_by : (refusal : Option Refusal) → static_refusal script.program ≡ refusal → Has (Runs plain_of script)
-  run_by (Some refusal) e = (Broken refusal, e)
-  run_by None e =
-      let found = schedules_exist script.program.globals script.store script.moves in
-      run_lawful found.0 (lawful script.program e) found.1
-
   some_run : Has (Runs plain_of script)
-  some_run = run_by (static_refusal script.program) refl
+  some_run = broken_or script.program (Runs plain_of script) (λ refusal e. e) (λ rules.
+      let found = schedules_exist script.program.globals script.store script.moves in
+      run_lawful found.0 rules found.1)
 
 -- ---- an input
 

@@ -17,7 +17,6 @@ use Rattle.civl_script.specs.declared.schedule.Schedule.TheVariants.{Fits, Wrong
 use Rattle.civl_conditions.specs.declared.condition.Condition.{Condition}
 use Rattle.civl_conditions.specs.Weights.{heavy}
 use Rattle.civl_verdicts.specs.declared.verdict.Verdict.{Verdict}
-use Rattle.civl_verdicts.specs.declared.verdict.Verdict.TheVariants as verdict
 use Rattle.civl_verdicts.specs.declared.survey.Survey.{Survey}
 use Rattle.civl_verdicts.specs.declared.survey.Survey.TheVariants as survey
 use Rattle.civl_verdicts.specs.Surveys.{IsSurvey}
