@@ -1,4 +1,4 @@
-// The terms of a program's formulas, counted at all values of their variables.
+// The terms of a program's formulas, counted at all values of their variables, and what the formulas weigh.
 ghost use Rattle.std.specs.Prelude.{◌≡◌, IsTrue, IfOk, IfSome};
 ghost use Rattle.std.specs.List.{Contains};
 ghost use Rattle.civl_tree.specs.Numbered.{IsNumbered};
@@ -8,6 +8,7 @@ ghost use Rattle.civl_linear.specs.LinearRules.{linear_rules};
 ghost use Rattle.civl_linear.specs.Cuts.{all_held};
 ghost use Rattle.civl_bodies.specs.Bodies.{AreBodies};
 ghost use Rattle.civl_conditions.specs.Listed.{conditions};
+ghost use Rattle.civl_weights.specs.sums.Tables.{OfProgram};
 
 use crate::valuations::{count, valuation};
 use civl_bits::Value;
@@ -21,6 +22,9 @@ use civl_terms::value;
 use civl_tree::{List, Program};
 use civl_types::check;
 use civl_verdicts::judging::{Made, Makes};
+use civl_weights::sums::steps::{first_sums, sums_at};
+use civl_weights::sums::tables::{Tables, work_out};
+use civl_weights::{step_of, weigh, weigh_initial};
 use civl_yields::verify::{Admitted, admit, locals_held, source};
 use std::alloc::Global as Alloc;
 use std::test::Fail;
@@ -131,12 +135,64 @@ fn tally_named(
     Ok(())
 }
 
+// ---- weights
+
+/// The weight of a condition.
+fn weight(alloc: Alloc, src: &Layered, tables: &Tables, condition: &Condition) -> Result<u32, Fail>
+    requires { OfProgram src.now tables.now }
+{
+    let first = first_sums(alloc, src)?;
+    let step = sums_at(alloc, src, first, step_of(condition))?;
+    let weight = weigh(alloc, src, tables, &step, condition)?;
+    Ok(weight.number)
+}
+
+/// The weights of the conditions whose names begin so, each behind a blank.
+fn weights_named(
+    alloc: Alloc,
+    src: &Layered,
+    tables: &Tables,
+    list: &List<Condition>,
+    front: &str,
+) -> Result<String, Fail>
+    requires { OfProgram src.now tables.now }
+{
+    let mut weights = String::new(alloc);
+    for condition in list.as_slice() {
+        if is_named(alloc, src, condition, front)? {
+            let weight = weight(alloc, src, tables, condition)?;
+            weights.push_str(format!(in alloc; " {weight}")?.as_str())?;
+        }
+    }
+    Ok(weights)
+}
+
+/// The weights of the formulas whose names begin so.
+fn weights(
+    alloc: Alloc,
+    src: &Layered,
+    tables: &Tables,
+    list: &List<Condition>,
+    front: &str,
+) -> Result<String, Fail>
+    requires { OfProgram src.now tables.now }
+{
+    if front == "initial" {
+        let weight = weigh_initial(tables).number;
+        return Ok(format!(in alloc; " {weight}")?);
+    }
+    weights_named(alloc, src, tables, list, front)
+}
+
+// ---- rows
+
 /// What is found of the formulas whose names begin so.
 fn line(
     alloc: Alloc,
     src: &Layered,
     held: &Held,
     bodies: &Bodies<'_>,
+    tables: &Tables,
     list: &List<Condition>,
     front: &str,
 ) -> Result<String, Fail>
@@ -144,6 +200,7 @@ fn line(
     requires linear { Keeps linear_rules src.now }
     requires held { held.now.cuts ≡ all_held src.now }
     requires bodies { AreBodies src.now bodies.now }
+    requires tables { OfProgram src.now tables.now }
     requires listed { list.now ≡ conditions src.now }
 {
     let mut tally = Tally {
@@ -163,8 +220,9 @@ fn line(
         trues,
         sum,
     } = tally;
+    let weights = weights(alloc, src, tables, list, front)?;
     let line = format!(in alloc;
-        "{front}: {formulas} formulas, {trues} of {values} values, sum {sum}"
+        "{front}: {formulas} formulas, {trues} of {values} values, sum {sum}, weights{weights}"
     )?;
     Ok(line)
 }
@@ -175,6 +233,7 @@ fn lines(
     src: &Layered,
     held: &Held,
     bodies: &Bodies<'_>,
+    tables: &Tables,
     list: &List<Condition>,
     rows: &str,
 ) -> Result<String, Fail>
@@ -182,12 +241,13 @@ fn lines(
     requires linear { Keeps linear_rules src.now }
     requires held { held.now.cuts ≡ all_held src.now }
     requires bodies { AreBodies src.now bodies.now }
+    requires tables { OfProgram src.now tables.now }
     requires listed { list.now ≡ conditions src.now }
 {
     let mut lines = String::new(alloc);
     for row in rows.split("\n") {
         if let Some((front, _)) = row.split_once(":") {
-            let line = line(alloc, src, held, bodies, list, front)?;
+            let line = line(alloc, src, held, bodies, tables, list, front)?;
             lines.push_str("\n")?;
             lines.push_str(line.as_str())?;
         }
@@ -202,7 +262,9 @@ fn lines_of(alloc: Alloc, admitted: &Admitted, rows: &str) -> Result<String, Fai
     let src = source(admitted);
     let list = listed(alloc, src)?;
     let bodies = bodies_of(alloc, src)?;
-    lines(alloc, src, locals_held(admitted), &bodies, &list, rows)
+    let held = locals_held(admitted);
+    let tables = work_out(alloc, src, held)?;
+    lines(alloc, src, held, &bodies, &tables, &list, rows)
 }
 
 /// The program that a text spells.

@@ -1,6 +1,7 @@
-// All kinds of formulas, of programs with small sorts. A row says of the formulas whose names begin so how many there are, at how many of
-// the values of their variables they are true, and the sum of the numbers of these. Rows are what bench/oracle.py works out of the
-// programs' texts: `bench/oracle.py --tests` says whether they still are.
+// All kinds of formulas, of programs with small sorts, and of one with greater ones. A row says of the formulas whose names begin so what
+// each of them weighs, in the order of the list, and of those with few values how many there are, at how many of the values of their
+// variables they are true, and the sum of the numbers of these. Rows are what bench/oracle.py works out of the programs' texts:
+// `bench/oracle.py --tests` says whether they still are.
 
 use crate::counting::found_in;
 use std::test::Fail;
@@ -31,14 +32,14 @@ action Look(lend t : word(1)) -> (val o : bool) choose () layers 0 to 1 both
 ";
 
 const OF_ACTIONS: &str = "
-initial: 1 formulas, 5 of 8 values, sum 23
-K2: 3 formulas, 1 of 80 values, sum 26
-K3: 6 formulas, 9 of 480 values, sum 521
-K4: 6 formulas, 4 of 480 values, sum 132
-K5: 6 formulas, 12 of 480 values, sum 479
-K6: 6 formulas, 8 of 480 values, sum 752
-K7: 6 formulas, 4 of 480 values, sum 288
-K8: 2 formulas, 2 of 32 values, sum 17";
+initial: 1 formulas, 5 of 8 values, sum 23, weights 13
+K2: 3 formulas, 1 of 80 values, sum 26, weights 79 51 60
+K3: 6 formulas, 9 of 480 values, sum 521, weights 240 195 197 197 154 156
+K4: 6 formulas, 4 of 480 values, sum 132, weights 240 195 197 197 154 156
+K5: 6 formulas, 12 of 480 values, sum 479, weights 195 152 154 197 154 156
+K6: 6 formulas, 8 of 480 values, sum 752, weights 195 152 154 197 154 156
+K7: 6 formulas, 4 of 480 values, sum 288, weights 195 152 154 197 154 156
+K8: 2 formulas, 2 of 32 values, sum 17, weights 16 30";
 
 #[test]
 fn terms_of_actions(rt: HostRuntime) -> Result<(), Fail> {
@@ -71,15 +72,16 @@ proc Take(val a : bool) -> (val r : bool) refines AtomTake with ((r && f)) layer
 ";
 
 const OF_TAKES: &str = "
-initial: 1 formulas, 3 of 4 values, sum 5
-K1 step: 1 formulas, 1 of 4 values, sum 2
-K9 gate: 2 formulas, 4 of 136 values, sum 144
-K9 invariant: 2 formulas, 1 of 136 values, sum 68
-K9 once: 2 formulas, 8 of 136 values, sum 734
-K9 stutter: 2 formulas, 2 of 136 values, sum 174
-K9 perform: 2 formulas, 1 of 136 values, sum 68
-K10: 4 formulas, 0 of 2312 values, sum 0
-K11: 2 formulas, 1 of 136 values, sum 3";
+initial: 1 formulas, 3 of 4 values, sum 5, weights 6
+K1 step: 1 formulas, 1 of 4 values, sum 2, weights 9
+K2: 2 formulas, 0 of 12 values, sum 0, weights 16 6
+K9 gate: 2 formulas, 4 of 136 values, sum 144, weights 11 67
+K9 invariant: 2 formulas, 1 of 136 values, sum 68, weights 20 76
+K9 once: 2 formulas, 8 of 136 values, sum 734, weights 11 67
+K9 stutter: 2 formulas, 2 of 136 values, sum 174, weights 14 73
+K9 perform: 2 formulas, 1 of 136 values, sum 68, weights 24 93
+K10: 4 formulas, 0 of 2312 values, sum 0, weights 17 33 76 98
+K11: 2 formulas, 1 of 136 values, sum 3, weights 16 32";
 
 #[test]
 fn terms_of_a_yield_loop(rt: HostRuntime) -> Result<(), Fail> {
@@ -112,16 +114,23 @@ proc Count() -> (val r : bool) refines AtomCount with (r) layer 1 {
 ";
 
 const OF_COUNTS: &str = "
-initial: 1 formulas, 2 of 2 values, sum 1
-K1 step: 1 formulas, 0 of 2 values, sum 0
-K9 gate: 3 formulas, 1 of 146 values, sum 1
-K9 invariant: 3 formulas, 12 of 146 values, sum 992
-K9 once: 3 formulas, 28 of 146 values, sum 2086
-K9 stutter: 3 formulas, 20 of 146 values, sum 1354
-K9 perform: 3 formulas, 10 of 146 values, sum 278
-K9 rank: 1 formulas, 16 of 128 values, sum 1178
-K10: 6 formulas, 48 of 1314 values, sum 8384
-K11: 2 formulas, 4 of 18 values, sum 24";
+initial: 1 formulas, 2 of 2 values, sum 1, weights 2
+K1 step: 1 formulas, 0 of 2 values, sum 0, weights 5
+K2: 2 formulas, 0 of 4 values, sum 0, weights 5 4
+K3: 2 formulas, 0 of 4 values, sum 0, weights 16 14
+K4: 2 formulas, 0 of 4 values, sum 0, weights 16 14
+K5: 2 formulas, 1 of 4 values, sum 0, weights 16 14
+K6: 2 formulas, 0 of 4 values, sum 0, weights 16 14
+K7: 2 formulas, 1 of 4 values, sum 1, weights 16 14
+K8: 1 formulas, 1 of 2 values, sum 0, weights 3
+K9 gate: 3 formulas, 1 of 146 values, sum 1, weights 13 43 22
+K9 invariant: 3 formulas, 12 of 146 values, sum 992, weights 23 58 22
+K9 once: 3 formulas, 28 of 146 values, sum 2086, weights 13 43 22
+K9 stutter: 3 formulas, 20 of 146 values, sum 1354, weights 15 47 24
+K9 perform: 3 formulas, 10 of 146 values, sum 278, weights 21 59 30
+K9 rank: 1 formulas, 16 of 128 values, sum 1178, weights 53
+K10: 6 formulas, 48 of 1314 values, sum 8384, weights 15 20 48 55 28 35
+K11: 2 formulas, 4 of 18 values, sum 24, weights 13 20";
 
 #[test]
 fn terms_of_a_rank_loop(rt: HostRuntime) -> Result<(), Fail> {
@@ -158,15 +167,22 @@ thread Main(1:1);
 ";
 
 const OF_HOLDS: &str = "
-initial: 1 formulas, 3 of 8 values, sum 6
-K1 step: 2 formulas, 0 of 16 values, sum 0
-K9 gate: 3 formulas, 0 of 144 values, sum 0
-K9 invariant: 3 formulas, 0 of 144 values, sum 0
-K9 once: 3 formulas, 6 of 144 values, sum 98
-K9 stutter: 3 formulas, 3 of 144 values, sum 21
-K9 perform: 3 formulas, 0 of 144 values, sum 0
-K10: 12 formulas, 6 of 2592 values, sum 162
-K11: 4 formulas, 9 of 288 values, sum 164";
+initial: 1 formulas, 3 of 8 values, sum 6, weights 22
+K1 step: 2 formulas, 0 of 16 values, sum 0, weights 26 30
+K2: 3 formulas, 0 of 40 values, sum 0, weights 31 34 41
+K3: 3 formulas, 0 of 40 values, sum 0, weights 50 64 86
+K4: 3 formulas, 0 of 40 values, sum 0, weights 50 64 86
+K5: 3 formulas, 8 of 80 values, sum 112, weights 74 86 110
+K6: 3 formulas, 0 of 80 values, sum 0, weights 74 86 110
+K7: 3 formulas, 0 of 80 values, sum 0, weights 74 86 110
+K8: 1 formulas, 0 of 16 values, sum 0, weights 6
+K9 gate: 3 formulas, 0 of 144 values, sum 0, weights 33 74 33
+K9 invariant: 3 formulas, 0 of 144 values, sum 0, weights 39 77 33
+K9 once: 3 formulas, 6 of 144 values, sum 98, weights 33 74 33
+K9 stutter: 3 formulas, 3 of 144 values, sum 21, weights 37 78 37
+K9 perform: 3 formulas, 0 of 144 values, sum 0, weights 67 108 67
+K10: 12 formulas, 6 of 2592 values, sum 162, weights 41 49 66 60 82 90 107 101 41 49 66 60
+K11: 4 formulas, 9 of 288 values, sum 164, weights 55 63 70 64";
 
 #[test]
 fn terms_with_permissions(rt: HostRuntime) -> Result<(), Fail> {
@@ -223,29 +239,139 @@ proc Both(take t : word(1)) -> (val r : bool) refines AtomBoth with () layer 2 {
 ";
 
 const OF_MOVES: &str = "
-initial: 1 formulas, 9 of 16 values, sum 81
-K1 step: 2 formulas, 1 of 32 values, sum 5
-K2: 7 formulas, 19 of 160 values, sum 286
-K3: 19 formulas, 61 of 416 values, sum 781
-K4: 19 formulas, 5 of 416 values, sum 48
-K5: 6 formulas, 17 of 256 values, sum 328
-K6: 6 formulas, 3 of 256 values, sum 84
-K7: 6 formulas, 0 of 256 values, sum 0
-K8: 1 formulas, 0 of 32 values, sum 0
-K9 gate: 5 formulas, 45 of 848 values, sum 6852
-K9 invariant: 5 formulas, 4 of 848 values, sum 70
-K9 once: 5 formulas, 42 of 848 values, sum 11786
-K9 stutter: 5 formulas, 29 of 848 values, sum 8646
-K9 perform: 5 formulas, 27 of 848 values, sum 1953
-K9 rank: 1 formulas, 8 of 512 values, sum 1384
-K10 step 1 Move from 0: 2 formulas, 24 of 544 values, sum 7944
-K10 step 1 Move from 1 invariant: 1 formulas, 0 of 256 values, sum 0
-K10 step 2: 3 formulas, 1 of 560 values, sum 6
-K11: 7 formulas, 27 of 1120 values, sum 5925";
+initial: 1 formulas, 9 of 16 values, sum 81, weights 16
+K1 step: 2 formulas, 1 of 32 values, sum 5, weights 24 22
+K2: 7 formulas, 19 of 160 values, sum 286, weights 26 31 46 52 29 21 37
+K3: 19 formulas, 61 of 416 values, sum 781, weights 60 71 93 89 66 50 71 82 104 100 77 61 66 77 99 95 72 56 81
+K4: 19 formulas, 5 of 416 values, sum 48, weights 60 71 93 89 66 50 71 82 104 100 77 61 66 77 99 95 72 56 81
+K5: 6 formulas, 17 of 256 values, sum 328, weights 93 104 128 124 99 83
+K6: 6 formulas, 3 of 256 values, sum 84, weights 93 104 128 124 99 83
+K7: 6 formulas, 0 of 256 values, sum 0, weights 93 104 128 124 99 83
+K8: 1 formulas, 0 of 32 values, sum 0, weights 11
+K9 gate: 5 formulas, 45 of 848 values, sum 6852, weights 84 70 22 72 42
+K9 invariant: 5 formulas, 4 of 848 values, sum 70, weights 94 70 37 87 42
+K9 once: 5 formulas, 42 of 848 values, sum 11786, weights 84 70 22 72 42
+K9 stutter: 5 formulas, 29 of 848 values, sum 8646, weights 88 74 25 78 46
+K9 perform: 5 formulas, 27 of 848 values, sum 1953, weights 100 86 31 90 49
+K9 rank: 1 formulas, 8 of 512 values, sum 1384, weights 86
+K10 step 1 Move from 0: 2 formulas, 24 of 544 values, sum 7944, weights 100 118
+K10 step 1 Move from 1 invariant: 1 formulas, 0 of 256 values, sum 0, weights 86
+K10 step 1 Move from 1 yield: 1 formulas, 72 of 4096 values, sum 187752, weights 98
+K10 step 2: 3 formulas, 1 of 560 values, sum 6, weights 27 83 54
+K11: 7 formulas, 27 of 1120 values, sum 5925, weights 62 70 47 55 39 47 49";
 
 #[test]
 fn terms_of_two_steps(rt: HostRuntime) -> Result<(), Fail> {
     let found = found_in(rt.alloc(), MOVES, OF_MOVES)?;
     assert_eq!(rt; found.as_str(), OF_MOVES);
+    Ok(())
+}
+
+/// Rows, all operators, permissions that are given and taken, `if`s inside others, a loop inside one, and paths with more than two ends.
+const WORKS: &str = "civl 2; layers 2; permissions 2;
+global linear pool : word(4) layers 0 to 2;
+global cells : row(2, 3) layers 0 to 1;
+global kept : row(1, 5) layers 1 to 2;
+global flag : bool layers 0 to 2;
+init ((pool == (~3:4)) && ((cells == fill(2, 5:3)) && (flag => (kept != set(fill(1, 0:5), 1:1, 31:5)))));
+invariant 1 ((get(cells, 1:2) udiv 3:3) <= (get(cells, slice(pool, 2, 1)) urem 2:3));
+invariant 1 (flag || (join(get(kept, 0:1), 1:2) slt widen(pool, 7)));
+invariant 2 ((get(kept, 1:1) * 3:5) sle (get(kept, 0:1) sar 1:5));
+action Fetch(val i : word(2)) -> (give n : word(2), val c : word(3))
+  choose (d : word(3) = get(cells, i), e : bool = flag) layers 0 to 0 right
+  gate (i != 3:2) guard (e || (d < 4:3)) {
+    n := (i ^ 1:2);
+    c := (d | get(cells, (i & 2:2)));
+    cells := set(cells, i, (- d));
+    pool := (pool & (~(1:4 << widen((i ^ 1:2), 4))));
+  }
+action Store(lend s : word(2), take t : word(2), val v : word(3)) -> (val o : word(5))
+  choose (f : word(5) = join(v, s)) layers 0 to 0 left
+  gate ((pool >> 1:4) != widen(v, 4)) guard true {
+    o := (f + widen(get(cells, s), 5));
+    pool := (pool | (1:4 << widen(t, 4)));
+    cells := (flag ? fill(2, v) : cells);
+  }
+action Look(lend s : word(2)) -> (val b : bool) choose () layers 0 to 1 both
+  gate flag guard true { b := (flag && (s != 0:2)); }
+action AtomWork(lend t : word(2), take u : word(2)) -> (give n : word(2), val o : word(5))
+  choose (g : word(5) = 7:5, h : bool = false) layers 1 to 2 atomic
+  gate ((t < u) || (get(kept, 0:1) == 3:5)) guard (h => (g <= 9:5)) {
+    n := (u - 1:2);
+    o := g;
+    kept := set(kept, slice(u, 0, 0), (g * 3:5));
+    pool := (pool | widen(u, 4));
+    flag := (!h);
+  }
+action AtomTop(lend t : word(2), take u : word(2)) -> (val r : row(1, 5)) choose () layers 2 to 2 atomic
+  gate true guard (kept == kept) { r := kept; flag := false; }
+proc Work(lend t : word(2), take u : word(2)) -> (give n : word(2), val o : word(5))
+  refines AtomWork with (o, (flag && (get(cells, t) == 1:3))) layer 1 {
+  var c : word(3);
+  var b : bool;
+  linear m : word(2);
+  var r : row(1, 5);
+  call Fetch(u) -> (m, c);
+  if (c < 3:3) {
+    if (get(r, 1:1) == o) {
+      b := (!b);
+      yield ((done => b) && (t != u));
+    } else {
+      if b { commit; intro kept := set(kept, 0:1, (o + 1:5)); } else { r := fill(1, (o >> 2:5)); }
+    }
+    call Look(t) -> (b);
+  } else {
+    while rank (c != 0:3) by (c - 1:3) inv ((old(flag) == flag) && ((old(o) <= o) || (old(done) == done))) {
+      c := (c - 1:3);
+      if (c == 2:3) { call Look(t) -> (b); } else { }
+    }
+    assert (c == 0:3);
+  }
+  call Store(t, u, c) -> (o);
+  while yield b inv (done && (kept == kept)) {
+    call Look(m) -> (b);
+  }
+  call Fetch(1:2) -> (n, c);
+}
+proc Top(lend t : word(2), take u : word(2)) -> (val r : row(1, 5)) refines AtomTop with () layer 2 {
+  linear p : word(2);
+  var q : word(5);
+  call Work(t, u) -> (p, q);
+  commit;
+  if (q == 3:5) { yield done; r := fill(1, q); } else { yield (!done); r := set(r, 0:1, q); }
+  assert (q != 4:5);
+}
+proc Main(lend t : word(2), take u : word(2)) -> () root { }
+thread Main(2:2, 1:2);
+thread Main(3:2, (1:2 & 0:2));
+";
+
+const OF_WORKS: &str = "
+initial: 0 formulas, 0 of 0 values, sum 0, weights 190
+K1 step: 0 formulas, 0 of 0 values, sum 0, weights 299 222 306
+K2: 0 formulas, 0 of 0 values, sum 0, weights 178 220 91 267
+K3: 0 formulas, 0 of 0 values, sum 0, weights 496 538 306 306 356 120 406
+K4: 0 formulas, 0 of 0 values, sum 0, weights 496 538 306 306 356 120 406
+K5: 0 formulas, 0 of 0 values, sum 0, weights 538 596 356 306 356 120 406
+K6: 0 formulas, 0 of 0 values, sum 0, weights 538 596 356 306 356 120 406
+K7: 0 formulas, 0 of 0 values, sum 0, weights 538 596 356 306 356 120 406
+K8: 0 formulas, 0 of 0 values, sum 0, weights 60 21
+K9 gate: 0 formulas, 0 of 0 values, sum 0, weights 656 428 507 410 351 227 241
+K9 invariant: 0 formulas, 0 of 0 values, sum 0, weights 698 442 541 424 354 227 241
+K9 once: 0 formulas, 0 of 0 values, sum 0, weights 656 428 507 410 351 227 241
+K9 stutter: 0 formulas, 0 of 0 values, sum 0, weights 758 462 575 478 401 252 266
+K9 perform: 0 formulas, 0 of 0 values, sum 0, weights 1112 580 811 714 429 266 280
+K9 rank: 0 formulas, 0 of 0 values, sum 0, weights 567
+K10 step 1 Work from 0: 0 formulas, 0 of 0 values, sum 0, weights 982 751 839 825
+K10 step 1 Work from 1: 0 formulas, 0 of 0 values, sum 0, weights 646 492 640 616
+K10 step 1 Work from 2: 0 formulas, 0 of 0 values, sum 0, weights 724 570 718 694
+K10 step 1 Work from 3: 0 formulas, 0 of 0 values, sum 0, weights 737 506 594 580
+K10 step 2: 0 formulas, 0 of 0 values, sum 0, weights 699 476 479 459 351 353 473 365 367
+K11: 0 formulas, 0 of 0 values, sum 0, weights 424 270 322 306 555 399 401";
+
+#[test]
+fn weights_of_rows_and_branches(rt: HostRuntime) -> Result<(), Fail> {
+    let found = found_in(rt.alloc(), WORKS, OF_WORKS)?;
+    assert_eq!(rt; found.as_str(), OF_WORKS);
     Ok(())
 }

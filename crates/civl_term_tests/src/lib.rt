@@ -1,5 +1,6 @@
-//! Tests of the terms of formulas: how many there are, at how many of the values of their variables they are true, and at which, as a
-//! sum of numbers, is what bench/oracle.py works out, a program in Python that knows neither the code nor its definitions.
+//! Tests of the terms and the weights of formulas: how many there are, at how many of the values of their variables they are true, and at
+//! which, as a sum of numbers, and what each of them weighs is what bench/oracle.py works out, a program in Python that knows neither the
+//! code nor its definitions.
 #![tactic(auto)]
 
 #[cfg(test)]

@@ -4,7 +4,7 @@ ghost use Rattle.std.specs.List.{find};
 ghost use Rattle.civl_linear.specs.Cuts.{all_held};
 ghost use Rattle.civl_conditions.specs.Listed.{conditions};
 ghost use Rattle.civl_conditions.specs.Weights.{weight_limit, weight, heavy};
-ghost use Rattle.civl_weights.specs.Heavy.{IsHeavy, IsInitialHeavy};
+ghost use Rattle.civl_weights.specs.Heavy.{IsHeavy, IsInitial, IsInitialHeavy};
 ghost use Rattle.civl_weights.specs.sums.Tables.{OfProgram};
 
 use crate::kinds::{step_of, weigh};
@@ -13,6 +13,7 @@ use crate::sums::tables::{Tables, work_out};
 use civl_conditions::{Condition, listed};
 use civl_layers::{Held, Layered};
 use civl_tree::{List, Memory, beside, both};
+use civl_weighing::weight::Weight;
 use std::alloc::Global;
 
 /// Why the conditions of a program aren't listed: a formula weighs too much, that of this condition, or of the search for an
@@ -44,11 +45,18 @@ fn first_heavy(
     Ok(None)
 }
 
-/// The weight of the search for an initial store.
+/// The weight of the search for an initial store, with its variables.
+pub fn weigh_initial(tables: &Tables) -> Weight
+    ensures { IsInitial tables.now result }
+{
+    tables.bits.plus(tables.initial)
+}
+
+/// Whether the search for an initial store weighs too much.
 fn is_initial_heavy(tables: &Tables) -> bool
     ensures { IsInitialHeavy tables.now result }
 {
-    tables.bits.plus(tables.initial).is_heavy()
+    weigh_initial(tables).is_heavy()
 }
 
 /// The first formula that weighs too much, where these are the conditions.

@@ -23,7 +23,7 @@ use civl_weighing::weight::{Weight, linear};
 use std::alloc::Global;
 
 /// The step of a condition.
-pub(crate) fn step_of(condition: &Condition) -> u32
+pub fn step_of(condition: &Condition) -> u32
     ensures { result ≡ step_of condition.now }
 {
     match *condition {
@@ -339,8 +339,8 @@ fn block(
     }
 }
 
-/// The weight of a condition of this step.
-pub(crate) fn weigh(
+/// The weight of a condition of this step, with its variables.
+pub fn weigh(
     alloc: Global,
     src: &Layered,
     tables: &Tables,

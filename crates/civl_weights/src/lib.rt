@@ -5,5 +5,5 @@ mod answer;
 mod kinds;
 pub mod sums;
 
-pub use answer::{TooMuch, conditions};
-pub use kinds::{instance_bits, keep_of};
+pub use answer::{TooMuch, conditions, weigh_initial};
+pub use kinds::{instance_bits, keep_of, step_of, weigh};
