@@ -54,6 +54,11 @@ class Case(NamedTuple):
         except OSError as fault:
             raise Unreadable(f"{self.file}: line {self.line}: {name} can't be read: {fault.strerror}") from fault
 
+    def be_read(self):
+        """Stops with an error where the row isn't one of its file's head, or where its base can't be read."""
+        self.parts()
+        self.base()
+
     def text(self):
         """The base with the edits, and behind it a text, or lines, which have their ends."""
         lines = self.text_at("lines")

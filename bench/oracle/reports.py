@@ -183,7 +183,7 @@ def try_reports():
     """Tries what the cases of the tests want, and says whether values are told and nothing differs."""
     tally = Tally()
     for case in all_cases():
-        case.base()
+        case.be_read()
         lines = wanted_of(case)
         if is_of_text(case) and tells(lines):
             tally.place = f"{case.file}: row {case.number}"

@@ -5,8 +5,6 @@ from .programs import (
     DONE, Assert, Assign, Call, If, Intro, Loop, RankLoop, invariants, lower_globals, meant, statements, upper_globals)
 from .values import Applied, Constant, sort_of_value
 
-LIMIT = 400_000
-
 
 # ---- expressions
 
@@ -153,8 +151,10 @@ def join(program, proc, stmt):
 
 def of_stmt(program, proc, stmt):
     """What is counted of a statement that a path passes."""
-    if isinstance(stmt, (Assign, Assert, Loop)):
-        return 1 + weight_of(stmt.test if isinstance(stmt, (Assert, Loop)) else stmt.expr, body_sorts(proc))
+    if isinstance(stmt, Assign):
+        return 1 + weight_of(stmt.expr, body_sorts(proc))
+    if isinstance(stmt, (Assert, Loop)):
+        return 1 + weight_of(stmt.test, body_sorts(proc))
     if isinstance(stmt, Intro):
         return 1 + of_note(program, proc, stmt.expr)
     if isinstance(stmt, If):
