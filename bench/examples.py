@@ -1,17 +1,25 @@
 #!/usr/bin/env python3
-"""Runs what the documents show on the built programs: the tables of examples/README.md, and each mistake of the tutorials of docs/LANGUAGE.md.
+"""Runs what the documents show on the built programs: each block with commands, the tables of examples/README.md, and each mistake of the
+tutorials of docs/LANGUAGE.md.
 
 Usage: examples.py BINARY [LIFT]     (crates/civl/out/civl after `rt run` in crates/civl, and crates/civl_lift/out/civl_lift; without the
-second, its rows are left out)
+second, its rows and commands are left out)
 
-It prints a line for each text whose report is another than the documents say, and at last how many were tried. The exit code is 1 where some report was another.
+A block of a document is run where it has lines `$ COMMAND`: each of them at the top of the repository, with the programs on the PATH, and what
+it writes has to be the lines below it, where `..` stands for any. Commands of the kit (`rt ..`) are left out.
+
+It prints a line for each text or command whose report is another than the documents say, and at last how many were tried. The exit code is 1
+where some report was another.
 """
+import glob
 import os
 import re
 import subprocess
 import sys
+import tempfile
 
-FOLDER = os.path.join(os.path.dirname(os.path.abspath(__file__)), "..", "examples")
+TOP = os.path.abspath(os.path.join(os.path.dirname(os.path.abspath(__file__)), ".."))
+FOLDER = os.path.join(TOP, "examples")
 
 
 def example(name):
@@ -134,8 +142,52 @@ def has(lines, wanted):
     return all(line in rest for line in wanted)
 
 
+def documents():
+    return sorted(glob.glob(f"{TOP}/*.md") + glob.glob(f"{TOP}/*/*.md") + glob.glob(f"{TOP}/crates/*/README.md"))
+
+
+def commands(document):
+    """Of each block in a document the commands, each with the lines below it."""
+    with open(document) as file:
+        text = file.read()
+    for block in re.findall(r"^```[^\n]*\n(.*?)^```", text, re.DOTALL | re.MULTILINE):
+        found = re.split(r"^\$ ", block, flags=re.MULTILINE)[1:]
+        if found:
+            yield [one.partition("\n")[::2] for one in found]
+
+
+def is_written(lines, wanted):
+    """Whether these are the lines that are wanted, where `..` stands for any."""
+    if not wanted:
+        return not lines
+    if wanted[0] == "..":
+        return any(is_written(lines[at:], wanted[1:]) for at in range(len(lines) + 1))
+    return bool(lines) and lines[0] == wanted[0] and is_written(lines[1:], wanted[1:])
+
+
+def other_commands(binary, lift):
+    """For each command in a block of a document, what is told where it writes something else, and else None."""
+    with tempfile.TemporaryDirectory() as room:
+        for name in os.listdir(TOP):
+            os.symlink(f"{TOP}/{name}", f"{room}/{name}")
+        os.mkdir(f"{room}/bin")
+        for name, program in (("civl", binary), ("civl_lift", lift)):
+            if program:
+                os.symlink(os.path.abspath(program), f"{room}/bin/{name}")
+        how = {"cwd": room, "env": {**os.environ, "PATH": f"{room}/bin:{os.environ['PATH']}"}, "capture_output": True, "text": True}
+        for document in documents():
+            for block in commands(document):
+                for command, wanted in block:
+                    if command.startswith("rt ") or "civl_lift" in command and not lift:
+                        continue
+                    lines = subprocess.run(["bash", "-c", command], **how).stdout.splitlines()
+                    is_right = is_written(lines, wanted.splitlines())
+                    yield None if is_right else f"{os.path.relpath(document, TOP)}: {command} writes {lines}"
+
+
 def other_reports(binary, lift):
     """For each text, what is told of its report where it is another, and else None."""
+    yield from other_commands(binary, lift)
     for name, words, wanted in tables():
         program = lift if words == ["lift"] else binary
         if not program:

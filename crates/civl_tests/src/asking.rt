@@ -4,7 +4,7 @@ use crate::case::{Case, number_at, text_at};
 use crate::provers::stranger_named;
 use civl_command::command;
 use civl_lift_command::lift_command;
-use civl_outside::{MemorySink, MemorySource};
+use civl_outside::{MemorySink, MemorySource, PlainSink, Sink};
 use civl_portfolio::Prover;
 use civl_tree::both;
 use std::alloc::{AllocError, Global};
@@ -56,10 +56,23 @@ fn source(alloc: Global, case: Case<'_>, text: &[u8]) -> Result<MemorySource, Al
     Ok(MemorySource::new(text.to_vec(alloc)?, PIECE, failing))
 }
 
-/// A sink with the room `room`, where the write with the number `write` fails.
+/// How many bytes a sink takes: `room`, or else as many as are kept.
+fn room(case: Case<'_>) -> usize {
+    number_at(case, "room").unwrap_or(ROOM)
+}
+
+/// A sink with this room, where the write with the number `write` fails.
 fn sink(alloc: Global, case: Case<'_>) -> Result<MemorySink, AllocError> {
     let failing = failing(alloc, number_at(case, "write"))?;
-    match MemorySink::new(alloc, number_at(case, "room").unwrap_or(ROOM), failing) {
+    match MemorySink::new(alloc, room(case), failing) {
+        Ok(sink) => Ok(sink),
+        Err(_) => Err(AllocError),
+    }
+}
+
+/// A sink with this room, none of whose writes fails.
+fn plain_sink(alloc: Global, case: Case<'_>) -> Result<PlainSink, AllocError> {
+    match PlainSink::new(alloc, room(case)) {
         Ok(sink) => Ok(sink),
         Err(_) => Err(AllocError),
     }
@@ -75,12 +88,12 @@ fn left(token: &Rc<u8>, count: usize) -> usize {
 }
 
 /// The code that `civl`, or the program that the case names, ends with, and how many of the case's provers are left.
-fn ended(
+fn ended<K: Sink>(
     alloc: Global,
     case: Case<'_>,
     words: &Vec<String>,
     source: &mut MemorySource,
-    sink: &mut MemorySink,
+    sink: &mut K,
 ) -> Result<(u8, usize), AllocError> {
     let token = Rc::new(alloc, 0u8)?;
     let mut provers: Vec<Box<dyn Prover>> = Vec::new(alloc);
@@ -96,15 +109,34 @@ fn ended(
 }
 
 /// The same on a text, where the words are those of a line.
-fn answered(
+fn answered<K: Sink>(
     alloc: Global,
     case: Case<'_>,
     line: &str,
     text: &[u8],
-    sink: &mut MemorySink,
+    sink: &mut K,
 ) -> Result<(u8, usize), AllocError> {
     let (words, mut source) = both(words(alloc, line), source(alloc, case, text))?;
     ended(alloc, case, &words, &mut source, sink)
+}
+
+/// What was given by this answer and these bytes.
+fn given_by(alloc: Global, answer: (u8, usize), bytes: &[u8]) -> Result<Given, AllocError> {
+    let (code, left) = answer;
+    let report = bytes.to_vec(alloc)?;
+    Ok(Given { code, report, left })
+}
+
+/// What is given to these words on a text, by a sink that only has a room.
+fn asked_plainly(
+    alloc: Global,
+    case: Case<'_>,
+    line: &str,
+    text: &[u8],
+) -> Result<Given, AllocError> {
+    let mut sink = plain_sink(alloc, case)?;
+    let answer = answered(alloc, case, line, text, &mut sink)?;
+    given_by(alloc, answer, sink.bytes())
 }
 
 /// What is given to these words on a text, with the devices and the provers that the case names.
@@ -114,8 +146,10 @@ pub(crate) fn asked(
     line: &str,
     text: &[u8],
 ) -> Result<Given, AllocError> {
+    if text_at(case, "sink") == "plain" {
+        return asked_plainly(alloc, case, line, text);
+    }
     let mut sink = sink(alloc, case)?;
-    let (code, left) = answered(alloc, case, line, text, &mut sink)?;
-    let report = sink.bytes().to_vec(alloc)?;
-    Ok(Given { code, report, left })
+    let answer = answered(alloc, case, line, text, &mut sink)?;
+    given_by(alloc, answer, sink.bytes())
 }

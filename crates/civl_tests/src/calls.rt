@@ -2,6 +2,7 @@
 
 use crate::exchanges::{failing_before_an_exchange, moves_of_additions};
 use crate::frames::{both_programs_fail, frames_before_and_inside_a_call};
+use crate::logs::a_log_is_trimmed;
 use crate::texts::base;
 use std::alloc::Global;
 use std::io;
@@ -11,6 +12,7 @@ fn hold(alloc: Global, name: &str, text: &str) -> Option<bool> {
     match name {
         "moves_of_additions" => moves_of_additions(alloc, text),
         "failing_before_an_exchange" => failing_before_an_exchange(alloc, text),
+        "a_log_is_trimmed" => a_log_is_trimmed(alloc, text),
         "both_programs_fail" => both_programs_fail(alloc, text),
         "frames_before_and_inside_a_call" => frames_before_and_inside_a_call(alloc, text),
         _ => None,

@@ -50,8 +50,7 @@ pub(crate) fn number_at(case: Case<'_>, name: &str) -> Option<usize> {
     value(case, name)?.parse::<usize>().ok()
 }
 
-/// Whether the row has as many parts as the head names.
-pub(crate) fn is_whole(case: Case<'_>) -> bool {
-    let names = in_head(case.head, "row").unwrap_or("");
-    names.split("@@").count() == case.row.split("@@").count()
+/// The names of the parts of each row.
+pub(crate) fn names_of_parts<'a>(case: Case<'a>) -> &'a str {
+    in_head(case.head, "row").unwrap_or("")
 }

@@ -1,17 +1,19 @@
 // Files of cases: a head, and behind each blank line a row (`Case`). A line is written on each file: how many rows it has, which all
-// hold, or the first that doesn't and what was given there.
+// hold, or the first that doesn't and what was given there, or the first that can't be read, which ends the run.
 //
 // What a case says, by names in the head or parts of the row: `program`, where it is `civl_lift`, and `words`; the text, of which `base` is
 // a file that comes first, `edits` are made in it, and `text` stands behind it, or `lines` with their ends (`texts`); the number of a `read`
-// or `write` that fails, and the sink's `room`; the `provers`. What is wanted is a `report`, or one that `begins` so, `has` this in it, or has
-// this `line`; a `status` other than the report's own; how many `bytes` the report has, and how many provers are `left` (`wanted`).
-// Where the head says `signs: yes`, signs in the text stand for line feeds, tabs, carriage returns and blanks (`texts`). Where there is
-// `next`, each of the 256 bytes is put behind the text, and the first fault is that byte but where it is one of these, or they are `any`.
-// Where there are `from` and `to`, the words are asked on each front of the text of so many bytes. Where there is `then`, these words are
-// asked on the report of the first ones, or, beside a `store` and `threads`, on the moves that this report lifted (`lifted`).
+// or `write` that fails, and the sink's `room`, where `sink` says `plain` of a sink that has nothing else; the `provers`. What is wanted
+// is a `report`, byte for byte, or one that `begins` so, `has` this in it, or has this `line`; a `status` other than the report's own; how
+// many first `bytes` of the report were written, and how many provers are `left` (`wanted`). Where the head says `signs: yes`, signs in the
+// text stand for line feeds, tabs, carriage returns and blanks (`texts`). Where there is `next`, each of the 256 bytes is put behind the
+// text, and the first fault is that byte but where it is one of these, or they are `any`. Where there are `from` and `to`, the words are asked
+// on each front of the text of so many bytes. Where there is `then`, these words are asked on the report of the first ones, or, beside a
+// `store` and `threads`, on the moves that this report lifted (`lifted`).
 
 use crate::asking::{Given, NOTHING, asked, report_of};
 use crate::case::{Case, number_at, text_at, value};
+use crate::faults::fault;
 use crate::lifted::unlifted;
 use crate::texts::{plain, text_of};
 use crate::wanted::{is_begun, is_wanted};
@@ -47,8 +49,8 @@ fn unwanted_front(
 
 /// Whether a report says that a certificate has its first fault at this byte.
 fn is_fault_at(alloc: Global, report: &str, place: usize) -> Result<bool, AllocError> {
-    let fault = format!(in alloc; "refused E82 at byte {place}")?;
-    Ok(report.trim() == fault.as_str())
+    let fault = format!(in alloc; "refused E82 at byte {place}\n")?;
+    Ok(report == fault.as_str())
 }
 
 /// Whether the report is right on a text that ends behind `place` with a byte that may stand there, or may not: there it has its first
@@ -123,10 +125,26 @@ fn failure(alloc: Global, case: Case<'_>, text: &str) -> Result<Option<Given>, A
     unwanted(alloc, case, text.as_bytes())
 }
 
-/// The same of a case whose text is to be read.
-fn failure_of(rt: &HostRuntime, case: Case<'_>) -> io::Result<Option<Given>> {
-    let text = text_of(rt, case)?;
-    Ok(failure(rt.alloc(), case, text.as_str())?)
+/// What came of a case: it holds; or this was given, which isn't wanted; or this of it can't be read.
+#[derive(Drop)]
+enum Outcome {
+    Holds,
+    Unwanted(Given),
+    Unread(&'static str),
+}
+
+/// What comes of a case whose text is to be read.
+fn came_of(rt: &HostRuntime, case: Case<'_>) -> io::Result<Outcome> {
+    if let Some(what) = fault(case) {
+        return Ok(Outcome::Unread(what));
+    }
+    let Some(text) = text_of(rt, case)? else {
+        return Ok(Outcome::Unread("an edit"));
+    };
+    Ok(match failure(rt.alloc(), case, text.as_str())? {
+        Some(given) => Outcome::Unwanted(given),
+        None => Outcome::Holds,
+    })
 }
 
 /// The first lines of a report behind a name, in one line.
@@ -149,16 +167,55 @@ pub(crate) fn line(
     Ok(line)
 }
 
-/// The line on the rows of a file.
-fn line_on(rt: &HostRuntime, name: &str, head: &str, rows: &str) -> io::Result<String> {
+/// How many lines a text takes.
+fn lines_of(text: &str) -> usize {
+    text.split("\n").count()
+}
+
+/// The line of a file in which the row with this number begins, counted from 1.
+fn line_of_row(head: &str, rows: &str, number: usize) -> usize {
+    let mut line = lines_of(head).saturating_add(2);
+    let mut count: usize = 1;
+    for row in rows.split("\n\n") {
+        if count < number {
+            line = line.saturating_add(lines_of(row)).saturating_add(1);
+        }
+        count = count.saturating_add(1);
+    }
+    line
+}
+
+/// A line that is written on a file of cases, and whether each row before it could be read.
+#[derive(Drop)]
+pub(crate) struct Told {
+    pub(crate) line: String,
+    pub(crate) is_read: bool,
+}
+
+/// What is told of a file whose rows hold, or of the first that doesn't.
+fn told_by(line: io::Result<String>) -> io::Result<Told> {
+    Ok(Told {
+        line: line?,
+        is_read: true,
+    })
+}
+
+/// What is told of the rows of a file.
+fn told_of_rows(rt: &HostRuntime, name: &str, head: &str, rows: &str) -> io::Result<Told> {
     let mut count: usize = 0;
     for row in rows.split("\n\n") {
         count = count.saturating_add(1);
-        if let Some(given) = failure_of(rt, Case { head, row })? {
-            return wrong_line(rt.alloc(), name, count, &given);
+        match came_of(rt, Case { head, row })? {
+            Outcome::Holds => {}
+            Outcome::Unwanted(given) => return told_by(wrong_line(rt.alloc(), name, count, &given)),
+            Outcome::Unread(what) => {
+                let at = line_of_row(head, rows, count);
+                return told_of_unread(rt.alloc(), name, at, what);
+            }
         }
     }
-    Ok(format!(in rt.alloc(); "{name}: {count} rows hold\n")?)
+    let line = format!(in rt.alloc(); "{name}: {count} rows hold\n")?;
+    told_by(Ok(line))
 }
 
 /// The line on a row that doesn't hold.
@@ -168,10 +225,19 @@ fn wrong_line(alloc: Global, name: &str, count: usize, given: &Given) -> io::Res
     Ok(line(alloc, name.as_str(), report_of(given), usize::MAX)?)
 }
 
-/// The line on a file of cases.
-pub(crate) fn line_of(rt: &HostRuntime, name: &str) -> io::Result<String> {
+/// What is told of a row that can't be read, by the line of the file in which it begins.
+fn told_of_unread(alloc: Global, name: &str, at: usize, what: &str) -> io::Result<Told> {
+    let line = format!(in alloc; "{name}.cases: the row in line {at} can't be read: {what}\n")?;
+    Ok(Told {
+        line,
+        is_read: false,
+    })
+}
+
+/// What is told of a file of cases.
+pub(crate) fn told_of(rt: &HostRuntime, name: &str) -> io::Result<Told> {
     let path = format!(in rt.alloc(); "cases/{name}.cases")?;
     let file = fs::read_to_string(rt, path.as_str())?;
     let (head, rows) = file.as_str().split_once("\n\n").unwrap_or(("", ""));
-    line_on(rt, name, head, rows)
+    told_of_rows(rt, name, head, rows)
 }

@@ -5,8 +5,9 @@
 //! a name and the first line of the answer, or, of a schedule, the first two.
 //!
 //! Behind them is a line on each file of cases, data/cases/NAME.cases: texts with the reports that `civl` and `civl_lift` give on them,
-//! devices and provers that fail, schedules that are lifted and replayed. How such a file is read, `cases` says. At last there are lines on
-//! calls of the crates that no command makes: exchanges of moves, and frames of threads.
+//! devices and provers that fail, schedules that are lifted and replayed. How such a file is read, `cases` says; a row that can't be read
+//! fails the run, with the file's name and the row's line. Lines on some files of such rows follow (data/cases/unread), behind which the run
+//! goes on. At last there are lines on calls of the crates that no command makes: exchanges of moves, and frames of threads.
 #![tactic(auto)]
 
 mod asking;
@@ -14,8 +15,10 @@ mod calls;
 mod case;
 mod cases;
 mod exchanges;
+mod faults;
 mod frames;
 mod lifted;
+mod logs;
 mod provers;
 mod runs;
 mod texts;
@@ -24,7 +27,7 @@ mod wanted;
 use asking::{asked, report_of};
 use calls::line_on_calls;
 use case::Case;
-use cases::{line, line_of};
+use cases::{line, told_of};
 use std::alloc::{AllocError, Global};
 use std::{fs, io};
 
@@ -55,6 +58,7 @@ two_phase_commit";
 /// The files of cases, each in a line.
 const CASES: &str = "\
 words
+usage_reads_nothing
 programs
 broken_rules
 gates_guards_and_updates
@@ -62,6 +66,16 @@ initial_stores
 procedures_threads_and_comments
 first_faults
 whole_texts
+spinlocks
+ranks
+movers
+a_pool_of_permissions
+permissions_that_are_given
+blocks_without_a_commit
+wide_words_and_rows
+choices_and_branches
+division_and_signed_order
+spawned_threads
 limits_of_brackets
 limits_of_threads
 limits_of_bytes
@@ -79,8 +93,15 @@ rules_that_are_kept
 no_budget
 usual_budget
 greatest_budget
+products
+trials
 flags_are_proved
 reads_are_proved
+goals_of_two_roots
+goals_that_fail
+owners_are_proved
+wide_sums_are_proved
+designs_are_proved
 refusals_come_first
 texts_are_read
 tokens_at_fault
@@ -88,6 +109,7 @@ scripts_at_fault
 schedules_of_the_flag_program
 scripts_that_do_not_fit
 schedules_of_additions
+additions_that_are_lost
 schedules_of_all_statements
 an_accepted_program_that_fails
 a_lock_that_fails_below_alone
@@ -100,6 +122,7 @@ lines_of_surveys
 a_permission_that_is_given
 budgets_of_surveys
 a_formula_weighs_too_much
+formulas_at_the_limit
 a_survey_is_cut_short
 devices_fail_under_surveys
 all_conditions_of_a_spinlock
@@ -109,16 +132,21 @@ a_certificate_with_a_search
 certificates_of_a_spinlock
 conditions_by_number
 certificates_by_hand
+certificates_clause_by_clause
+sizes_of_certificates
 texts_of_certificates
 bytes_of_certificates
 each_read_fails
 a_write_fails
 rooms_are_too_small
+rooms_of_plain_sinks
 a_trial_reads_nothing
 one_liar
 liars_about_a_spinlock
 many_liars
+provers_that_are_left
 scripts_are_answered
+a_script_of_a_rejected_program
 other_words_are_refused
 blocks_are_gathered_and_completed
 schedules_go_through_three_layers
@@ -127,10 +155,21 @@ choices_are_what_blocks_did
 threads_that_are_started_are_lifted
 blocks_that_go_on_are_told";
 
+/// Files of cases with a row that can't be read.
+const UNREAD: &str = "\
+unread/a_name_of_no_case
+unread/a_part_of_no_case
+unread/a_part_too_few
+unread/a_number_of_letters
+unread/a_repeat_without_its_end
+unread/nothing_is_wanted
+unread/an_edit_of_another_text";
+
 /// Calls that no command makes, each with the file of a program.
 const CALLS: &[(&str, &str)] = &[
     ("moves_of_additions", "additions.civl"),
     ("failing_before_an_exchange", "clearing.civl"),
+    ("a_log_is_trimmed", "redundant.certificate"),
     ("both_programs_fail", "gated.civl"),
     ("frames_before_and_inside_a_call", "gated.civl"),
 ];
@@ -203,10 +242,31 @@ fn put_designs(rt: &HostRuntime, designs: &str) -> io::Result<()> {
     Ok(())
 }
 
-/// Writes the lines of these files of cases.
+/// Writes the line on a file of cases, and answers whether each row before it could be read.
+fn put_file(rt: &HostRuntime, name: &str) -> io::Result<bool> {
+    let told = told_of(rt, name)?;
+    let line = told.line.as_str();
+    print!(rt; "{line}")?;
+    Ok(told.is_read)
+}
+
+/// Writes the lines on these files of cases. The first row that can't be read fails the run.
 fn put_cases(rt: &HostRuntime, names: &str) -> io::Result<()> {
     for name in names.split("\n") {
-        put(rt, line_of(rt, name))?;
+        if !put_file(rt, name)? {
+            return Err(io::Error::new(
+                io::ErrorKind::InvalidData,
+                "a row of a file of cases can't be read",
+            ));
+        }
+    }
+    Ok(())
+}
+
+/// Writes the lines on files whose rows can't be read, and passes on.
+fn put_unread(rt: &HostRuntime, names: &str) -> io::Result<()> {
+    for name in names.split("\n") {
+        let _is_read = put_file(rt, name)?;
     }
     Ok(())
 }
@@ -222,5 +282,6 @@ fn put_calls(rt: &HostRuntime, calls: &[(&str, &str)]) -> io::Result<()> {
 fn main(rt: HostRuntime) -> io::Result<()> {
     put_designs(&rt, DESIGNS)?;
     put_cases(&rt, CASES)?;
+    put_unread(&rt, UNREAD)?;
     put_calls(&rt, CALLS)
 }

@@ -4,16 +4,29 @@ use crate::case::{Case, text_at, value};
 use std::alloc::{AllocError, Global};
 use std::{fs, io};
 
-/// The text with each edit made in turn, at the first place where its old text stands. An edit is `OLD @ NEW`, and `@and`
-/// stands between two.
-fn edited(alloc: Global, text: &str, edits: &str) -> Result<String, AllocError> {
+/// The old and the new text of an edit, `OLD @ NEW`, where the old one stands in a text.
+fn edit_in<'a>(text: &str, edit: &'a str) -> Option<(&'a str, &'a str)> {
+    let (old, new) = edit.split_once("@")?;
+    if text.contains(old.trim()) {
+        Some((old.trim(), new.trim()))
+    } else {
+        None
+    }
+}
+
+/// The text with each edit made in turn, at the first place where its old text stands, if it stands there; `@and` stands between two.
+fn edited(alloc: Global, text: &str, edits: &str) -> Result<Option<String>, AllocError> {
     let mut text = String::from_str(alloc, text)?;
+    if edits.is_empty() {
+        return Ok(Some(text));
+    }
     for edit in edits.split("@and") {
-        if let Some((old, new)) = edit.split_once("@") {
-            text = text.replacen(alloc, old.trim(), new.trim(), 1)?;
+        match edit_in(text.as_str(), edit) {
+            Some((old, new)) => text = text.replacen(alloc, old, new, 1)?,
+            None => return Ok(None),
         }
     }
-    Ok(text)
+    Ok(Some(text))
 }
 
 /// Puts a text behind another as often as is said: `NUMBER TEXT`.
@@ -75,15 +88,23 @@ pub(crate) fn base(rt: &HostRuntime, name: &str) -> io::Result<String> {
     fs::read_to_string(rt, path.as_str())
 }
 
-/// The text of a case: the base with the edits, and behind it a text, or lines, which have their ends.
-pub(crate) fn text_of(rt: &HostRuntime, case: Case<'_>) -> io::Result<String> {
-    let base = base(rt, text_at(case, "base"))?;
-    let mut text = edited(rt.alloc(), base.as_str(), text_at(case, "edits"))?;
-    put(&mut text, plain(rt.alloc(), case, "text")?.as_str())?;
+/// Puts behind a text what the case says: a text, or lines, which have their ends.
+fn put_rest(alloc: Global, case: Case<'_>, text: &mut String) -> Result<(), AllocError> {
+    put(text, plain(alloc, case, "text")?.as_str())?;
     let lines = text_at(case, "lines");
     if !lines.is_empty() {
         text.push_str(lines)?;
         text.push_str("\n")?;
     }
-    Ok(text)
+    Ok(())
+}
+
+/// The text of a case: the base with the edits, and what stands behind it. There is none where an edit's old text isn't there.
+pub(crate) fn text_of(rt: &HostRuntime, case: Case<'_>) -> io::Result<Option<String>> {
+    let base = base(rt, text_at(case, "base"))?;
+    let Some(mut text) = edited(rt.alloc(), base.as_str(), text_at(case, "edits"))? else {
+        return Ok(None);
+    };
+    put_rest(rt.alloc(), case, &mut text)?;
+    Ok(Some(text))
 }

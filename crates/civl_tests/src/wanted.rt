@@ -1,7 +1,7 @@
 // What cases want.
 
 use crate::asking::{Given, report_of};
-use crate::case::{Case, is_whole, number_at, text_at, value};
+use crate::case::{Case, number_at, text_at, value};
 use civl_command::Status;
 
 /// The code of the status that a report belongs to.
@@ -41,14 +41,32 @@ fn lines_at(report: &str, line: &str) -> usize {
     count
 }
 
-/// Whether a report is `report`, but for blanks around it; or begins with `begins`, or has the text `has` in it, or has the line `line`
-/// once.
+/// Whether what was given is these lines, byte for byte, each with the line feed at its end; where there are none, nothing.
+fn is_whole(given: &str, lines: &str) -> bool {
+    if lines.is_empty() {
+        return given.is_empty();
+    }
+    given.strip_suffix("\n") == Some(lines)
+}
+
+/// Whether what was given is these lines, or, where it is said how many bytes were written, so many first bytes of them.
+fn is_written(case: Case<'_>, given: &str, lines: &str) -> bool {
+    match number_at(case, "bytes") {
+        Some(count) => {
+            given.len() == count && (is_whole(given, lines) || lines.starts_with(given))
+        }
+        None => is_whole(given, lines),
+    }
+}
+
+/// Whether a report is `report`, byte for byte; or has the line `line` once, and begins with `begins` where that is said too; or has the text
+/// `has` in it; or begins with `begins`.
 fn is_told(case: Case<'_>, report: &str) -> bool {
-    if let Some(whole) = value(case, "report") {
-        return report.trim() == whole;
+    if let Some(lines) = value(case, "report") {
+        return is_written(case, report, lines);
     }
     if let Some(line) = value(case, "line") {
-        return lines_at(report, line) == 1;
+        return lines_at(report, line) == 1 && report.starts_with(text_at(case, "begins"));
     }
     if let Some(part) = value(case, "has") {
         return report.contains(part);
@@ -72,8 +90,7 @@ fn is_number(case: Case<'_>, name: &str, number: usize) -> bool {
 /// Whether what was given is what the case wants.
 pub(crate) fn is_wanted(case: Case<'_>, given: &Given) -> bool {
     let report = report_of(given);
-    is_whole(case)
-        && is_code(case, given.code)
+    is_code(case, given.code)
         && is_told(case, report)
         && is_number(case, "bytes", report.len())
         && is_number(case, "left", given.left)
