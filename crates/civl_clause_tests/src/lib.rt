@@ -1,4 +1,5 @@
-//! Tests of words, gates, clauses, the search and the text of certificates, on small tables that were worked out by hand.
+//! Tests of words, gates, clauses, the search and the text of certificates, on small tables that were worked out by hand; and what a graph
+//! of terms weighs, for programs that try terms ([`measuring`]).
 #![tactic(auto)]
 
 #[cfg(test)]
@@ -13,8 +14,7 @@ mod folding;
 mod lexing;
 #[cfg(test)]
 mod logs;
-#[cfg(test)]
-mod measuring;
+pub mod measuring;
 #[cfg(test)]
 mod provers;
 #[cfg(test)]
