@@ -1,6 +1,9 @@
 // Calls that no command makes, and whether they answer what they have to.
 
-use crate::exchanges::{failing_before_an_exchange, moves_of_additions};
+use crate::exchanges::{
+    failing_before_an_exchange, failing_on_the_way_to_the_front, moves_of_additions,
+    neighbours_of_a_gate, neighbours_of_additions,
+};
 use crate::frames::{both_programs_fail, frames_before_and_inside_a_call};
 use crate::logs::a_log_is_trimmed;
 use crate::texts::base;
@@ -11,8 +14,11 @@ use std::io;
 fn hold(alloc: Global, name: &str, text: &str) -> Option<bool> {
     match name {
         "moves_of_additions" => moves_of_additions(alloc, text),
+        "neighbours_of_additions" => neighbours_of_additions(alloc, text),
+        "neighbours_of_a_gate" => neighbours_of_a_gate(alloc, text),
         "failing_before_an_exchange" => failing_before_an_exchange(alloc, text),
         "a_log_is_trimmed" => a_log_is_trimmed(alloc, text),
+        "failing_on_the_way_to_the_front" => failing_on_the_way_to_the_front(alloc, text),
         "both_programs_fail" => both_programs_fail(alloc, text),
         "frames_before_and_inside_a_call" => frames_before_and_inside_a_call(alloc, text),
         _ => None,

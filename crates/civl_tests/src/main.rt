@@ -168,7 +168,10 @@ unread/an_edit_of_another_text";
 /// Calls that no command makes, each with the file of a program.
 const CALLS: &[(&str, &str)] = &[
     ("moves_of_additions", "additions.civl"),
+    ("neighbours_of_additions", "additions.civl"),
+    ("neighbours_of_a_gate", "gated.civl"),
     ("failing_before_an_exchange", "clearing.civl"),
+    ("failing_on_the_way_to_the_front", "clearing.civl"),
     ("a_log_is_trimmed", "redundant.certificate"),
     ("both_programs_fail", "gated.civl"),
     ("frames_before_and_inside_a_call", "gated.civl"),
