@@ -22,6 +22,8 @@ mod searching;
 #[cfg(test)]
 mod strangers;
 #[cfg(test)]
+mod tellers;
+#[cfg(test)]
 mod terms;
 #[cfg(test)]
 mod words;
