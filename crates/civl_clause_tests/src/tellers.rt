@@ -1,6 +1,11 @@
-// Provers that tell what they will answer, asked alone.
-ghost use Rattle.std.specs.Prelude.{[], Some, true, false, nat_eq, if◌then◌else◌};
+// Provers that tell what they will answer, asked alone: what the contract of asking says of them.
+ghost use Rattle.std.specs.Prelude.{◌≡◌, ◌≢◌, ℕ, Bool, [], IfOk, Some, true, false, nat_eq, if◌then◌else◌};
 ghost use Rattle.civl_portfolio.specs.declared.attempt.Attempt.TheVariants as attempt;
+ghost use Rattle.civl_cnf.specs.ClauseSet.{ClauseSet};
+ghost use Rattle.civl_portfolio.specs.declared.attempt.Attempt.{Attempt};
+ghost use Rattle.civl_portfolio.specs.Attempt.{IsRefused};
+ghost use Rattle.civl_clause_tests.specs.Alone.{IsGoneOrLacks, IsLeft};
+ghost use Rattle.civl_outside.specs.Count.{count_up};
 
 use crate::dimacs::{PIGEONS, cnf_of};
 use civl_cdcl::Outcome;
@@ -81,13 +86,16 @@ impl Prover for ThirdLiar {
 /// What was answered where a prover was asked alone, and who is left.
 type Alone = (Asked, Vec<Box<dyn Prover>>);
 
-/// Asks a prover alone.
+/// Asks a prover alone. One that tells of a certificate that is refused is gone, or else it lacked memory; one that tells of any other answer is left, and was asked once more.
 fn ask_alone(
     alloc: Global,
     prover: Box<dyn Prover>,
     cnf: &Cnf,
     budget: u32,
-) -> Result<Alone, Memory> {
+) -> Result<Alone, Memory>
+    ensures gone { (told : ClauseSet → ℕ → Attempt) (lacked : ℕ) → plan prover ≡ Some told → lacks prover ≡ lacked → IsRefused cnf.now (told cnf.now budget) → IfOk result (λ r. IsGoneOrLacks r.1.items r.0.retired lacked (record { asked = asked; lacks = lacks; honest = honest; plan = plan })) }
+    ensures left { (told : ClauseSet → ℕ → Attempt) (calls : ℕ) (is_honest : Bool) → plan prover ≡ Some told → asked prover ≡ calls → honest prover ≡ is_honest → (IsRefused cnf.now (told cnf.now budget) → ⊥) → IfOk result (λ r. IsLeft r.1.items r.0.retired (count_up calls) is_honest (record { asked = asked; lacks = lacks; honest = honest; plan = plan })) }
+{
     let mut provers = Vec::new(alloc);
     let Ok(()) = provers.push(prover) else {
         return Err(Memory);
@@ -96,23 +104,59 @@ fn ask_alone(
     Ok((asked, provers))
 }
 
-fn liar_alone(alloc: Global, cnf: &Cnf, budget: u32) -> Result<Alone, Memory> {
-    let Ok(liar) = Box::new(alloc, Liar { asked: 0 }) else {
+/// The liar, in a box.
+fn boxed_liar(alloc: Global) -> Result<Box<dyn Prover>, AllocError>
+    ensures tells { IfOk result (λ p. plan p ≡ Some (λ _ _. attempt.Unsat [])) }
+    ensures lacked { IfOk result (λ p. lacks p ≡ 0) }
+{
+    Ok(Box::new(alloc, Liar { asked: 0 })?)
+}
+
+/// Asks the liar alone: it is gone, or else it lacked memory.
+fn liar_alone(alloc: Global, cnf: &Cnf, budget: u32) -> Result<Alone, Memory>
+    ensures gone { IfOk result (λ r. IsGoneOrLacks r.1.items r.0.retired 0 (record { asked = asked; lacks = lacks; honest = honest; plan = plan })) }
+{
+    let Ok(liar) = boxed_liar(alloc) else {
         return Err(Memory);
     };
     ask_alone(alloc, liar, cnf, budget)
 }
 
-fn idler_alone(alloc: Global, cnf: &Cnf, budget: u32) -> Result<Alone, Memory> {
-    let Ok(idler) = Box::new(alloc, Idler { asked: 0 }) else {
+/// The honest prover, in a box.
+fn boxed_idler(alloc: Global) -> Result<Box<dyn Prover>, AllocError>
+    ensures tells { IfOk result (λ p. plan p ≡ Some (λ _ _. attempt.GaveUp)) }
+    ensures often { IfOk result (λ p. asked p ≡ 0) }
+    ensures honest { IfOk result (λ p. honest p ≡ true) }
+{
+    Ok(Box::new(alloc, Idler { asked: 0 })?)
+}
+
+/// Asks the honest prover alone: it is left, and was asked once.
+fn idler_alone(alloc: Global, cnf: &Cnf, budget: u32) -> Result<Alone, Memory>
+    ensures left { IfOk result (λ r. IsLeft r.1.items r.0.retired 1 true (record { asked = asked; lacks = lacks; honest = honest; plan = plan })) }
+{
+    let Ok(idler) = boxed_idler(alloc) else {
         return Err(Memory);
     };
     ask_alone(alloc, idler, cnf, budget)
 }
 
-/// The prover that lies at its third call, which was asked so often.
-fn third_liar_alone(alloc: Global, asked: u64, cnf: &Cnf, budget: u32) -> Result<Alone, Memory> {
-    let Ok(prover) = Box::new(alloc, ThirdLiar { asked }) else {
+/// The prover that lies at its third call, in a box, as it is after so many calls.
+fn boxed_third_liar(alloc: Global, calls: u64) -> Result<Box<dyn Prover>, AllocError>
+    ensures tells { IfOk result (λ p. plan p ≡ Some (λ _ _. if nat_eq calls 2 then attempt.Unsat [] else attempt.GaveUp)) }
+    ensures lacked { IfOk result (λ p. lacks p ≡ 0) }
+    ensures often { IfOk result (λ p. asked p ≡ calls) }
+    ensures honest { IfOk result (λ p. honest p ≡ false) }
+{
+    Ok(Box::new(alloc, ThirdLiar { asked: calls })?)
+}
+
+/// Asks the prover alone that lies at its third call, after so many calls: at the third it is gone, or else it lacked memory, and at any other it is left.
+fn third_liar_alone(alloc: Global, calls: u64, cnf: &Cnf, budget: u32) -> Result<Alone, Memory>
+    ensures gone { calls ≡ 2 → IfOk result (λ r. IsGoneOrLacks r.1.items r.0.retired 0 (record { asked = asked; lacks = lacks; honest = honest; plan = plan })) }
+    ensures left { calls ≢ 2 → IfOk result (λ r. IsLeft r.1.items r.0.retired (count_up calls) false (record { asked = asked; lacks = lacks; honest = honest; plan = plan })) }
+{
+    let Ok(prover) = boxed_third_liar(alloc, calls) else {
         return Err(Memory);
     };
     ask_alone(alloc, prover, cnf, budget)
