@@ -1,6 +1,6 @@
 #!/usr/bin/env python3
-"""Runs what the documents show on the built programs: each block with commands, the tables of examples/README.md, and each mistake of the
-tutorials of docs/LANGUAGE.md.
+"""Runs what the documents show on the built programs: each block with commands, the tables of examples/README.md, each step and mistake of
+docs/TUTORIAL.md, and each change of docs/CONDITIONS.md that violates a condition.
 
 Usage: examples.py BINARY [LIFT]     (crates/civl/out/civl after `rt run` in crates/civl, and crates/civl_lift/out/civl_lift; without the
 second, its rows and commands are left out)
@@ -8,7 +8,10 @@ second, its rows and commands are left out)
 A block of a document is run where it has lines `$ COMMAND`: each of them at the top of the repository, with the programs on the PATH, and what
 it writes has to be the lines below it, where `..` stands for any. Commands of the kit (`rt ..`) are left out.
 
-It prints a line for each text or command whose report is another than the documents say, and at last how many were tried. The exit code is 1
+In docs/TUTORIAL.md a block without commands is a part of the text of which the next command in a block speaks: its lines stand in that
+text, in their order. One that begins with `rejected` is what `check` prints of the next of STEPS.
+
+It prints a line for each part, text or command whose report is another than the documents say, and at last how many were tried. The exit code is 1
 where some report was another.
 """
 import glob
@@ -46,6 +49,7 @@ RANK_INVARIANT = " ((serving == old(serving)) && (owner == old(owner)))))"
 NO_ONE_HAS_TWO = re.search(r"// No thread owns two.*?(?=// Between)", example(TICKET), re.DOTALL)[0]
 INVARIANT_2 = re.search(r"invariant 2.*\n", example(TICKETS))[0]
 DRAWN, ALONE = re.findall(r"// [^\n]*\n((?:invariant 1.*\n(?:  .*\n)*)+)", example(TICKETS))
+OTHER_THAN_DONE = ("inv (turn == done)", "inv true")
 NO_ONE_WAITS = re.search(r"// Between.*?(?=action)", example(TICKET), re.DOTALL)[0]
 
 # What is put in the place of what, and lines of the report of `conditions`, which follow one another from each name on.
@@ -109,6 +113,41 @@ MISTAKES = [
     (TICKETS, [(INVARIANT_2, ""), ("  layers 1 to 1 right", "  layers 1 to 1 atomic")], "refused E50 at item 23 statement 1"),
 ]
 
+# The same of the steps of the tutorial whose reports `check` prints, in the order of docs/TUTORIAL.md.
+STEPS = [
+    ("tickets_3.civl", [(ALONE, "")]),
+    ("tickets_4.civl", [OTHER_THAN_DONE]),
+    (TICKETS, [(INVARIANT_2, "")]),
+]
+
+# What is put in the place of what in the frame of docs/CONDITIONS.md, for each row of "What violates each", in its order.
+ADD, GET = "action Add(val d : word(2)) -> () choose () layers 0 to 0", "action Get() -> (val v : word(2)) choose () layers 0 to 0"
+BEHIND_INIT, BEHIND_COMMIT = "init true;\n", "commit; }"
+SET = ("action Step", "action Set() -> () choose () layers 0 to 1 atomic gate true guard true { x := 1:2; }\naction Step")
+AT_ZERO = (BEHIND_INIT, "init (x == 0:2);\ninvariant 1 (x == 0:2);\n")
+VIOLATING = [
+    [(BEHIND_INIT, "init true;\ninvariant 1 (x == 0:2);\n")],
+    [(BEHIND_INIT, "global linear pool : word(4) layers 0 to 1;\n" + BEHIND_INIT),
+     ("action Step", "action Lose(lend t : word(2)) -> () choose () layers 0 to 0 atomic gate true guard true "
+      "{ pool := (1:4 << widen(t, 4)); }\naction Step")],
+    [(f"{ADD} atomic", f"{ADD} right")],
+    [(f"{ADD} atomic", f"{ADD} right"), (f"{GET} atomic gate true", f"{GET} atomic gate (x == 0:2)")],
+    [(f"{GET} atomic", f"{GET} left")],
+    [(f"{GET} atomic gate true", f"{GET} left gate (x == 0:2)")],
+    [(f"{ADD} atomic", f"{ADD} left"), (f"{GET} atomic gate true", f"{GET} atomic gate (x == 1:2)")],
+    [(f"{GET} atomic gate true guard true", f"{GET} left gate true guard (x == 0:2)")],
+    [(f"{ADD} atomic gate true", f"{ADD} atomic gate (x == 0:2)")],
+    [(BEHIND_COMMIT, "commit; yield (x == 0:2); }")],
+    [(BEHIND_COMMIT, "}")],
+    [("{ call Add(1:2)", "{ call Add(1:2) -> (); yield true; call Add(1:2)")],
+    [("call Add(1:2)", "call Add(2:2)")],
+    [("{ call", "{ var b : bool; var r : word(2); call"), (BEHIND_COMMIT, "commit; while rank b by r inv done { } }")],
+    [AT_ZERO],
+    [(BEHIND_COMMIT, "commit; yield (x == 1:2); }")],
+    [AT_ZERO, SET],
+    [SET, (BEHIND_COMMIT, "commit; yield (x == 0:2); }")],
+]
+
 # The same of outlines, and lines of the report of `prove`.
 OUTLINE = "lock_outline.civl"
 HELD = "((t != 0:2) && (lock == t))"
@@ -146,11 +185,18 @@ def documents():
     return sorted(glob.glob(f"{TOP}/*.md") + glob.glob(f"{TOP}/*/*.md") + glob.glob(f"{TOP}/crates/*/README.md"))
 
 
-def commands(document):
+def document(name):
+    with open(os.path.join(TOP, name)) as file:
+        return file.read()
+
+
+def blocks(text):
+    return re.findall(r"^```[^\n]*\n(.*?)^```", text, re.DOTALL | re.MULTILINE)
+
+
+def commands(text):
     """Of each block in a document the commands, each with the lines below it."""
-    with open(document) as file:
-        text = file.read()
-    for block in re.findall(r"^```[^\n]*\n(.*?)^```", text, re.DOTALL | re.MULTILINE):
+    for block in blocks(text):
         found = re.split(r"^\$ ", block, flags=re.MULTILINE)[1:]
         if found:
             yield [one.partition("\n")[::2] for one in found]
@@ -175,19 +221,63 @@ def other_commands(binary, lift):
             if program:
                 os.symlink(os.path.abspath(program), f"{room}/bin/{name}")
         how = {"cwd": room, "env": {**os.environ, "PATH": f"{room}/bin:{os.environ['PATH']}"}, "capture_output": True, "text": True}
-        for document in documents():
-            for block in commands(document):
+        for path in documents():
+            for block in commands(document(path)):
                 for command, wanted in block:
                     if command.startswith("rt ") or "civl_lift" in command and not lift:
                         continue
                     lines = subprocess.run(["bash", "-c", command], **how).stdout.splitlines()
                     is_right = is_written(lines, wanted.splitlines())
-                    yield None if is_right else f"{os.path.relpath(document, TOP)}: {command} writes {lines}"
+                    yield None if is_right else f"{os.path.relpath(path, TOP)}: {command} writes {lines}"
+
+
+def plain_lines(text):
+    """The lines without comments and what blanks stand around them."""
+    return [line.partition("//")[0].strip() for line in text.splitlines()]
+
+
+def other_parts():
+    """For each part of a text in the tutorial, what is told of it where its lines aren't those of the text, and else None."""
+    ahead = []
+    for block in blocks(document("docs/TUTORIAL.md")):
+        named = re.search(r"^\$ .*<.*?examples/(\S+)", block, re.MULTILINE)
+        if named:
+            lines = plain_lines(example(named[1]))
+            yield from (None if has(lines, plain_lines(part)) else f"{named[1]}: this isn't in it: {part}" for part in ahead)
+            ahead = []
+        elif not re.match("rejected |K", block):
+            ahead.append(block)
+    yield f"docs/TUTORIAL.md: behind the last command stands {ahead}" if ahead else None
+
+
+def other_steps(binary):
+    """The same of the steps of the tutorial."""
+    shown = [block for block in blocks(document("docs/TUTORIAL.md")) if block.startswith("rejected ")]
+    assert len(shown) == len(STEPS)
+    for block, (name, changes) in zip(shown, STEPS):
+        lines = run(binary, ["check"], with_changes(example(name), changes))
+        yield None if lines == block.splitlines() else f"{name} with {changes}: check prints {lines}"
+
+
+def other_conditions(binary):
+    """The same of the changes by which a condition is violated."""
+    text = document("docs/CONDITIONS.md").partition("## What violates each\n")[2]
+    names = re.findall(r"^\| `(K.*?)`", text.partition("\n## ")[0], re.MULTILINE)
+    frame = blocks(text)[0]
+    assert len(names) == len(VIOLATING)
+    lines = run(binary, ["conditions"], frame)
+    yield None if lines[-1].endswith(" hold, 0 fail, 0 undecided") else f"docs/CONDITIONS.md: the frame: {lines}"
+    for name, changes in zip(names, VIOLATING):
+        lines = run(binary, ["conditions"], with_changes(frame, changes))
+        yield None if f"{name}: fails" in lines else f"docs/CONDITIONS.md: {name}: {lines}"
 
 
 def other_reports(binary, lift):
     """For each text, what is told of its report where it is another, and else None."""
+    yield from other_parts()
     yield from other_commands(binary, lift)
+    yield from other_steps(binary)
+    yield from other_conditions(binary)
     for name, words, wanted in tables():
         program = lift if words == ["lift"] else binary
         if not program:

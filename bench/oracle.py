@@ -8,13 +8,13 @@ Usage: oracle.py TEXT ROW ..        (a file with a program, and beginnings of th
        oracle.py --tests
        oracle.py --reports
 
-What a program does, what its conditions and an outline's goals ask, and what their formulas weigh is taken from docs/LANGUAGE.md: actions
-are fired in stores, and bodies are walked statement by statement, at one list of values after the other. The formula of a condition or goal
-is true at the values that violate it, and the formula `initial` where a store is initial. For each ROW one line: how many formulas with few
-values have a name that begins so, at how many of the lists of values of their variables they are true, the sum of the numbers of these
-lists, and the weights of all formulas with such a name. The variables stand in the order that docs/LANGUAGE.md tells ("When a condition
-fails"), and the lists are numbered from 0, the first variable changing the fastest. A formula with more than 4,096 lists of values, or with
-a variable that is neither a bool nor a word of at most 4 bits, isn't counted.
+What a program does, what its conditions and an outline's goals ask, and what their formulas weigh is taken from docs/CONDITIONS.md and
+docs/LANGUAGE.md: actions are fired in stores, and bodies are walked statement by statement, at one list of values after the other. The
+formula of a condition or goal is true at the values that violate it, and the formula `initial` where a store is initial. For each ROW one
+line: how many formulas with few values have a name that begins so, at how many of the lists of values of their variables they are true, the
+sum of the numbers of these lists, and the weights of all formulas with such a name. The variables stand in the order that
+docs/CONDITIONS.md tells ("When a condition fails"), and the lists are numbered from 0, the first variable changing the fastest. A formula
+with more than 4,096 lists of values, or with a variable that is neither a bool nor a word of at most 4 bits, isn't counted.
 
 --weights prints the name and the weight of each formula, --goals the name and the variables of each goal, in the order of the lists.
 

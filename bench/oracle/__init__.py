@@ -1,4 +1,4 @@
-"""What docs/LANGUAGE.md says of programs, their conditions and their goals, worked out at one list of values after the other.
+"""What docs/LANGUAGE.md and docs/CONDITIONS.md say of programs, their conditions and goals, worked out at one list of values after the other.
 
 `values` has sorts, operators and expressions, `programs` what a text is read as, `reading` its reader, `actions` permissions and what
 actions do, `paths` bodies on their way, `conditions` the list of conditions, `goals` that of an outline's goals, and `weights` what they

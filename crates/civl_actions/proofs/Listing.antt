@@ -36,7 +36,7 @@ use Rattle.civl_terms.proofs.Soundness.{sort_is}
 use Rattle.civl_actions.specs.declared.scope.Scope.{Scope}
 use Rattle.civl_actions.specs.Scopes.{AreOf, meant, ScopeFits, IsTyped, Means}
 use Rattle.civl_actions.specs.Actions.{values_at}
-use Rattle.civl_actions.specs.Steps.{AreZeros, AreOffered, AreUpdated}
+use Rattle.civl_actions.specs.inner.Steps.{AreZeros, AreOffered, AreUpdated}
 use Rattle.civl_actions.proofs.Staying.{are_stay, values_stay, meant_stays, fits_stay}
 use Rattle.civl_actions.proofs.Rules.{Kept, out_apart, offer_typed, offer_sorted, update_typed, update_sorted}
 

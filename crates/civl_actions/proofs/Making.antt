@@ -30,7 +30,7 @@ use Rattle.civl_actions.specs.declared.scope.Scope.{Scope}
 use Rattle.civl_actions.specs.declared.named.Named.{Named}
 use Rattle.civl_actions.specs.Scopes.{names_in, meant, StandsAt, AreOf, ScopeFits, IsTyped, Means}
 use Rattle.civl_actions.specs.Actions.{values_at, store_at, IsGate, IsGuard, AreOffers, IsChange}
-use Rattle.civl_actions.specs.Steps.{AreZeros, IsNamed, AreOffered, AreUpdated}
+use Rattle.civl_actions.specs.inner.Steps.{AreZeros, IsNamed, AreOffered, AreUpdated}
 use Rattle.civl_actions.proofs.Building.{truth_value}
 use Rattle.civl_actions.proofs.Staying.{are_within, are_stay, values_stay}
 use Rattle.civl_actions.proofs.Rules.{Kept, gate_typed, gate_sort, guard_typed, guard_sort}

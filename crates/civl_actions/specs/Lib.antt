@@ -1,3 +1,3 @@
 pub mod Scopes
 pub mod Actions
-pub mod Steps
+pub mod inner

@@ -8,7 +8,7 @@ ghost use Rattle.civl_terms.specs.Building.{Grows};
 ghost use Rattle.civl_terms.specs.Weights.{graph_weight};
 ghost use Rattle.civl_actions.specs.Scopes.{AreOf};
 ghost use Rattle.civl_actions.specs.Actions.{IsGate, IsGuard, AreOffers, IsChange, IsInstance, LeavesOthers};
-ghost use Rattle.civl_actions.specs.Steps.{IsActionOf};
+ghost use Rattle.civl_actions.specs.inner.Steps.{IsActionOf};
 
 use crate::made::{Changed, Instance};
 use crate::parts::{gate_of, guard_of, offers_of, updates_of};

@@ -5,7 +5,7 @@ ghost use Rattle.civl_firing.specs.values.Values.{is_sort};
 ghost use Rattle.civl_firing.specs.Scope.{choice_names};
 ghost use Rattle.civl_terms.specs.Building.{Grows};
 ghost use Rattle.civl_actions.specs.Scopes.{names_in};
-ghost use Rattle.civl_actions.specs.Steps.{AreZeros, IsNamed};
+ghost use Rattle.civl_actions.specs.inner.Steps.{AreZeros, IsNamed};
 
 use crate::scope::Scope;
 use civl_bits::Value;

@@ -9,7 +9,7 @@ ghost use Rattle.civl_terms.specs.Building.{Grows};
 ghost use Rattle.civl_terms.specs.Weights.{graph_weight};
 ghost use Rattle.civl_actions.specs.Scopes.{AreOf, ScopeFits};
 ghost use Rattle.civl_actions.specs.Actions.{IsGate, IsGuard, AreOffers, IsChange, LeavesOthers};
-ghost use Rattle.civl_actions.specs.Steps.{IsActionOf, AreOffered, AreUpdated};
+ghost use Rattle.civl_actions.specs.inner.Steps.{IsActionOf, AreOffered, AreUpdated};
 
 use crate::expressions::term;
 use crate::made::Changed;

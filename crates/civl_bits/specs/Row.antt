@@ -1,3 +1,4 @@
+-- Part of the claim: docs/CLAIM.md.
 -- Rows are the arrays of SMT-LIB (theory ArraysEx) from words of `index` bits to words of `width` bits.
 use Rattle.std.specs.Prelude.{◌≡◌, ℕ, ◌-◌, ◌^◌, ◌≤◌, ◌<◌, Bool, ◌&&◌, nat_eq, List, ◌++◌, length, take, replicate, slice_index, slice_set}
 use Rattle.std.specs.Cmp.{IsEquivalence}

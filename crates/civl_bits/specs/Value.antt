@@ -1,3 +1,4 @@
+-- Part of the claim: docs/CLAIM.md.
 -- Values: which there are, and which are the same. Sorts are those of a program's text (civl_tree).
 use Rattle.std.specs.Prelude.{Bool, false, not, if◌then◌else◌}
 use Rattle.civl_bits.specs.Word.{IsWord, same_word}

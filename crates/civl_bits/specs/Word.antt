@@ -1,3 +1,4 @@
+-- Part of the claim: docs/CLAIM.md.
 -- Words are the fixed-size bit vectors of SMT-LIB (theory FixedSizeBitVectors). A word is the pair of its
 -- width and its value, the number that the standard's bv2nat gives. Each operation is stated on numbers,
 -- and the standard's name stands beside it: `w` is the width, and `a` and `b` are values below 2 ^ w.

@@ -18,7 +18,7 @@ use Rattle.civl_blast.specs.reach.Marks.{marked, IsMarking}
 use Rattle.civl_blast.specs.rows.Cells.{cells_in}
 use Rattle.civl_blast.specs.declared.blasted.Place.{Place}
 use Rattle.civl_blast.specs.Standing.{cell_bits, IsPlaced, ShowAll, HasPlaces, StandsFor, GivesValues, IsSmall}
-use Rattle.civl_blast.specs.Steps.{input_bits, inputs_before, places_before, IsCircuit}
+use Rattle.civl_blast.specs.inner.Steps.{input_bits, inputs_before, places_before, IsCircuit}
 use Rattle.civl_blast.proofs.Reading.{marked_within, values_read, values_are_read, values_fit}
 use Rattle.civl_blast.proofs.Weighing.{inputs_next, inputs_less}
 use Rattle.civl_blast.proofs.Laying.{variable_plain, places_all, no_place, place_at, ArePlain, inputs_from_places, places_from_inputs, inputs_agree, input_values, values_show, inputs_kept}

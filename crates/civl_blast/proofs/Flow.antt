@@ -23,7 +23,7 @@ use Rattle.civl_terms.specs.Weights.{is_part, own_weight, term_weight}
 use Rattle.civl_blast.specs.reach.Reaching.{IsRowless}
 use Rattle.civl_blast.specs.reach.Marks.{marked, weight_from, IsMarking}
 use Rattle.civl_blast.proofs.reach.Marked.{part_is_below}
-use Rattle.civl_blast.specs.Steps.{symbol_in, input_bits, inputs_before, IsReady, ShowsInput, ShowsInputs, NodeMade, StepMade, output_of, IsCircuit}
+use Rattle.civl_blast.specs.inner.Steps.{symbol_in, input_bits, inputs_before, IsReady, ShowsInput, ShowsInputs, NodeMade, StepMade, output_of, IsCircuit}
 use Rattle.civl_blast.proofs.Weighing.{weight_next, weight_whole, weight_less, inputs_next, inputs_less, inputs_light}
 
 -- so many first nodes were gone over

@@ -19,7 +19,7 @@ use Rattle.civl_blast.specs.declared.rows.flat.Cell.{Cell}
 use Rattle.civl_blast.proofs.rows.Numbering.{next_is_above}
 use Rattle.civl_blast.specs.declared.blasted.Place.{Place}
 use Rattle.civl_blast.specs.Standing.{cell_bits, IsPlaced, ShowAll, HasPlaces, NamesCells, GivesValues}
-use Rattle.civl_blast.specs.Renaming.{place_of_cell}
+use Rattle.civl_blast.specs.inner.Renaming.{place_of_cell}
 use Rattle.civl_blast.proofs.Laying.{variable_plain}
 use Rattle.civl_blast.proofs.Renaming.{place_other, place_of_entry, first_same}
 use Rattle.civl_blast.proofs.Gathering.{HasOnce, gather, gather_sort, gather_plain, gather_cell}

@@ -24,7 +24,7 @@ use Rattle.civl_blast.specs.reach.Marks.{marked, IsMarking}
 use Rattle.civl_blast.specs.declared.blasted.Place.{Place}
 use Rattle.civl_blast.specs.Standing.{ShowAll}
 use Rattle.civl_blast.specs.rows.Cells.{cell_of}
-use Rattle.civl_blast.specs.Steps.{input_bits, input_place, inputs_before, places_before, TakesPlain, ShowsInput, ShowsInputs}
+use Rattle.civl_blast.specs.inner.Steps.{input_bits, input_place, inputs_before, places_before, TakesPlain, ShowsInput, ShowsInputs}
 use Rattle.civl_blast.proofs.Weighing.{inputs_next, inputs_less}
 
 -- ---- variables are plain

@@ -27,7 +27,7 @@ use Rattle.civl_terms.specs.Graphs.{node_value, values, value_at, node_sort, sor
 use Rattle.civl_terms.specs.Weights.{is_part, node_weight, weight_in, own_weight}
 use Rattle.civl_terms.proofs.Nodes.{value_of_node, sort_of_node}
 use Rattle.civl_blast.specs.reach.Reaching.{is_plain}
-use Rattle.civl_blast.specs.Steps.{symbol_in, input_bits, IsReady, NodeMade}
+use Rattle.civl_blast.specs.inner.Steps.{symbol_in, input_bits, IsReady, NodeMade}
 
 pub ruleset extending = (extends_trans, extends_same)
 

@@ -20,7 +20,7 @@ use Rattle.civl_terms.proofs.Soundness.{zeros, zeros_fit}
 use Rattle.civl_terms.specs.Graphs.{Fits, IsGraph, IsDistinct}
 use Rattle.civl_blast.specs.reach.Reaching.{is_plain}
 use Rattle.civl_blast.specs.reach.Marks.{marked}
-use Rattle.civl_blast.specs.Steps.{inputs_before, ShowsInputs}
+use Rattle.civl_blast.specs.inner.Steps.{inputs_before, ShowsInputs}
 use Rattle.civl_blast.proofs.Laying.{ArePlain}
 
 -- marks stand within their list

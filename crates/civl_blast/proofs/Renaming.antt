@@ -20,7 +20,7 @@ use Rattle.civl_blast.specs.declared.rows.flat.Cell.{Cell}
 use Rattle.civl_blast.proofs.rows.Numbering.{next_is_above}
 use Rattle.civl_blast.specs.declared.blasted.Place.{Place}
 use Rattle.civl_blast.specs.Standing.{ShowAll, StandsFor}
-use Rattle.civl_blast.specs.Renaming.{place_of_cell, CountFrom, CountUp}
+use Rattle.civl_blast.specs.inner.Renaming.{place_of_cell, CountFrom, CountUp}
 
 -- ---- the values of the variables that stand for cells
 
@@ -174,8 +174,8 @@ celled {old} {new} {id} {flat} {es} graph entries fits_new value env fits =
       value = value (env_with es env) fits_old read ∙ reached_variables_decide old graph id (env_with es env) env (λ i k s r e. same i k s e);
     }
 
-pub stands_for_cells : {old new : List Node} {id flat : ℕ} {es : List Cell} {set : ClauseSet} {places : List Place} → IsGraph old → HasEntries old id es → ((env : ℕ → Value) → Fits env old → cells.Reads env es → Fits env new) → ((env : ℕ → Value) → Fits env old → cells.Reads env es → value_at env new flat ≡ value_at env old id) → StandsFor new flat set places → StandsFor old id set (map (place_of_cell es) places)
-stands_for_cells {old} {new} {id} {flat} {es} {set} {places} graph entries fits_new value s = record {
+pub stands_for_cells : {old : List Node} (new : List Node) {id : ℕ} (flat : ℕ) {es : List Cell} {set : ClauseSet} {places : List Place} → IsGraph old → HasEntries old id es → ((env : ℕ → Value) → Fits env old → cells.Reads env es → Fits env new) → ((env : ℕ → Value) → Fits env old → cells.Reads env es → value_at env new flat ≡ value_at env old id) → StandsFor new flat set places → StandsFor old id set (map (place_of_cell es) places)
+stands_for_cells {old} new {id} flat {es} {set} {places} graph entries fits_new value s = record {
   gates = s.gates;
   output = s.output;
   clauses = s.clauses;

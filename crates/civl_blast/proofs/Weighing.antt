@@ -6,7 +6,7 @@ use Rattle.civl_terms.specs.declared.node.Node.{Node}
 use Rattle.civl_terms.specs.declared.node.Node.TheVariants.{Constant, Variable, One as Once, Two as Twice, Pick, Get, Set, Fill, Slice, Widen, Join}
 use Rattle.civl_terms.specs.Weights.{weight_in, own_weight, term_weight}
 use Rattle.civl_blast.specs.reach.Marks.{marked, weight_from, IsMarking}
-use Rattle.civl_blast.specs.Steps.{input_bits, inputs_before}
+use Rattle.civl_blast.specs.inner.Steps.{input_bits, inputs_before}
 
 abbrev pub marked_weight : List Node → List Bool → ℕ → ℕ
 marked_weight ns marks i = if marked marks i then own_weight ns i else 0

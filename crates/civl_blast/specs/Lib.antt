@@ -1,6 +1,6 @@
 pub mod Standing
-pub mod Steps
 pub mod Laws
-pub mod Renaming
 pub mod reach
 pub mod rows
+pub mod inner
+pub mod examples

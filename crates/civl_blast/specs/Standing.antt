@@ -38,14 +38,19 @@ pub record HasPlaces (ns : List Node) (id : ℕ) (count : ℕ) (places : List Pl
 pub record NamesCells (ns : List Node) (id : ℕ) (count : ℕ) (places : List Place) : Type 0 where
   pub only : (p : ℕ) (e : Place) → slice_get places p ≡ Some e → IsPlaced ns id count e
 
--- The clauses but the last, which is the unit clause of the output, leave exactly one choice of bits for each list of values of the graph's variables, and this choice makes the output true exactly where the term is true.
-pub record StandsFor (ns : List Node) (id : ℕ) (set : ClauseSet) (places : List Place) : Type 0 where
+-- The clauses but the last, which is the unit clause of the output, leave exactly one choice of bits beside those that show x
+-- at the places, and this choice makes the output true exactly where x is true.
+pub record Encodes {X : Type 0} (IsOne : X → Type 0) (values : X → ℕ → Value) (truth : X → Bool) (set : ClauseSet) (places : List Place) : Type 0 where
   pub gates : List (List Literal)
   pub output : Literal
   pub clauses : set.clauses ≡ gates ++ (output ∷ []) ∷ []
-  pub some : (env : ℕ → Value) → Fits env ns → (v : ℕ → Bool) × Satisfies v gates × ShowAll v places env
-  pub one : (env : ℕ → Value) → Fits env ns → (v w : ℕ → Bool) → Satisfies v gates → Satisfies w gates → ShowAll v places env → ShowAll w places env → Agree set.variables v w
-  pub is : (env : ℕ → Value) → Fits env ns → (v : ℕ → Bool) → Satisfies v gates → ShowAll v places env → truth_of v output ≡ is_true (value_at env ns id)
+  pub some : (x : X) → IsOne x → (v : ℕ → Bool) × Satisfies v gates × ShowAll v places (values x)
+  pub one : (x : X) → IsOne x → (v w : ℕ → Bool) → Satisfies v gates → Satisfies w gates → ShowAll v places (values x) → ShowAll w places (values x) → Agree set.variables v w
+  pub is : (x : X) → IsOne x → (v : ℕ → Bool) → Satisfies v gates → ShowAll v places (values x) → truth_of v output ≡ truth x
+
+-- it encodes the term over the values of the graph's variables
+abbrev pub StandsFor : List Node → ℕ → ClauseSet → List Place → Type 0
+StandsFor ns id set places = Encodes (λ (env : ℕ → Value). Fits env ns) (λ env. env) (λ env. is_true (value_at env ns id)) set places
 
 -- bits give values: any bits are at each place those of some values
 abbrev pub GivesValues : List Node → List Place → Type 0

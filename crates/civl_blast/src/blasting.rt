@@ -6,7 +6,7 @@ ghost use Rattle.civl_terms.specs.Weights.{term_weight};
 ghost use Rattle.civl_blast.specs.reach.Reaching.{IsRowless};
 ghost use Rattle.civl_blast.specs.reach.Marks.{IsMarking};
 ghost use Rattle.civl_blast.specs.Standing.{HasPlaces, StandsFor, GivesValues, IsSmall};
-ghost use Rattle.civl_blast.specs.Steps.{inputs_before, output_of, IsCircuit};
+ghost use Rattle.civl_blast.specs.inner.Steps.{inputs_before, output_of, IsCircuit};
 
 use crate::inputs::{Inputs, bits_of_input, lay_out};
 use crate::reach::marks;

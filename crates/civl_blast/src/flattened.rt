@@ -6,7 +6,7 @@ ghost use Rattle.civl_terms.specs.Weights.{term_weight};
 ghost use Rattle.civl_terms.specs.Building.{Lengthens};
 ghost use Rattle.civl_blast.specs.rows.Cells.{NumbersBelow};
 ghost use Rattle.civl_blast.specs.Standing.{NamesCells, StandsFor, GivesValues, IsSmall};
-ghost use Rattle.civl_blast.specs.Renaming.{place_of_cell, CountUp};
+ghost use Rattle.civl_blast.specs.inner.Renaming.{place_of_cell, CountUp};
 
 use crate::rows::{Cell, Flat, flatten};
 use crate::{Blasted, Memory, Place, blast_flat};

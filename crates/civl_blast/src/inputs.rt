@@ -4,7 +4,7 @@ ghost use Rattle.civl_tree.specs.rules.StoreSize.{bits_of};
 ghost use Rattle.civl_terms.specs.Weights.{term_weight};
 ghost use Rattle.civl_blast.specs.reach.Reaching.{IsRowless, is_plain};
 ghost use Rattle.civl_blast.specs.reach.Marks.{IsMarking};
-ghost use Rattle.civl_blast.specs.Steps.{input_bits, input_place, inputs_before, places_before, TakesPlain};
+ghost use Rattle.civl_blast.specs.inner.Steps.{input_bits, input_place, inputs_before, places_before, TakesPlain};
 
 use crate::{Memory, Place};
 use civl_terms::{Id, Node, Terms};

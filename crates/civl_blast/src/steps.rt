@@ -2,7 +2,7 @@
 ghost use Rattle.std.specs.Prelude.{◌≤◌, ◌^◌, IsTrue, IfOk};
 ghost use Rattle.civl_cnf.specs.Gates.{Extends};
 ghost use Rattle.civl_circuits.specs.Circuits.{IsOne};
-ghost use Rattle.civl_blast.specs.Steps.{IsReady, NodeMade, StepMade};
+ghost use Rattle.civl_blast.specs.inner.Steps.{IsReady, NodeMade, StepMade};
 
 use crate::Memory;
 use civl_circuits::Circuit;

@@ -14,8 +14,8 @@ use Rattle.civl_shadows.specs.declared.shadow.Shadowed as kept
 use Rattle.civl_reduction.specs.gathered.System.{made}
 use Rattle.civl_reduction.proofs.simulation.Followed.Shadows.{shadowed_more}
 use Rattle.civl_blocked.specs.declared.ground.Ground.{Ground}
-use Rattle.civl_blocked.specs.Segments.{IsGround, over, program_of}
-use Rattle.civl_blocked.specs.Turning.{IsBeside}
+use Rattle.civl_blocked.specs.inner.Segments.{IsGround, over, program_of}
+use Rattle.civl_blocked.specs.inner.Turning.{IsBeside}
 
 made_moved : (x : Stepped × Config) (d : Config) → made x ≡ Some d → x.0 ≡ answer.Moved
 made_moved (answer.Moved, e) d h = refl

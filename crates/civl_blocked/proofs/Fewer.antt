@@ -15,8 +15,8 @@ use Rattle.civl_reduction.proofs.gathering.Gathering.{others_other}
 use Rattle.civl_reduction.proofs.gathering.Counting.{others_more, counted_behind, counted_opens_then}
 use Rattle.civl_reduction.proofs.gathering.Standing.{opens_run}
 use Rattle.civl_blocked.specs.declared.ground.Ground.{Ground}
-use Rattle.civl_blocked.specs.Segments.{over, IsShortened}
-use Rattle.civl_blocked.specs.Shortened.{IsFront, FailsBehindOther}
+use Rattle.civl_blocked.specs.inner.Segments.{over, IsShortened}
+use Rattle.civl_blocked.specs.inner.Shortened.{IsFront, FailsBehindOther}
 use Rattle.civl_blocked.proofs.Strides.{same_end, run_more, runs_join}
 use Rattle.civl_blocked.proofs.Picking.{all_item}
 use Rattle.civl_blocked.proofs.Rooms.{pass_runs}

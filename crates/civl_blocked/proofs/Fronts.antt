@@ -3,7 +3,7 @@ use Rattle.std.proofs.Common.{ℕ, ◌≡◌, Bool, false, List, Some, None, sub
 use Rattle.std.specs.Prelude.{IsTrue}
 use Rattle.std.proofs.lemmas.Bool.{false≢true}
 use Rattle.civl_reduction.specs.interleavings.Systems.{System}
-use Rattle.civl_reduction.specs.interleavings.Runs.{RunsTo, Opens}
+use Rattle.civl_reduction.specs.interleavings.Runs.{SystemRuns, Opens}
 use Rattle.civl_reduction.specs.gathering.Gathered.{own, others, IsGathered}
 use Rattle.civl_blocked.proofs.Strides.{one_opened, one_end, no_step, same_end}
 
@@ -24,14 +24,14 @@ module _ {C M : Type 0} (S : System C M) (t : ℕ) (ms : List M) (m : M) (c e x 
   not_last n = (λ h. absurd (false≢true h), λ g. absurd (no_step S x g.after m n (last_there g)))
 
   module _ (y : C) (s : S.step x m ≡ Some y) where
-    rest_there : (g : G) → RunsTo S.steps (others S.mover t ms) y e
-    rest_there g = subst (λ z. RunsTo S.steps (others S.mover t ms) z e) (same_end S x g.after y m (last_there g) s) g.rest
+    rest_there : (g : G) → SystemRuns S.steps (others S.mover t ms) y e
+    rest_there g = subst (λ z. SystemRuns S.steps (others S.mover t ms) z e) (same_end S x g.after y m (last_there g) s) g.rest
 
-    pub not_rest : ((z : C) → RunsTo S.steps (others S.mover t ms) y z → ⊥) → Says false
+    pub not_rest : ((z : C) → SystemRuns S.steps (others S.mover t ms) y z → ⊥) → Says false
     not_rest n = (λ h. absurd (false≢true h), λ g. absurd (n e (rest_there g)))
 
-    pub whole : (z : C) (b : Bool) → RunsTo S.steps (others S.mover t ms) y z → (IsTrue b → z ≡ e) × (z ≡ e → IsTrue b) → Says b
+    pub whole : (z : C) (b : Bool) → SystemRuns S.steps (others S.mover t ms) y z → (IsTrue b → z ≡ e) × (z ≡ e → IsTrue b) → Says b
     whole z b r f = (
-      λ h. record { middle = x; after = y; opens = o; last = s; rest = subst (λ w. RunsTo S.steps (others S.mover t ms) y w) (f.0 h) r },
+      λ h. record { middle = x; after = y; opens = o; last = s; rest = subst (λ w. SystemRuns S.steps (others S.mover t ms) y w) (f.0 h) r },
       λ g. f.1 (one_end S (others S.mover t ms) y z e r (rest_there g)),
     )

@@ -7,8 +7,8 @@ use Rattle.civl_shadows.specs.declared.shadow.Shadowed as kept
 use Rattle.civl_reduction.specs.gathering.Gathered.{others, counted}
 use Rattle.civl_reduction.specs.gathered.Laws.{by_thread}
 use Rattle.civl_blocked.specs.declared.ground.Ground.{Ground}
-use Rattle.civl_blocked.specs.Segments.{over, IsShortened}
-use Rattle.civl_blocked.specs.Turning.{Standing, Going, Bounded, Room, OnlyMay, measure_of}
+use Rattle.civl_blocked.specs.inner.Segments.{over, IsShortened}
+use Rattle.civl_blocked.specs.inner.Turning.{Standing, Going, Bounded, Room, OnlyMay, measure_of}
 
 pub shorter_goes : (g : Ground) (done : List Move) (o : Option ℕ) (beside : kept.Shadowed) (u : ℕ) (moves shorter : List Move)
     → Standing g done o beside → All IsMove moves → IsShortened (over g) u moves beside.config shorter → Going g done o beside shorter

@@ -7,7 +7,7 @@ use Rattle.civl_meaning.specs.declared.config.Move.{Move}
 use Rattle.civl_meaning.specs.declared.config.Config.{Config}
 use Rattle.civl_meaning.specs.Failing.{IsMove}
 use Rattle.civl_reduction.specs.interleavings.Systems.{System}
-use Rattle.civl_reduction.specs.interleavings.Runs.{RunsTo, MayStep, BlocksTo, IsBlockRun, Staged, Opens}
+use Rattle.civl_reduction.specs.interleavings.Runs.{SystemRuns, MayStep, BlocksTo, IsBlockRun, Staged, Opens}
 use Rattle.civl_reduction.specs.interleavings.Reduction.{Between, Late, is_inside}
 use Rattle.civl_reduction.proofs.interleavings.Staging.{staged_runs, inside_more, ends_run, ends_staged}
 use Rattle.civl_reduction.specs.blocks.Challenged.{challenged}
@@ -18,14 +18,14 @@ use Rattle.civl_reduction.proofs.gathering.Counting.{split_length, counted_few, 
 use Rattle.civl_reduction.proofs.gathering.Standing.{staged_joined}
 use Rattle.civl_reduction.specs.gathered.Laws.{IsReached, PlacesAreInside, OthersLeave, by_thread}
 use Rattle.civl_blocked.specs.declared.ground.Ground.{Ground}
-use Rattle.civl_blocked.specs.Segments.{IsGround, over, place_on, program_of, FailsTo, Gathered}
+use Rattle.civl_blocked.specs.inner.Segments.{IsGround, over, place_on, program_of, FailsTo, Gathered}
 use Rattle.civl_blocked.specs.declared.segment.Segment.{Segment}
 use Rattle.civl_blocked.specs.declared.turning.Turning.{Turning}
-use Rattle.civl_blocked.specs.Turning.{Standing, Going, Bounded, Room, OnlyMay, IsBeside, IsGathering, measure_of, ended}
+use Rattle.civl_blocked.specs.inner.Turning.{Standing, Going, Bounded, Room, OnlyMay, IsBeside, IsGathering, measure_of, ended}
 use Rattle.civl_blocked.specs.Blocked.{IsTurned}
 use Rattle.civl_blocked.proofs.Strides.{runs_join, run_more, one_opened, same_end}
 
-pub blocks_run : {C M : Type 0} (S : System C M) (ms : List M) (o p : Option ℕ) (c d : C) → BlocksTo S o ms c p d → RunsTo S.steps ms c d
+pub blocks_run : {C M : Type 0} (S : System C M) (ms : List M) (o p : Option ℕ) (c d : C) → BlocksTo S o ms c p d → SystemRuns S.steps ms c d
 blocks_run S [] o p c d b = b.1
 blocks_run S (m ∷ ms) o p c d b = (b.0, b.1, blocks_run S ms _ p b.0 d b.3)
 
@@ -45,7 +45,7 @@ pub record IsJoined (g : Ground) (done done2 : List Move) (o : Option ℕ) (besi
   pub middle : Config
   pub opens : Opens (over g) u (own by_thread u ms) beside.config middle
   pub step : (over g).step middle m ≡ Some new.config
-  pub run : RunsTo (over g).steps (others by_thread u ms) new.config e
+  pub run : SystemRuns (over g).steps (others by_thread u ms) new.config e
   pub done_is : done2 ≡ (done ++ own by_thread u ms) ++ m ∷ []
   pub beside_it : IsBeside g done2 new
   pub rest_is : rest2 ≡ others by_thread u ms ++ rest
@@ -73,7 +73,7 @@ module _ (g : Ground) (t : Turning) (u : ℕ) (s : Segment) (slice d1 : List Mov
     middle = mid.config;
     opens = opens_so;
     step = step;
-    run = subst (λ z. RunsTo (over g).steps (others by_thread u s.moves.items) z s.end) (same_end (over g) mid.config gathered.after new.config s.last last_runs.1 step) gathered.rest;
+    run = subst (λ z. SystemRuns (over g).steps (others by_thread u s.moves.items) z s.end) (same_end (over g) mid.config gathered.after new.config s.last last_runs.1 step) gathered.rest;
     done_is = e2 ∙ ap (λ l. l ++ s.last ∷ []) (e1 ∙ ap (λ l. t.done.items ++ own by_thread u l) slice_is);
     beside_it = besides;
     rest_is = e3 ∙ ap (λ l. others by_thread u l ++ t.rest.items) slice_is;
@@ -90,14 +90,14 @@ module _ (g : Ground) (ground : IsGround g) (inside_law : PlacesAreInside) (leav
   joined : (q : Option ℕ) × MayStep q u × Staged S (done ++ own by_thread u ms) q j.middle
   joined = staged_joined S done (own by_thread u ms) o u beside.config j.middle j.standing.staged (may_step o u j.may) j.opens
 
-  middle_run : RunsTo S.steps (done ++ own by_thread u ms) S.start j.middle
+  middle_run : SystemRuns S.steps (done ++ own by_thread u ms) S.start j.middle
   middle_run = blocks_run S (done ++ own by_thread u ms) None joined.0 S.start j.middle (staged_runs S joined.2)
 
   all_done : All IsMove done2
   all_done = subst (All IsMove) (sym j.done_is) (All-append IsMove (done ++ own by_thread u ms) (m ∷ []) (All-append IsMove done (own by_thread u ms) j.standing.done_moves (own_all IsMove by_thread u ms j.moves)) (All-cons IsMove m [] j.last (All-nil IsMove)))
 
   reached : IsReached (program_of g) g.layer g.store.now new.config
-  reached = record { moves = done2; are_moves = all_done; runs = subst (λ l. RunsTo S.steps l S.start new.config) (sym j.done_is) (run_more S (done ++ own by_thread u ms) m S.start j.middle new.config middle_run j.step) }
+  reached = record { moves = done2; are_moves = all_done; runs = subst (λ l. SystemRuns S.steps l S.start new.config) (sym j.done_is) (run_more S (done ++ own by_thread u ms) m S.start j.middle new.config middle_run j.step) }
 
   -- the thread stands where it stood at the segment's end
   pub same_place : place_on g new.config u ≡ place_on g e u
@@ -113,7 +113,7 @@ module _ (g : Ground) (ground : IsGround g) (inside_law : PlacesAreInside) (leav
   rest_all = subst (All IsMove) (sym j.rest_is) (All-append IsMove (others by_thread u ms) rest (others_all IsMove by_thread u ms j.moves) j.rest_moves)
 
   -- how many blocks
-  before_runs : RunsTo S.steps done S.start beside.config
+  before_runs : SystemRuns S.steps done S.start beside.config
   before_runs = blocks_run S done None o S.start beside.config (staged_runs S j.standing.staged)
 
   abbrev one_block : Bool → ℕ

@@ -8,14 +8,13 @@ use Rattle.civl_tree.specs.declared.stmt.Stmt.{Stmt, out-Stmt}
 use Rattle.civl_firing.specs.declared.store.Store.{Store}
 use Rattle.civl_meaning.specs.declared.config.Activation.{Activation}
 use Rattle.civl_meaning.specs.declared.config.Plain.{Plain}
-use Rattle.civl_meaning.specs.Change.{outs_in}
+use Rattle.civl_meaning.specs.Change.{outs_in, call_doing, statement_doing, leaving, spot_doing, proc_doing}
 use Rattle.civl_meaning.specs.Places.{Spot, spot_at}
 use Rattle.civl_meaning.specs.Meaning.{Meaning, Does, Runs, Missing}
-use Rattle.civl_reduction.specs.exchanges.Doing.{call_doing, layer_doing, leaving, spot_doing, proc_doing}
 use Rattle.civl_reduction.specs.gathered.Offered.{offers_of}
-use Rattle.civl_meaning.specs.Left.{stmt_of}
+use Rattle.civl_meaning.specs.inner.Left.{stmt_of}
 use Rattle.civl_conditions.specs.paths.Choices.{action_meant}
-use Rattle.civl_blocked.specs.Offering.{offers_in}
+use Rattle.civl_blocked.specs.inner.Offering.{offers_in}
 
 pub call_so : (plain : Plain) (store : Store) (names : List Name) (locals : List Value) (results : List Name) (at next : ℕ) (m : Meaning) (args : List Value)
     → offers_in plain.program.globals store (action_meant m) args ≡ offers_of plain.program.globals store (call_doing names locals results at next m args)
@@ -44,12 +43,12 @@ module _ (plain : Plain) (store : Store) (frame : Activation) (proc : Proc) (the
       go (Some s) e h = absurd (none-some s.stmt (sym h))
 
   pub frame_some : (caller : Option Activation) (st : Stmt) (vs : List Value) → stmt_of (spot_at proc.body frame.place) ≡ Some st
-      → ((at next : ℕ) → vs ≡ offers_of plain.program.globals store (layer_doing plain proc frame.locals at next (out-Stmt st))) → vs ≡ Does_so caller
+      → ((at next : ℕ) → vs ≡ offers_of plain.program.globals store (statement_doing plain proc frame.locals at next (out-Stmt st))) → vs ≡ Does_so caller
   frame_some caller st vs h says = go (spot_at proc.body frame.place) refl h
     where
       go : (o : Option Spot) → spot_at proc.body frame.place ≡ o → stmt_of o ≡ Some st → vs ≡ Does_so caller
       go None e q = absurd (none-some st q)
       go (Some s) e q =
           says s.number s.next
-          ∙ (ap (λ (x : Stmt). offers_of plain.program.globals store (layer_doing plain proc frame.locals s.number s.next (out-Stmt x))) (sym (same_Some s.stmt st q))
+          ∙ (ap (λ (x : Stmt). offers_of plain.program.globals store (statement_doing plain proc frame.locals s.number s.next (out-Stmt x))) (sym (same_Some s.stmt st q))
           ∙ sym (at_spot caller (Some s) e))

@@ -5,7 +5,7 @@ use Rattle.std.proofs.lemmas.List.{append-nil, take_more}
 use Rattle.std.proofs.lemmas.List.Elements.{All-get_or}
 use Rattle.civl_tree.proofs.Lists.{drop_is}
 use Rattle.civl_reduction.specs.interleavings.Systems.{System}
-use Rattle.civl_reduction.specs.interleavings.Runs.{RunsTo, Opens}
+use Rattle.civl_reduction.specs.interleavings.Runs.{SystemRuns, Opens}
 use Rattle.civl_reduction.specs.gathering.Gathered.{own, others}
 use Rattle.civl_reduction.proofs.gathering.Gathering.{own_mine, own_other, others_mine, others_other, own_more}
 use Rattle.civl_reduction.proofs.gathering.Counting.{others_more}
@@ -64,14 +64,14 @@ module _ {C M : Type 0} (S : System C M) (t : ℕ) (ms : List M) (i : ℕ) (m : 
   others_skip : S.mover m ≡ t → others S.mover t (take (i + 1) ms) ≡ others S.mover t (take i ms)
   others_skip w = ap (others S.mover t) (take_is ms i m h e) ∙ (others_more S.mover t (take i ms) (m ∷ []) ∙ (ap (λ l. others S.mover t (take i ms) ++ l) (others_mine S.mover t m [] w) ∙ append-nil (others S.mover t (take i ms))))
 
-  pub others_skips_made : S.mover m ≡ t → (c d : C) → RunsTo S.steps (others S.mover t (take i ms)) c d → RunsTo S.steps (others S.mover t (take (i + 1) ms)) c d
-  others_skips_made w c d o = subst (λ l. RunsTo S.steps l c d) (sym (others_skip w)) o
+  pub others_skips_made : S.mover m ≡ t → (c d : C) → SystemRuns S.steps (others S.mover t (take i ms)) c d → SystemRuns S.steps (others S.mover t (take (i + 1) ms)) c d
+  others_skips_made w c d o = subst (λ l. SystemRuns S.steps l c d) (sym (others_skip w)) o
 
-  pub others_skips_left : S.mover m ≡ t → (c d : C) → RunsTo S.steps (others S.mover t (drop i ms)) c d → RunsTo S.steps (others S.mover t (drop (i + 1) ms)) c d
-  others_skips_left w c d o = subst (λ l. RunsTo S.steps l c d) (ap (others S.mover t) (drop_is ms i m h e) ∙ others_mine S.mover t m (drop (i + 1) ms) w) o
+  pub others_skips_left : S.mover m ≡ t → (c d : C) → SystemRuns S.steps (others S.mover t (drop i ms)) c d → SystemRuns S.steps (others S.mover t (drop (i + 1) ms)) c d
+  others_skips_left w c d o = subst (λ l. SystemRuns S.steps l c d) (ap (others S.mover t) (drop_is ms i m h e) ∙ others_mine S.mover t m (drop (i + 1) ms) w) o
 
-  pub others_goes_made : S.mover m ≢ t → (c d x : C) → RunsTo S.steps (others S.mover t (take i ms)) c d → S.step d m ≡ Some x → RunsTo S.steps (others S.mover t (take (i + 1) ms)) c x
-  others_goes_made w c d x o s = subst (λ l. RunsTo S.steps l c x) (sym (others_take w)) (run_more S (others S.mover t (take i ms)) m c d x o s)
+  pub others_goes_made : S.mover m ≢ t → (c d x : C) → SystemRuns S.steps (others S.mover t (take i ms)) c d → S.step d m ≡ Some x → SystemRuns S.steps (others S.mover t (take (i + 1) ms)) c x
+  others_goes_made w c d x o s = subst (λ l. SystemRuns S.steps l c x) (sym (others_take w)) (run_more S (others S.mover t (take i ms)) m c d x o s)
 
-  pub others_goes_left : S.mover m ≢ t → (c d x : C) → S.step c m ≡ Some d → RunsTo S.steps (others S.mover t (drop i ms)) c x → RunsTo S.steps (others S.mover t (drop (i + 1) ms)) d x
-  others_goes_left w c d x s o = runs_step S m (others S.mover t (drop (i + 1) ms)) c d x s (subst (λ l. RunsTo S.steps l c x) (ap (others S.mover t) (drop_is ms i m h e) ∙ others_other S.mover t m (drop (i + 1) ms) w) o)
+  pub others_goes_left : S.mover m ≢ t → (c d x : C) → S.step c m ≡ Some d → SystemRuns S.steps (others S.mover t (drop i ms)) c x → SystemRuns S.steps (others S.mover t (drop (i + 1) ms)) d x
+  others_goes_left w c d x s o = runs_step S m (others S.mover t (drop (i + 1) ms)) c d x s (subst (λ l. SystemRuns S.steps l c x) (ap (others S.mover t) (drop_is ms i m h e) ∙ others_other S.mover t m (drop (i + 1) ms) w) o)

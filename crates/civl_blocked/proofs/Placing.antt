@@ -5,8 +5,8 @@ use Rattle.civl_reduction.specs.interleavings.Reduction.{is_inside}
 use Rattle.civl_reduction.specs.gathered.Laws.{PlacesAreInside}
 use Rattle.civl_blocked.specs.declared.ground.Ground.{Ground}
 use Rattle.civl_blocked.specs.declared.place.Place.{Place}
-use Rattle.civl_blocked.specs.Places.{place_of}
-use Rattle.civl_blocked.specs.Segments.{IsGround, over, place_on, program_of}
+use Rattle.civl_blocked.specs.inner.Places.{place_of}
+use Rattle.civl_blocked.specs.inner.Segments.{IsGround, over, place_on, program_of}
 
 -- the thread that moved stands at this place
 pub inside_is : (g : Ground) → IsGround g → PlacesAreInside → (c : Config) (m t : ℕ) (p : Place) → m ≡ t → place_of p ≡ place_on g c m → (over g).inside c t ≡ is_inside (place_of p)

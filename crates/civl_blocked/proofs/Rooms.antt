@@ -15,7 +15,7 @@ use Rattle.civl_meaning.specs.Run as meaning
 use Rattle.civl_meaning.specs.Failing.{IsMove, thread_fails, is_failing}
 use Rattle.civl_meaning.specs.Layers.{program_at}
 use Rattle.civl_reduction.specs.interleavings.Systems.{Failing, System}
-use Rattle.civl_reduction.specs.interleavings.Runs.{RunsTo}
+use Rattle.civl_reduction.specs.interleavings.Runs.{SystemRuns}
 use Rattle.civl_reduction.specs.interleavings.Reduction.{Place, Between, Early, Late, is_inside}
 use Rattle.civl_reduction.proofs.interleavings.Staging.{staged_runs}
 use Rattle.civl_shadows.specs.declared.shadow.Shadowed as kept
@@ -25,9 +25,9 @@ use Rattle.civl_reduction.proofs.gathering.Counting.{others_more, counted_behind
 use Rattle.civl_reduction.specs.gathered.System.{made, there_fails}
 use Rattle.civl_reduction.specs.gathered.Laws.{IsReached, PlacesAreInside, by_thread}
 use Rattle.civl_blocked.specs.declared.ground.Ground.{Ground}
-use Rattle.civl_blocked.specs.Segments.{IsGround, over, place_on, program_of}
-use Rattle.civl_blocked.specs.Turning.{Standing, Room, ended, left_of, measure_of}
-use Rattle.civl_blocked.specs.Completed.{OfferedOn}
+use Rattle.civl_blocked.specs.inner.Segments.{IsGround, over, place_on, program_of}
+use Rattle.civl_blocked.specs.inner.Turning.{Standing, Room, ended, left_of, measure_of}
+use Rattle.civl_blocked.specs.inner.Completed.{OfferedOn}
 use Rattle.civl_blocked.proofs.Strides.{runs_join}
 use Rattle.civl_blocked.proofs.Joinings.{blocks_run}
 
@@ -61,7 +61,7 @@ module _ (g : Ground) (bound before : ℕ) (done : List Move) (o : Option ℕ) w
 
 -- ---- runs
 
-pub pass_runs : {C M : Type 0} (S : System C M) (t : ℕ) (ms : List M) (c e : C) → AllPass S t ms c e → RunsTo S.steps ms c e
+pub pass_runs : {C M : Type 0} (S : System C M) (t : ℕ) (ms : List M) (c e : C) → AllPass S t ms c e → SystemRuns S.steps ms c e
 pass_runs S t [] c e a = a
 pass_runs S t (m ∷ ms) c e a = (a.0, a.1.0, pass_runs S t ms a.0 e a.2)
 
@@ -98,7 +98,7 @@ module _ (g : Ground) where
   moved_is (answer.Failing, e) d h = absurd (none-some d h)
   moved_is (answer.BadChoices, e) d h = absurd (none-some d h)
 
-  pub plain_runs : (ms : List Move) (c e : Config) → RunsTo (over g).steps ms c e → meaning.RunsTo (program_at (program_of g) g.layer) ms c e
+  pub plain_runs : (ms : List Move) (c e : Config) → SystemRuns (over g).steps ms c e → meaning.RunsTo (program_at (program_of g) g.layer) ms c e
   plain_runs [] c e r = r
   plain_runs (m ∷ ms) c e r = (r.0, moved_is (step_of (program_at (program_of g) g.layer) c m) r.0 r.1, plain_runs ms r.0 e r.2)
 

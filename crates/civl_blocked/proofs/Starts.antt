@@ -12,7 +12,7 @@ use Rattle.civl_meaning.specs.Failing.{IsMove}
 use Rattle.civl_meaning.specs.Step.{start}
 use Rattle.civl_meaning.specs.Run as meaning
 use Rattle.civl_meaning.specs.Layers.{program_at}
-use Rattle.civl_reduction.specs.interleavings.Runs.{RunsTo, Staged, begun}
+use Rattle.civl_reduction.specs.interleavings.Runs.{SystemRuns, Staged, begun}
 use Rattle.civl_reduction.specs.blocks.Challenged.{challenged}
 use Rattle.civl_reduction.specs.blocks.Shadow.{shadowed_start}
 use Rattle.civl_shadows.specs.Shadows.{Shows}
@@ -20,8 +20,8 @@ use Rattle.civl_shadows.specs.declared.shadow.Shadowed as kept
 use Rattle.civl_reduction.specs.gathered.System.{made}
 use Rattle.civl_blocked.specs.declared.ground.Ground.{Ground}
 use Rattle.civl_blocked.specs.Blocked.{Fails, IsTurned}
-use Rattle.civl_blocked.specs.Segments.{over, program_of, FailsTo}
-use Rattle.civl_blocked.specs.Turning.{Going}
+use Rattle.civl_blocked.specs.inner.Segments.{over, program_of, FailsTo}
+use Rattle.civl_blocked.specs.inner.Turning.{Going}
 use Rattle.civl_blocked.proofs.Failures.{any_fails}
 
 -- the program is that of the layer
@@ -29,7 +29,7 @@ pub layer_is : (plain : Plain) (source : Program) (layer : ℕ) → plain ≡ pr
 layer_is plain source layer e = e ∙ sym (ap (λ (p : Plain). program_at p.program layer) e)
 
 module _ (g : Ground) where
-  pub system_runs : (ms : List Move) (c e : Config) → meaning.RunsTo (program_at (program_of g) g.layer) ms c e → RunsTo (over g).steps ms c e
+  pub system_runs : (ms : List Move) (c e : Config) → meaning.RunsTo (program_at (program_of g) g.layer) ms c e → SystemRuns (over g).steps ms c e
   system_runs [] c e r = r
   system_runs (m ∷ ms) c e r = (r.0, ap made r.1, system_runs ms r.0 e r.2)
 

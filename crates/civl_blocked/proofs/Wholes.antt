@@ -9,17 +9,17 @@ use Rattle.civl_meaning.specs.declared.config.Move.{Move}
 use Rattle.civl_meaning.specs.declared.config.Config.{Config}
 use Rattle.civl_meaning.specs.Failing.{IsMove}
 use Rattle.civl_reduction.specs.interleavings.Systems.{System}
-use Rattle.civl_reduction.specs.interleavings.Runs.{RunsTo, MayStep, opened, BlocksTo, Staged, goes, ends}
+use Rattle.civl_reduction.specs.interleavings.Runs.{SystemRuns, MayStep, opened, BlocksTo, Staged, goes, ends}
 use Rattle.civl_reduction.proofs.interleavings.Staging.{staged_runs, blocks_more}
 use Rattle.civl_reduction.specs.gathering.Gathered.{blocks}
 use Rattle.civl_reduction.proofs.gathering.Counting as counting
 use Rattle.civl_shadows.specs.declared.shadow.Shadowed as kept
 use Rattle.civl_blocked.specs.declared.ground.Ground.{Ground}
 use Rattle.civl_blocked.specs.declared.arranging.Arranged.{Arranged}
-use Rattle.civl_blocked.specs.Arranged.{IsArranged, IsJoining, IsCalm, IsHard, IsLonger, count_of}
+use Rattle.civl_blocked.specs.inner.Arranged.{IsArranged, IsJoining, IsCalm, IsHard, IsLonger, count_of}
 use Rattle.civl_blocked.specs.Blocked.{IsTurned}
-use Rattle.civl_blocked.specs.Segments.{over, program_of, FailsTo}
-use Rattle.civl_blocked.specs.Turning.{IsBeside, Standing, Going, Bounded, ended, measure_of}
+use Rattle.civl_blocked.specs.inner.Segments.{over, program_of, FailsTo}
+use Rattle.civl_blocked.specs.inner.Turning.{IsBeside, Standing, Going, Bounded, ended, measure_of}
 use Rattle.civl_blocked.proofs.Joinings.{blocks_run}
 use Rattle.civl_blocked.proofs.Strides.{same_end, runs_join}
 
@@ -51,7 +51,7 @@ module _ (g : Ground) (before : List Move) (from : Config) (joined left done : L
     may : MayStep j.owner m.thread
     may = j.left_blocks.2
 
-    run : RunsTo S.steps done S.start beside.config
+    run : SystemRuns S.steps done S.start beside.config
     run = blocks_run S done None j.owner S.start beside.config (staged_runs S j.staged)
 
     all_done : All IsMove done2
@@ -138,7 +138,7 @@ module _ (g : Ground) (before done : List Move) (old new : kept.Shadowed) (rest 
   fails_so = (
     is.fails.0,
     runs_join (over g) a.others.items (drop (count_of a) rest) new.config is.end is.fails.0
-        (subst (λ x. RunsTo (over g).steps a.others.items x is.end) (one_middle g a.blocks.items None None None old.config is.leads.middle new.config is.leads.blocks longer.runs) is.leads.others) is.fails.1,
+        (subst (λ x. SystemRuns (over g).steps a.others.items x is.end) (one_middle g a.blocks.items None None None old.config is.leads.middle new.config is.leads.blocks longer.runs) is.leads.others) is.fails.1,
     is.fails.2,
   )
 

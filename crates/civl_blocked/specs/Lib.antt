@@ -1,9 +1,2 @@
-pub mod Places
-pub mod Offering
 pub mod Blocked
-pub mod Segments
-pub mod Walked
-pub mod Shortened
-pub mod Completed
-pub mod Turning
-pub mod Arranged
+pub mod inner

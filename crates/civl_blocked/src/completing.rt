@@ -1,7 +1,7 @@
 // Blocks that the moves leave unfinished, and their completion.
 ghost use Rattle.std.specs.Prelude.{IfOk};
-ghost use Rattle.civl_blocked.specs.Segments.{IsGround};
-ghost use Rattle.civl_blocked.specs.Completed.{StandsLate, IsCompleted};
+ghost use Rattle.civl_blocked.specs.inner.Segments.{IsGround};
+ghost use Rattle.civl_blocked.specs.inner.Completed.{StandsLate, IsCompleted};
 
 use crate::ground::Ground;
 use crate::offering::offered;

@@ -1,10 +1,10 @@
 // The moves of a thread, gathered at the front of a segment.
 ghost use Rattle.std.specs.Prelude.{◌↔◌, true, false, IfOk, IsTrue};
 ghost use Rattle.civl_meaning.specs.declared.config.Config.{Config as There};
-ghost use Rattle.civl_reduction.specs.interleavings.Runs.{RunsTo, Opens};
+ghost use Rattle.civl_reduction.specs.interleavings.Runs.{SystemRuns, Opens};
 ghost use Rattle.civl_reduction.specs.gathering.Gathered.{own, others};
 ghost use Rattle.civl_reduction.specs.gathered.Laws.{by_thread};
-ghost use Rattle.civl_blocked.specs.Segments.{IsGround, over, Gathered};
+ghost use Rattle.civl_blocked.specs.inner.Segments.{IsGround, over, Gathered};
 
 use crate::ground::Ground;
 use crate::place::is_inside;
@@ -50,8 +50,8 @@ fn runs_others(
     moves: &[Move],
 ) -> Result<bool, Memory>
     requires { IsGround ground.now }
-    ensures made { IfOk result (λ b. IsTrue b → RunsTo (over ground.now).steps (others by_thread thread moves.now) config.old config.new) }
-    ensures not { IfOk result (λ b. (IsTrue b → ⊥) → (x : There) → RunsTo (over ground.now).steps (others by_thread thread moves.now) config.old x → ⊥) }
+    ensures made { IfOk result (λ b. IsTrue b → SystemRuns (over ground.now).steps (others by_thread thread moves.now) config.old config.new) }
+    ensures not { IfOk result (λ b. (IsTrue b → ⊥) → (x : There) → SystemRuns (over ground.now).steps (others by_thread thread moves.now) config.old x → ⊥) }
 {
     for chosen in moves {
         if chosen.thread == thread {

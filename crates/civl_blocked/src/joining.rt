@@ -6,10 +6,10 @@ ghost use Rattle.civl_meaning.specs.Failing.{IsMove};
 ghost use Rattle.civl_reduction.specs.interleavings.Runs.{BlocksTo, Opens};
 ghost use Rattle.civl_reduction.specs.gathering.Gathered.{own};
 ghost use Rattle.civl_reduction.specs.gathered.Laws.{by_thread};
-ghost use Rattle.civl_blocked.specs.Arranged.{IsLonger, IsCalm, IsHard};
+ghost use Rattle.civl_blocked.specs.inner.Arranged.{IsLonger, IsCalm, IsHard};
 ghost use Rattle.civl_blocked.specs.Blocked.{IsTurned};
-ghost use Rattle.civl_blocked.specs.Segments.{IsGround, over, program_of};
-ghost use Rattle.civl_blocked.specs.Turning.{IsBeside, Standing, ended};
+ghost use Rattle.civl_blocked.specs.inner.Segments.{IsGround, over, program_of};
+ghost use Rattle.civl_blocked.specs.inner.Turning.{IsBeside, Standing, ended};
 
 use crate::ground::Ground;
 use crate::place::{is_inside, place_at};

@@ -3,11 +3,11 @@ ghost use Rattle.std.specs.Prelude.{◌≡◌, ◌+◌, ◌<◌, ◌≤◌, drop
 ghost use Rattle.std.specs.VecDeque.{deque_len};
 ghost use Rattle.civl_bits.specs.Value.{IsValue};
 ghost use Rattle.civl_meaning.specs.Failing.{IsMove};
-ghost use Rattle.civl_reduction.specs.interleavings.Runs.{RunsTo, BlocksTo, MayStep, opened};
+ghost use Rattle.civl_reduction.specs.interleavings.Runs.{SystemRuns, BlocksTo, MayStep, opened};
 ghost use Rattle.civl_reduction.specs.interleavings.Reduction.{is_inside};
-ghost use Rattle.civl_blocked.specs.Places.{place_of};
-ghost use Rattle.civl_blocked.specs.Segments.{IsGround, over, FailsTo};
-ghost use Rattle.civl_blocked.specs.Arranged.{Leads, IsFound};
+ghost use Rattle.civl_blocked.specs.inner.Places.{place_of};
+ghost use Rattle.civl_blocked.specs.inner.Segments.{IsGround, over, FailsTo};
+ghost use Rattle.civl_blocked.specs.inner.Arranged.{Leads, IsFound};
 
 use crate::arranging::{Arranged, by_turns};
 use crate::ground::Ground;
@@ -134,7 +134,7 @@ fn runs_all(
     moves: &[Move],
 ) -> Result<bool, Memory>
     requires { IsGround ground.now }
-    ensures { IfOk result (λ b. IsTrue b → RunsTo (over ground.now).steps moves.now config.old config.new) }
+    ensures { IfOk result (λ b. IsTrue b → SystemRuns (over ground.now).steps moves.now config.old config.new) }
 {
     for chosen in moves {
         if !moved(alloc, ground, config, chosen)? {

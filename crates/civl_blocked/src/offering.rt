@@ -5,16 +5,15 @@ ghost use Rattle.civl_tree.specs.declared.stmt.Stmt.{out-Stmt};
 ghost use Rattle.civl_tree.specs.declared.stmt.Stmt.TheOpen.{Call};
 ghost use Rattle.civl_meaning.specs.declared.config.Activation.{Activation as Waiting};
 ghost use Rattle.civl_meaning.specs.Meaning.{called, meaning_of, refined};
-ghost use Rattle.civl_meaning.specs.Change.{caller_of};
+ghost use Rattle.civl_meaning.specs.Change.{caller_of, doing, statement_doing, proc_doing};
 ghost use Rattle.civl_meaning.specs.Rest.{head_of};
 ghost use Rattle.civl_firing.specs.Scope.{gate_values};
 ghost use Rattle.civl_firing.specs.Settings.{scope_in};
-ghost use Rattle.civl_reduction.specs.exchanges.Doing.{doing, layer_doing, proc_doing};
 ghost use Rattle.civl_meaning.specs.Remaining.{rest_of};
 ghost use Rattle.civl_reduction.specs.gathered.Offered.{offers_of, offered};
-ghost use Rattle.civl_meaning.specs.Left.{stmt_of};
+ghost use Rattle.civl_meaning.specs.inner.Left.{stmt_of};
 ghost use Rattle.civl_conditions.specs.paths.Choices.{action_meant};
-ghost use Rattle.civl_blocked.specs.Offering.{offers_in};
+ghost use Rattle.civl_blocked.specs.inner.Offering.{offers_in};
 
 use civl_bits::Value;
 use civl_firing::Store;
@@ -125,7 +124,7 @@ fn call_offers(
     name: &Name,
     args: &List<Expr>,
 ) -> Result<Vec<Value>, Memory>
-    ensures { IfOk result (λ vs. (results : List Called) (at next : ℕ) → vs.items ≡ offers_of plain.now.program.globals store.now (layer_doing plain.now proc.now locals.now at next (Call name.now args.now results))) }
+    ensures { IfOk result (λ vs. (results : List Called) (at next : ℕ) → vs.items ≡ offers_of plain.now.program.globals store.now (statement_doing plain.now proc.now locals.now at next (Call name.now args.now results))) }
 {
     let frame = in_frame(plain.program.globals.as_slice(), proc, locals);
     let inputs = values(alloc, &frame, args.as_slice())?;
@@ -143,7 +142,7 @@ fn statement_offers(
     locals: &[Value],
     stmt: &Stmt,
 ) -> Result<Vec<Value>, Memory>
-    ensures { IfOk result (λ vs. (at next : ℕ) → vs.items ≡ offers_of plain.now.program.globals store.now (layer_doing plain.now proc.now locals.now at next (out-Stmt stmt.now))) }
+    ensures { IfOk result (λ vs. (at next : ℕ) → vs.items ≡ offers_of plain.now.program.globals store.now (statement_doing plain.now proc.now locals.now at next (out-Stmt stmt.now))) }
 {
     match stmt {
         Stmt::Call(name, args, _) => call_offers(alloc, plain, store, proc, locals, name, args),

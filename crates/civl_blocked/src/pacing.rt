@@ -1,7 +1,7 @@
 // How many moves are arranged at once.
 ghost use Rattle.std.specs.Prelude.{◌≤◌, IfOk, IfSome};
-ghost use Rattle.civl_blocked.specs.Arranged.{IsArranged};
-ghost use Rattle.civl_blocked.specs.Segments.{IsGround, over, FailsTo};
+ghost use Rattle.civl_blocked.specs.inner.Arranged.{IsArranged};
+ghost use Rattle.civl_blocked.specs.inner.Segments.{IsGround, over, FailsTo};
 
 use crate::arranging::Arranged;
 use crate::ground::Ground;

@@ -5,7 +5,7 @@ ghost use Rattle.civl_yields.specs.Movers.{called_action};
 ghost use Rattle.civl_reduction.specs.blocks.Ahead.{stops, ahead, ahead_list, ahead_in};
 ghost use Rattle.civl_reduction.specs.blocks.Stands.{stands};
 ghost use Rattle.civl_meaning.specs.Remaining.{rest_of};
-ghost use Rattle.civl_blocked.specs.Places.{place_of};
+ghost use Rattle.civl_blocked.specs.inner.Places.{place_of};
 ghost use Rattle.civl_reduction.specs.gathered.System.{place_at};
 
 use civl_meaning::remaining::{Numbered, rest_at};

@@ -2,8 +2,8 @@
 ghost use Rattle.std.specs.Prelude.{◌<◌, length, IfOk, IfSome, IfNone};
 ghost use Rattle.civl_reduction.specs.gathering.Gathered.{own, FailsAlong, FailsSooner};
 ghost use Rattle.civl_reduction.specs.gathered.Laws.{by_thread};
-ghost use Rattle.civl_blocked.specs.Segments.{IsGround, over, IsShortened};
-ghost use Rattle.civl_blocked.specs.Shortened.{IsFront, IsFrontBehind, FailsBehindOther};
+ghost use Rattle.civl_blocked.specs.inner.Segments.{IsGround, over, IsShortened};
+ghost use Rattle.civl_blocked.specs.inner.Shortened.{IsFront, IsFrontBehind, FailsBehindOther};
 
 use crate::ground::Ground;
 use crate::place::is_inside;

@@ -2,8 +2,8 @@
 ghost use Rattle.std.specs.Prelude.{◌≡◌, true, Some, None, IfOk, IfSome, IfNone, IsTrue};
 ghost use Rattle.civl_meaning.specs.declared.config.Config.{Config as Given};
 ghost use Rattle.civl_reduction.specs.interleavings.Systems.{Failing};
-ghost use Rattle.civl_blocked.specs.Places.{place_of};
-ghost use Rattle.civl_blocked.specs.Segments.{IsGround, over, place_on};
+ghost use Rattle.civl_blocked.specs.inner.Places.{place_of};
+ghost use Rattle.civl_blocked.specs.inner.Segments.{IsGround, over, place_on};
 
 use crate::ground::Ground;
 use crate::place::{Place, place_at};

@@ -2,13 +2,13 @@
 ghost use Rattle.std.specs.Prelude.{ℕ, ◌≡◌, ◌+◌, ◌<◌, ◌≤◌, ◌++◌, List, Some, None, length, drop, IfOk, OnOk, IsTrue};
 ghost use Rattle.std.specs.VecDeque.{deque_len};
 ghost use Rattle.civl_reduction.specs.gathered.Laws.{by_thread};
-ghost use Rattle.civl_blocked.specs.Arranged.{IsArranged};
+ghost use Rattle.civl_blocked.specs.inner.Arranged.{IsArranged};
 ghost use Rattle.civl_meaning.specs.declared.config.Move.{Move as Given};
 ghost use Rattle.civl_reduction.specs.gathering.Gathered.{others};
-ghost use Rattle.civl_blocked.specs.Segments.{IsGround, program_of, Gathered};
+ghost use Rattle.civl_blocked.specs.inner.Segments.{IsGround, program_of, Gathered};
 ghost use Rattle.civl_blocked.specs.declared.turning.Next.TheVariants.{Goes, Done};
 ghost use Rattle.civl_blocked.specs.Blocked.{IsBlocked};
-ghost use Rattle.civl_blocked.specs.Turning.{IsTurning, IsGoing, IsNext, IsGathering, IsShortening, IsFinishing, HasRoom, whole_of, part_of, measure};
+ghost use Rattle.civl_blocked.specs.inner.Turning.{IsTurning, IsGoing, IsNext, IsGathering, IsShortening, IsFinishing, HasRoom, whole_of, part_of, measure};
 
 use crate::arranging::Arranged;
 use crate::blocked::Blocked;

@@ -1,9 +1,9 @@
 // The moves up to the turn of a block, and up to its end.
 ghost use Rattle.std.specs.Prelude.{◌≡◌, IfOk, IsTrue, IsFalse, true, false};
 ghost use Rattle.civl_reduction.specs.interleavings.Reduction.{is_inside};
-ghost use Rattle.civl_blocked.specs.Places.{place_of};
-ghost use Rattle.civl_blocked.specs.Segments.{IsGround, over, FailsTo};
-ghost use Rattle.civl_blocked.specs.Walked.{IsToTurn, IsToEnd};
+ghost use Rattle.civl_blocked.specs.inner.Places.{place_of};
+ghost use Rattle.civl_blocked.specs.inner.Segments.{IsGround, over, FailsTo};
+ghost use Rattle.civl_blocked.specs.inner.Walked.{IsToTurn, IsToEnd};
 
 use crate::ground::Ground;
 use crate::place::{Place, is_early, is_inside};

@@ -33,7 +33,7 @@ use Rattle.civl_moves.specs.declared.sweep.Sweep.{Sweep}
 use Rattle.civl_moves.specs.States.{bool_at, stop_at, swept_at, CanStop, CanSweep}
 use Rattle.civl_body.specs.declared.way.Way.{Way}
 use Rattle.civl_body.specs.Walks.{ends_at, IsWay, IsWalk, CanTake}
-use Rattle.civl_body.specs.Ways.{way_from, exit_way, ways_from}
+use Rattle.civl_body.specs.inner.Ways.{way_from, exit_way, ways_from}
 use Rattle.civl_body.proofs.Listing.{any_where, any_none, numbers, stops_at, ways_ends, each_way}
 
 -- ---- stops that are taken

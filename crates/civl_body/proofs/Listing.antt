@@ -11,7 +11,7 @@ use Rattle.civl_moves.specs.sweeps.Flowing.{is_statement}
 use Rattle.civl_moves.specs.declared.sweep.Stop.{Stop}
 use Rattle.civl_moves.specs.declared.sweep.Sweep.{Sweep}
 use Rattle.civl_body.specs.declared.way.Way.{Way}
-use Rattle.civl_body.specs.Ways.{way_from, ways_before, exit_way, exit_ways, ways_from}
+use Rattle.civl_body.specs.inner.Ways.{way_from, ways_before, exit_way, exit_ways, ways_from}
 
 -- ---- lists
 

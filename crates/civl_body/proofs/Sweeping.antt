@@ -34,7 +34,7 @@ use Rattle.civl_moves.proofs.States.{test_value, test_bool}
 use Rattle.civl_states.specs.declared.beginning.Beginning.{Beginning}
 use Rattle.civl_states.specs.Beginnings.{AreBegun, CanBegin}
 use Rattle.civl_body.specs.Passing.{course_in, SaysChoices, ReadyFrom, Passes}
-use Rattle.civl_body.specs.Ways.{sweep_of}
+use Rattle.civl_body.specs.inner.Ways.{sweep_of}
 use Rattle.civl_body.proofs.Passing.{has_stay, says_stay, own_choices}
 use Rattle.civl_body.proofs.Listing.{numbers}
 use Rattle.civl_body.proofs.Drawn.{numbers_same}

@@ -1,4 +1,4 @@
 pub mod Walks
 pub mod Passing
-pub mod Ways
 pub mod Weights
+pub mod inner

@@ -19,7 +19,7 @@ ghost use Rattle.civl_conditions.specs.Weights.{passed_weight};
 ghost use Rattle.civl_states.specs.formula_parts.Said.{Env, IsTest};
 ghost use Rattle.civl_states.specs.Beginnings.{AreBegun, CanBegin};
 ghost use Rattle.civl_body.specs.Walks.{CanTake, IsWalk};
-ghost use Rattle.civl_body.specs.Ways.{exit_ways, sweep_of, way_from, ways_before, ways_from};
+ghost use Rattle.civl_body.specs.inner.Ways.{exit_ways, sweep_of, way_from, ways_before, ways_from};
 
 use crate::begin::pass_from;
 use crate::way::{Walk, Way};

@@ -15,8 +15,8 @@ use Rattle.civl_propagation.specs.Trail.{TrailState, before, IsAt, IsStep, Reaso
 use Rattle.civl_propagation.specs.declared.trail.Step.{Step}
 use Rattle.civl_propagation.proofs.Trails.{some_step, before_place, before_by, before_marked}
 use Rattle.civl_propagation.proofs.Serving.{mark_is}
-use Rattle.civl_cdcl.specs.Levels.{FirstSays, LastSays}
-use Rattle.civl_cdcl.specs.Analysis.{sees, seen_before, HasVariable, AreFound, SeesOne, Sees, Analyses, HasOne, IsUnseen}
+use Rattle.civl_cdcl.specs.inner.Levels.{FirstSays, LastSays}
+use Rattle.civl_cdcl.specs.inner.Analysis.{sees, seen_before, HasVariable, AreFound, SeesOne, Sees, Analyses, HasOne, IsUnseen}
 
 -- an element read with another default
 pub at_same : {X : Type 0} (xs : List X) (n k : ℕ) (x d : X) → n < length xs → k ≡ n → get_or xs n x ≡ get_or xs k d

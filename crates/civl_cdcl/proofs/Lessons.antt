@@ -16,8 +16,8 @@ use Rattle.civl_propagation.specs.Trail.{TrailState, before, IsTrailOver, Reason
 use Rattle.civl_propagation.specs.declared.trail.Step.{Step}
 use Rattle.civl_propagation.proofs.Trails.{some_lit, before_place, before_by, before_marked}
 use Rattle.civl_propagation.proofs.Serving.{mark_is}
-use Rattle.civl_cdcl.specs.Levels.{FirstSays, LastSays, AreBefore}
-use Rattle.civl_cdcl.specs.Analysis.{sees, seen_before, AreFound, HasOne, AreSeen, Follows, KeepSays, with_kept, HasOpposite, Teaches, ReachSays, LearnSays}
+use Rattle.civl_cdcl.specs.inner.Levels.{FirstSays, LastSays, AreBefore}
+use Rattle.civl_cdcl.specs.inner.Analysis.{sees, seen_before, AreFound, HasOne, AreSeen, Follows, KeepSays, with_kept, HasOpposite, Teaches, ReachSays, LearnSays}
 use Rattle.civl_cdcl.proofs.Analysing.{at_same, quiet_unfalsified, seen_by, seen_sees, seen_low, seen_place, seen_marked, start_quiet, forced_by}
 
 zero_is : (j : ℕ) → j < 1 → j ≡ 0

@@ -12,7 +12,7 @@ use Rattle.civl_units.specs.Marks.{is_marked, marked, IsQuiet}
 use Rattle.civl_units.proofs.MarkLemmas.{lt_or_eq}
 use Rattle.civl_units.proofs.Propagating.{all_left}
 use Rattle.civl_propagation.specs.Engine.{EngineState}
-use Rattle.civl_cdcl.specs.Propagation.{ChoiceSays}
+use Rattle.civl_cdcl.specs.inner.Propagation.{ChoiceSays}
 use Rattle.civl_cdcl.specs.Outcome.{IsModel, IsLearned, HaveLearned, RefutesWithin, SpendsWhole}
 use Rattle.civl_cdcl.specs.Turn.{AreBits, IsMarked, IsFull}
 

@@ -10,7 +10,7 @@ use Rattle.civl_cnf.specs.Literal.{Literal, opposite}
 use Rattle.civl_units.specs.Propagation.{Fails}
 use Rattle.civl_units.specs.Marks.{marked}
 use Rattle.civl_rup.specs.Rup.{HasEachOnce}
-use Rattle.civl_cdcl.specs.Analysis.{HasOpposite, Teaches}
+use Rattle.civl_cdcl.specs.inner.Analysis.{HasOpposite, Teaches}
 
 abbrev same_variable : Literal → Literal → Bool
 same_variable l m = eqb l.variable m.variable

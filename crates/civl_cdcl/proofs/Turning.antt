@@ -10,9 +10,9 @@ use Rattle.civl_propagation.specs.Trail.{TrailState, before, IsAt, IsTrailOver, 
 use Rattle.civl_propagation.specs.Engine.{EngineState, IsQuietBelow}
 use Rattle.civl_propagation.proofs.Engines.{decided_none, conflict_by}
 use Rattle.civl_rup.specs.Rup.{HasRup}
-use Rattle.civl_cdcl.specs.Levels.{LastSays}
+use Rattle.civl_cdcl.specs.inner.Levels.{LastSays}
 use Rattle.civl_cdcl.specs.Outcome.{IsLearned}
-use Rattle.civl_cdcl.specs.Analysis.{LearnSays}
+use Rattle.civl_cdcl.specs.inner.Analysis.{LearnSays}
 use Rattle.civl_cdcl.specs.Turn.{IsFull, IsLearnedBy, IsBack, TurnSays}
 use Rattle.civl_cdcl.specs.declared.turn.Turn.{Turn}
 use Rattle.civl_cdcl.proofs.Analysing.{quiet_unfalsified, start_quiet}

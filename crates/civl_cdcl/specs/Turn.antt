@@ -5,7 +5,7 @@ use Rattle.civl_units.specs.Marks.{marked, IsQuiet}
 use Rattle.civl_propagation.specs.Trail.{IsCut}
 use Rattle.civl_propagation.specs.Engine.{EngineState, IsAtRest, IsQuietBelow}
 use Rattle.civl_rup.specs.Rup.{HasRup}
-use Rattle.civl_cdcl.specs.Propagation.{ChoiceSays}
+use Rattle.civl_cdcl.specs.inner.Propagation.{ChoiceSays}
 use Rattle.civl_cdcl.specs.Outcome.{IsLearned}
 use Rattle.civl_cdcl.specs.declared.turn.Turn.{Turn}
 use Rattle.civl_cdcl.specs.declared.turn.Turn.TheVariants.{Marked, Refuted, Full, Learns}

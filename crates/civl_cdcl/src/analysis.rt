@@ -5,8 +5,8 @@ ghost use Rattle.civl_units.specs.Propagation.{IsFalsified};
 ghost use Rattle.civl_units.specs.Marks.{marked};
 ghost use Rattle.civl_propagation.specs.declared.trail.Step.{Step as StepOf};
 ghost use Rattle.civl_propagation.specs.Trail.{IsAt, IsTrailOver};
-ghost use Rattle.civl_cdcl.specs.Levels.{FirstSays, LastSays};
-ghost use Rattle.civl_cdcl.specs.Analysis.{AreFound, SeesOne, Sees, Analyses, HasOne, IsUnseen};
+ghost use Rattle.civl_cdcl.specs.inner.Levels.{FirstSays, LastSays};
+ghost use Rattle.civl_cdcl.specs.inner.Analysis.{AreFound, SeesOne, Sees, Analyses, HasOne, IsUnseen};
 
 use crate::Memory;
 use civl_cnf::Lit;

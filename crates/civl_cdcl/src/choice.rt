@@ -1,6 +1,6 @@
 // Variables without a value.
 ghost use Rattle.std.specs.Prelude.{◌≤◌, length, IsTrue};
-ghost use Rattle.civl_cdcl.specs.Order.{IsFree, ScanSays, OpenSays};
+ghost use Rattle.civl_cdcl.specs.inner.Order.{IsFree, ScanSays, OpenSays};
 
 /// Whether a number is that of a variable without a value.
 pub fn is_open(marks: &[Option<bool>], variable: usize) -> bool

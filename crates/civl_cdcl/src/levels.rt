@@ -1,6 +1,6 @@
 // The levels of a trail.
 ghost use Rattle.std.specs.Prelude.{◌≤◌, ◌<◌, ◌-◌, length, slice_index_or};
-ghost use Rattle.civl_cdcl.specs.Levels.{FirstSays, LastSays, AreBefore};
+ghost use Rattle.civl_cdcl.specs.inner.Levels.{FirstSays, LastSays, AreBefore};
 
 /// The first start of a level.
 pub fn first_start(starts: &[usize]) -> usize

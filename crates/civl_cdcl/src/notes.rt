@@ -1,6 +1,6 @@
 // What a search notes.
 ghost use Rattle.std.specs.Prelude.{IfOk};
-ghost use Rattle.civl_cdcl.specs.Notes.{IsClear};
+ghost use Rattle.civl_cdcl.specs.inner.Notes.{IsClear};
 
 use crate::Memory;
 use crate::hints::Hints;

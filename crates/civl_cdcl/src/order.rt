@@ -1,7 +1,7 @@
 // The order of decisions.
 ghost use Rattle.std.specs.Prelude.{◌≤◌, ◌^◌, length, IfSome};
-ghost use Rattle.civl_cdcl.specs.Order.{IsFree};
-ghost use Rattle.civl_cdcl.specs.Propagation.{ChoiceSays};
+ghost use Rattle.civl_cdcl.specs.inner.Order.{IsFree};
+ghost use Rattle.civl_cdcl.specs.inner.Propagation.{ChoiceSays};
 
 use crate::Memory;
 use crate::choice::{is_open, next_open};

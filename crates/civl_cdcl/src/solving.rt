@@ -1,8 +1,8 @@
 // The search.
 ghost use Rattle.std.specs.Prelude.{◌≡◌, ◌≤◌, ◌++◌, ◌∷◌, [], ◌^◌, List, Bool, length, IfOk, OnOk};
 ghost use Rattle.civl_cnf.specs.Literal.{Literal};
-ghost use Rattle.civl_rup.specs.Standing.{IsAtRoot, Stands};
-ghost use Rattle.civl_cdcl.specs.Notes.{IsClear};
+ghost use Rattle.civl_rup.specs.inner.Standing.{IsAtRoot, Stands};
+ghost use Rattle.civl_cdcl.specs.inner.Notes.{IsClear};
 ghost use Rattle.civl_cdcl.specs.Turn.{AreBits};
 ghost use Rattle.civl_cdcl.specs.Outcome.{OutcomeSays, IsModel, RefutesWithin, SpendsWhole};
 

@@ -5,8 +5,8 @@ ghost use Rattle.civl_cnf.specs.ClauseSet.{IsBelow, AreBelow};
 ghost use Rattle.civl_units.specs.Propagation.{IsFalsified};
 ghost use Rattle.civl_units.specs.Marks.{marked};
 ghost use Rattle.civl_propagation.specs.Trail.{IsAt, IsTrailOver};
-ghost use Rattle.civl_cdcl.specs.Levels.{FirstSays, LastSays};
-ghost use Rattle.civl_cdcl.specs.Analysis.{sees, AreFound, HasOne, AreSeen, Follows, KeepSays, with_kept, Teaches, ReachSays, LearnSays};
+ghost use Rattle.civl_cdcl.specs.inner.Levels.{FirstSays, LastSays};
+ghost use Rattle.civl_cdcl.specs.inner.Analysis.{sees, AreFound, HasOne, AreSeen, Follows, KeepSays, with_kept, Teaches, ReachSays, LearnSays};
 
 use crate::Memory;
 use crate::analysis::{analyse, place_in};

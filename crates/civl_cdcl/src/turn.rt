@@ -1,8 +1,8 @@
 // The search up to its next conflict.
 ghost use Rattle.std.specs.Prelude.{◌≡◌, ◌<◌, ◌≤◌, length, IfOk, OnOk};
 ghost use Rattle.civl_propagation.specs.Engine.{IsEngine, EndsBy};
-ghost use Rattle.civl_cdcl.specs.Propagation.{DescentSays};
-ghost use Rattle.civl_cdcl.specs.Notes.{IsClear};
+ghost use Rattle.civl_cdcl.specs.inner.Propagation.{DescentSays};
+ghost use Rattle.civl_cdcl.specs.inner.Notes.{IsClear};
 ghost use Rattle.civl_cdcl.specs.Turn.{IsBack, TurnSays};
 
 use crate::Memory;

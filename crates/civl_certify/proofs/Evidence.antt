@@ -15,7 +15,7 @@ use Rattle.civl_states.specs.formula_parts.Given.{AreVariablesOf}
 use Rattle.civl_verdicts.specs.Formulas.{Formula}
 use Rattle.civl_verdicts.specs.decisions.Decided.{IsTermOf}
 use Rattle.civl_verdicts.proofs.decisions.Concluding.{never_true, stands_for, decided_never}
-use Rattle.civl_certify.specs.Examined.{IsEvidence}
+use Rattle.civl_certify.specs.inner.Examined.{IsEvidence}
 use Rattle.civl_certify.specs.declared.examining.Evidence.TheVariants.{Refuted, Spent}
 
 module _ (ns : List Node) (id : ℕ) (sorts : List Sort) (budget : ℕ) (formula : Formula) (term : IsTermOf ns id sorts formula) (v_is : AreVariablesOf ns sorts) where

@@ -7,12 +7,13 @@ use Rattle.civl_firing.specs.declared.store.Store.{Store}
 use Rattle.civl_meaning.specs.Initial.{IsInitial}
 use Rattle.civl_cnf.specs.Literal.{Literal}
 use Rattle.civl_cnf.specs.ClauseSet.{ClauseSet, AreBelow}
-use Rattle.civl_rup.specs.Rup.{Refutes, Spends}
+use Rattle.civl_rup.specs.Rup.{Refutes}
 use Rattle.civl_portfolio.specs.Prover.{Meanings}
 use Rattle.civl_conditions.specs.declared.condition.Condition.{Condition}
 use Rattle.civl_conditions.specs.Listed.{conditions}
 use Rattle.civl_conditions.specs.Violated.{Violates, Holds as HoldsOf}
 use Rattle.civl_verdicts.specs.Formulas.{Formula, violation_formula, IsWide, StandsForFormula}
+use Rattle.civl_verdicts.specs.Verdicts.{SpendsOn}
 use Rattle.civl_verdicts.specs.Surveys.{IsInitialFound}
 use Rattle.civl_verdicts.specs.decisions.Decided.{WereAsked}
 use Rattle.civl_certify.specs.declared.certified.Shown.{Shown}
@@ -25,10 +26,6 @@ pub record IsRefutation (formula : Formula) (set : ClauseSet) (log : List (List 
   pub stands : StandsForFormula formula set
   pub refutes : Refutes set log
   pub below : AreBelow set.variables set.clauses
-
--- the log spends the budget on some clause set that stands for the formula
-abbrev pub SpendsOn : ℕ → Formula → List (List Literal) → Type 0
-SpendsOn budget formula log = (set : ClauseSet) × StandsForFormula formula set × Spends set log budget
 
 -- the formula has no more lists of values than the budget
 abbrev pub IsNarrow : ℕ → Formula → Type 0

@@ -1,5 +1,4 @@
 pub mod Making
-pub mod Trimmed
 pub mod Replaying
 pub mod Reports
 pub mod Agreement

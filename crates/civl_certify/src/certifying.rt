@@ -12,7 +12,8 @@ ghost use Rattle.civl_verdicts.specs.Formulas.{violation_formula};
 ghost use Rattle.civl_verdicts.specs.decisions.Decided.{IsDecided, WasAsked};
 ghost use Rattle.civl_verdicts.specs.judging.Made.{IsMade};
 ghost use Rattle.civl_verdicts.specs.judging.Searches.{UnaskedWhereHeavy};
-ghost use Rattle.civl_certify.specs.Certified.{SpendsOn, IsShown, IsCertified, IsCertifiedAt, CertifiedBy};
+ghost use Rattle.civl_certify.specs.Certified.{IsShown, IsCertified, IsCertifiedAt, CertifiedBy};
+ghost use Rattle.civl_verdicts.specs.Verdicts.{SpendsOn};
 
 use crate::certified::{Certified, Shown};
 use crate::examining::{Evidence, examine};
@@ -178,7 +179,7 @@ fn answer<M: Makes>(
 /// # Errors
 ///
 /// `Weight` comes exactly where a formula weighs more than 400,000, and has the first, as `conditions` of civl_weights has it; no
-/// prover is asked then. `Memory` comes where memory is wanting. The provers that were dropped until then are gone.
+/// prover is asked then. `Memory` comes where memory is wanting. Nothing is said of the provers then.
 pub fn certify<M: Makes>(
     alloc: Global,
     makes: &M,

@@ -7,7 +7,7 @@ ghost use Rattle.civl_terms.specs.Weights.{graph_weight};
 ghost use Rattle.civl_states.specs.formula_parts.Given.{AreVariablesOf};
 ghost use Rattle.civl_verdicts.specs.Formulas.{Formula};
 ghost use Rattle.civl_verdicts.specs.decisions.Decided.{IsTermOf, WasAsked};
-ghost use Rattle.civl_certify.specs.Examined.{IsEvidence};
+ghost use Rattle.civl_certify.specs.inner.Examined.{IsEvidence};
 
 use civl_bits::Value;
 use civl_blast::{Blasted, blast};

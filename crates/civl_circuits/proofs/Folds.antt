@@ -5,7 +5,7 @@ use Rattle.std.proofs.Math.Bool.{and-false}
 use Rattle.civl_cnf.specs.Literal.{Literal, opposite, truth_of}
 use Rattle.civl_cnf.specs.Gates.{bit, xor}
 use Rattle.civl_cnf.proofs.Extending.{truth_of-opposite}
-use Rattle.civl_circuits.specs.Folding.{Folds, AreApart, ReducesChoice, ReducesAddition, IsPair, IsTriple}
+use Rattle.civl_circuits.specs.inner.Folding.{Folds, AreApart, ReducesChoice, ReducesAddition, IsPair, IsTriple}
 use Rattle.civl_circuits.specs.declared.folding.Choice.TheVariants as choice
 use Rattle.civl_circuits.specs.declared.folding.Addition.TheVariants as addition
 

@@ -8,7 +8,7 @@ use Rattle.civl_cnf.specs.Gates.{Extends, IsGate, IsAdder, bit, xor, majority}
 use Rattle.civl_cnf.proofs.Extending.{extends_same, extends_trans, extends_keeps, extends_kept, truth_of-opposite}
 use Rattle.civl_circuits.specs.Circuits.{IsOne, MakesBit}
 use Rattle.civl_circuits.specs.Hashing.{literal_of, gate_value, IsOutput, AreOutputs, IsHashed, IsConstant, IsFolded}
-use Rattle.civl_circuits.specs.Folding.{Folds, AreApart, ReducesChoice, choice_value, ReducesAddition, IsPair, IsTriple, signed, count, MakesSum, MakesHalf}
+use Rattle.civl_circuits.specs.inner.Folding.{Folds, AreApart, ReducesChoice, choice_value, ReducesAddition, IsPair, IsTriple, signed, count, MakesSum, MakesHalf}
 use Rattle.civl_circuits.specs.declared.folding.Choice.{Choice}
 use Rattle.civl_circuits.specs.declared.folding.Choice.TheVariants as choice
 use Rattle.civl_circuits.specs.declared.folding.Addition.TheVariants as addition

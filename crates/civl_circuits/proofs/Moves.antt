@@ -13,7 +13,7 @@ use Rattle.civl_cnf.specs.ClauseSet.{ClauseSet, IsBelow}
 use Rattle.civl_cnf.specs.Gates.{bit}
 use Rattle.civl_cnf.proofs.Extending.{extends_same, extends_trans, extends_keeps}
 use Rattle.civl_circuits.specs.Circuits.{number, IsOne, MakesWord, MakesBit}
-use Rattle.civl_circuits.specs.Shift.{shifted, shifted_word}
+use Rattle.civl_circuits.specs.inner.Shift.{shifted, shifted_word}
 use Rattle.civl_circuits.specs.declared.shifting.Direction.{Direction}
 use Rattle.civl_circuits.specs.declared.shifting.Direction.TheVariants as direction
 use Rattle.civl_circuits.proofs.Numbers.{number-append, number-next, number-lt, number-low, number-split, number-high, number-top, number-zeros}

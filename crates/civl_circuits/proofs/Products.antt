@@ -10,7 +10,7 @@ use Rattle.civl_cnf.specs.ClauseSet.{ClauseSet}
 use Rattle.civl_cnf.specs.Gates.{bit}
 use Rattle.civl_cnf.proofs.Extending.{extends_same, extends_trans, extends_keeps}
 use Rattle.civl_circuits.specs.Circuits.{number, IsOne, MakesWord}
-use Rattle.civl_circuits.specs.Shift.{shifted_word}
+use Rattle.civl_circuits.specs.inner.Shift.{shifted_word}
 use Rattle.civl_circuits.specs.declared.shifting.Direction.TheVariants as direction
 use Rattle.civl_circuits.proofs.Numbers.{number-next, number-zeros}
 use Rattle.civl_circuits.proofs.Words.{IsBelow-replicate, zero_is, word_as}

@@ -9,7 +9,7 @@ use Rattle.civl_cnf.specs.ClauseSet.{ClauseSet, IsBelow, Satisfies}
 use Rattle.civl_cnf.specs.Gates.{Extends, bit}
 use Rattle.civl_cnf.proofs.Extending.{extends_same, extends_trans, extends_keeps}
 use Rattle.civl_circuits.specs.Circuits.{number, IsOne, MakesWord}
-use Rattle.civl_circuits.specs.Folding.{MakesSum}
+use Rattle.civl_circuits.specs.inner.Folding.{MakesSum}
 use Rattle.civl_circuits.proofs.Numbers.{number-push, number-next, number-take, number-lt, number-zeros}
 use Rattle.civl_circuits.proofs.Words.{IsBelow-more, IsBelow-take, zero_is, word_as}
 

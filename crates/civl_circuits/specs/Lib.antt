@@ -1,5 +1,4 @@
 pub mod Circuits
 pub mod Hashing
-pub mod Folding
-pub mod Shift
 pub mod Laws
+pub mod inner

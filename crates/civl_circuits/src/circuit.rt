@@ -4,7 +4,7 @@ ghost use Rattle.civl_cnf.specs.Literal.{truth_of};
 ghost use Rattle.civl_cnf.specs.Gates.{Extends, xor};
 ghost use Rattle.civl_circuits.specs.Circuits.{IsOne, MakesBit};
 ghost use Rattle.civl_circuits.specs.Hashing.{IsFolded};
-ghost use Rattle.civl_circuits.specs.Folding.{MakesSum, MakesHalf};
+ghost use Rattle.civl_circuits.specs.inner.Folding.{MakesSum, MakesHalf};
 
 use crate::folding::{Addition, Choice, reduce_addition, reduce_choice};
 use crate::gate::Gate;

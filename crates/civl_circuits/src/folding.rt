@@ -1,7 +1,7 @@
 // Gates that fewer operands do for, and operands in a normal order.
 ghost use Rattle.std.specs.Prelude.{◌≡◌, ◌&&◌, IfSome, IfNone};
 ghost use Rattle.civl_cnf.specs.Gates.{xor};
-ghost use Rattle.civl_circuits.specs.Folding.{Folds, AreApart, ReducesChoice, ReducesAddition, IsPair, IsTriple, signed};
+ghost use Rattle.civl_circuits.specs.inner.Folding.{Folds, AreApart, ReducesChoice, ReducesAddition, IsPair, IsTriple, signed};
 
 use civl_cnf::Lit;
 

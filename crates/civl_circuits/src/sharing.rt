@@ -4,7 +4,7 @@ ghost use Rattle.civl_cnf.specs.Literal.{truth_of};
 ghost use Rattle.civl_cnf.specs.Gates.{Extends, xor};
 ghost use Rattle.civl_circuits.specs.Circuits.{MakesBit};
 ghost use Rattle.civl_circuits.specs.Hashing.{AreOutputs, IsHashed, IsFolded};
-ghost use Rattle.civl_circuits.specs.Folding.{MakesSum};
+ghost use Rattle.civl_circuits.specs.inner.Folding.{MakesSum};
 
 use crate::folding::{fold_and, fold_xor, ordered, ordered_three, signed};
 use crate::gate::{Gate, Operand};

@@ -5,7 +5,7 @@ ghost use Rattle.civl_cnf.specs.Literal.{truth_of};
 ghost use Rattle.civl_cnf.specs.ClauseSet.{IsBelow};
 ghost use Rattle.civl_cnf.specs.Gates.{Extends, bit};
 ghost use Rattle.civl_circuits.specs.Circuits.{number, IsOne, MakesWord};
-ghost use Rattle.civl_circuits.specs.Shift.{shifted_word, shifted};
+ghost use Rattle.civl_circuits.specs.inner.Shift.{shifted_word, shifted};
 
 use crate::wiring::{join, repeated};
 use crate::{Circuit, choose, complement, is_zero};

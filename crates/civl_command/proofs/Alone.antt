@@ -13,7 +13,7 @@ use Rattle.civl_prove.proofs.outline_reports.Beginning.{only_safe_is_safe}
 use Rattle.civl_words.specs.Words.{usual_budget}
 use Rattle.civl_frontend.specs.Report.{fault_text}
 use Rattle.civl_frontend.specs.Texts.{limit}
-use Rattle.civl_frontend.specs.Streams.{ReadState, WriteState}
+use Rattle.civl_frontend.specs.Call.{Call}
 use Rattle.civl_frontend.specs.declared.reader.Fault.{Fault}
 use Rattle.civl_frontend.specs.declared.reader.Fault.TheVariants.{NoToken, NotHere, Deep}
 use Rattle.civl_frontend.specs.declared.status.Status.{Status}
@@ -23,7 +23,7 @@ use Rattle.civl_command.specs.Tasks.{AskFor, AskForTrial, AreTaken}
 use Rattle.civl_command.specs.Report.{trial_line}
 use Rattle.civl_command.specs.Outcome.{Outcome, TooLong, Unread, Broken, Judged, Heavy, Proven, Checks, Proves, OfRead, TrialCallsFor, status_of, report_of}
 use Rattle.civl_command.specs.Judge.{Reads, JudgesInput, JudgesTrial, Fails, Explains}
-use Rattle.civl_command.specs.Promises.{AcceptsAlone, IsSafeAlone}
+use Rattle.civl_command.specs.Statuses.{AcceptsAlone, IsSafeAlone}
 use Rattle.civl_command.specs.declared.task.Task.{Task}
 use Rattle.civl_command.specs.declared.task.Task.TheVariants.{Check, Prove}
 use Rattle.civl_command.proofs.Asking.{same_task, same_trial, task_or_trial}
@@ -63,12 +63,12 @@ read_alone : (budget : ℕ) (reading : Result Program Fault) (outcome : Outcome)
 read_alone budget (Ok program) outcome says h = way_alone budget program outcome (check_way budget program outcome says) h
 read_alone budget (Err fault) outcome says h = absurd (fault_first fault (accepted_of outcome (Unread fault) says h))
 
-module _ (words : List (List ℕ)) (before after : ReadState) (sink sink_after : WriteState) (text : List ℕ → List ℕ) (never : (rest : List ℕ) → [] ≡ text rest → ⊥) (taken_by : AreTaken words) where
+module _ (call : Call) (text : List ℕ → List ℕ) (never : (rest : List ℕ) → [] ≡ text rest → ⊥) (taken_by : AreTaken call.words) where
   -- the report goes on as some text does
   abbrev GoesOn : List ℕ → Type 0
   GoesOn report = (rest : List ℕ) × (report ≡ text rest)
 
-  failed_alone : (status : Status) (report : List ℕ) → Fails words before after status report → GoesOn report → ⊥
+  failed_alone : (status : Status) (report : List ℕ) → Fails call.words call.source call.source_after status report → GoesOn report → ⊥
   failed_alone Done report f h = f
   failed_alone Rejected report f h = f
   failed_alone Undecided report f h = f
@@ -79,45 +79,45 @@ module _ (words : List (List ℕ)) (before after : ReadState) (sink sink_after :
   failed_alone Memory report f h = never h.0 (sym f.1 ∙ h.1)
 
   -- so it is enough to look at the answers that are no failures
-  alone_if : ((status : Status) (report : List ℕ) → JudgesInput words before after status report → GoesOn report → status ≡ Done)
-      → ((status : Status) (report : List ℕ) → JudgesTrial words before after status report → GoesOn report → status ≡ Done)
-      → (status : Status) → Explains words before after sink sink_after status
-      → (taken rest : List ℕ) → sink.bytes ≡ Some taken → sink_after.bytes ≡ Some (taken ++ text rest) → (status ≡ Done) ⊎ (status ≡ WriteFault)
-  alone_if on_input on_trial status (inl (report, inl h, grown)) taken rest was is = inl (on_input status report h (rest, grown_by sink sink_after taken report (text rest) grown was is))
-  alone_if on_input on_trial status (inl (report, inr (inl t), grown)) taken rest was is = inl (on_trial status report t (rest, grown_by sink sink_after taken report (text rest) grown was is))
-  alone_if on_input on_trial status (inl (report, inr (inr f), grown)) taken rest was is = absurd (failed_alone status report f (rest, grown_by sink sink_after taken report (text rest) grown was is))
-  alone_if on_input on_trial status (inr h) taken rest was is = inr h.0
+  alone_if : ((status : Status) (report : List ℕ) → JudgesInput call.words call.source call.source_after status report → GoesOn report → status ≡ Done)
+      → ((status : Status) (report : List ℕ) → JudgesTrial call.words call.source call.source_after status report → GoesOn report → status ≡ Done)
+      → Explains call → (taken rest : List ℕ) → call.sink.bytes ≡ Some taken → call.sink_after.bytes ≡ Some (taken ++ text rest)
+      → (call.status ≡ Done) ⊎ (call.status ≡ WriteFault)
+  alone_if on_input on_trial (inl (report, inl h, grown)) taken rest was is = inl (on_input call.status report h (rest, grown_by call.sink call.sink_after taken report (text rest) grown was is))
+  alone_if on_input on_trial (inl (report, inr (inl t), grown)) taken rest was is = inl (on_trial call.status report t (rest, grown_by call.sink call.sink_after taken report (text rest) grown was is))
+  alone_if on_input on_trial (inl (report, inr (inr f), grown)) taken rest was is = absurd (failed_alone call.status report f (rest, grown_by call.sink call.sink_after taken report (text rest) grown was is))
+  alone_if on_input on_trial (inr h) taken rest was is = inr h.0
 
-module _ (words : List (List ℕ)) (before after : ReadState) (sink sink_after : WriteState) (budget : ℕ) (ask : AskFor (Check budget) words) where
-  found_alone : (outcome : Outcome) → Reads (Check budget) before after outcome → Accepted (report_of outcome) → Done ≡ status_of outcome
+module _ (call : Call) (budget : ℕ) (ask : AskFor (Check budget) call.words) where
+  found_alone : (outcome : Outcome) → Reads (Check budget) call.source call.source_after outcome → Accepted (report_of outcome) → Done ≡ status_of outcome
   found_alone outcome (inl past) h = absurd (refused_first _ (accepted_of outcome (TooLong limit) past.0 h))
   found_alone outcome (inr all) h = read_alone budget all.2.reading outcome all.2.says h
 
-  judged_alone : (status : Status) (report : List ℕ) → JudgesInput words before after status report → Accepted report → status ≡ Done
+  judged_alone : (status : Status) (report : List ℕ) → JudgesInput call.words call.source call.source_after status report → Accepted report → status ≡ Done
   judged_alone status report h begins =
-      let reads = subst (λ (t : Task). Reads t before after h.outcome) (same_task words h.task (Check budget) h.words_are ask) h.reads in
+      let reads = subst (λ (t : Task). Reads t call.source call.source_after h.outcome) (same_task call.words h.task (Check budget) h.words_are ask) h.reads in
       h.status_is ∙ sym (found_alone h.outcome reads (subst Accepted h.report_is begins))
 
-  pub alone_by : (status : Status) → Explains words before after sink sink_after status → AcceptsAlone [] sink sink_after status
-  alone_by = alone_if words before after sink sink_after (λ rest. codes "accepted" ++ rest) (nothing []) (inl (Check budget, ask)) judged_alone
-      (λ status report t begins. absurd (task_or_trial words (Check budget) t.number ask t.words_are))
+  pub alone_by : Explains call → AcceptsAlone [] call
+  alone_by = alone_if call (λ rest. codes "accepted" ++ rest) (nothing []) (inl (Check budget, ask)) judged_alone
+      (λ status report t begins. absurd (task_or_trial call.words (Check budget) t.number ask t.words_are))
 
-module _ (words : List (List ℕ)) (before after : ReadState) (sink sink_after : WriteState) (number : ℕ) (trial : AskForTrial number words) where
+module _ (call : Call) (number : ℕ) (trial : AskForTrial number call.words) where
   tried_alone : (outcome : Outcome) → TrialCallsFor number outcome → Accepted (report_of outcome) → Done ≡ status_of outcome
   tried_alone outcome (inl long) h = absurd (refused_first _ (accepted_of outcome (TooLong limit) long.0 h))
   tried_alone outcome (inr finds) h = read_alone usual_budget finds.reading outcome finds.says h
 
-  under_line : (status : Status) (report : List ℕ) → JudgesTrial words before after status report → (rest : List ℕ) × (report ≡ trial_line number ++ (codes "accepted" ++ rest)) → status ≡ Done
+  under_line : (status : Status) (report : List ℕ) → JudgesTrial call.words call.source call.source_after status report → (rest : List ℕ) × (report ≡ trial_line number ++ (codes "accepted" ++ rest)) → status ≡ Done
   under_line status report t h =
-      let line = ap trial_line (same_trial words t.number number t.words_are trial) in
+      let line = ap trial_line (same_trial call.words t.number number t.words_are trial) in
       let same = sym (t.answers.report_is ∙ ap (λ (l : List ℕ). l ++ report_of t.answers.outcome) line) ∙ h.1 in
       let begins = append_cancel_left (trial_line number) (report_of t.answers.outcome) (codes "accepted" ++ h.0) same in
-      let calls = subst (λ (n : ℕ). TrialCallsFor n t.answers.outcome) (same_trial words t.number number t.words_are trial) t.answers.calls in
+      let calls = subst (λ (n : ℕ). TrialCallsFor n t.answers.outcome) (same_trial call.words t.number number t.words_are trial) t.answers.calls in
       t.answers.status_is ∙ sym (tried_alone t.answers.outcome calls (h.0, begins))
 
-  pub tried_alone_by : (status : Status) → Explains words before after sink sink_after status → AcceptsAlone (trial_line number) sink sink_after status
-  tried_alone_by = alone_if words before after sink sink_after (λ rest. trial_line number ++ (codes "accepted" ++ rest)) (nothing (trial_line number)) (inr (number, trial))
-      (λ status report h begins. absurd (task_or_trial words h.task number h.words_are trial)) under_line
+  pub tried_alone_by : Explains call → AcceptsAlone (trial_line number) call
+  tried_alone_by = alone_if call (λ rest. trial_line number ++ (codes "accepted" ++ rest)) (nothing (trial_line number)) (inr (number, trial))
+      (λ status report h begins. absurd (task_or_trial call.words h.task number h.words_are trial)) under_line
 
 -- ---- what is found under `prove`
 
@@ -147,16 +147,16 @@ read_safe : (budget : ℕ) (reading : Result Outline Fault) (outcome : Outcome) 
 read_safe budget (Ok outline) outcome says h = way_safe budget outline outcome (prove_way budget outline outcome says) h
 read_safe budget (Err fault) outcome says h = absurd (fault_safe fault (safe_of outcome (Unread fault) says h))
 
-module _ (words : List (List ℕ)) (before after : ReadState) (sink sink_after : WriteState) (budget : ℕ) (ask : AskFor (Prove budget) words) where
-  found_safe : (outcome : Outcome) → Reads (Prove budget) before after outcome → Safe (report_of outcome) → Done ≡ status_of outcome
+module _ (call : Call) (budget : ℕ) (ask : AskFor (Prove budget) call.words) where
+  found_safe : (outcome : Outcome) → Reads (Prove budget) call.source call.source_after outcome → Safe (report_of outcome) → Done ≡ status_of outcome
   found_safe outcome (inl past) h = absurd (never_safe _ (safe_of outcome (TooLong limit) past.0 h))
   found_safe outcome (inr all) h = read_safe budget all.2.reading outcome all.2.says h
 
-  judged_safe : (status : Status) (report : List ℕ) → JudgesInput words before after status report → Safe report → status ≡ Done
+  judged_safe : (status : Status) (report : List ℕ) → JudgesInput call.words call.source call.source_after status report → Safe report → status ≡ Done
   judged_safe status report h begins =
-      let reads = subst (λ (t : Task). Reads t before after h.outcome) (same_task words h.task (Prove budget) h.words_are ask) h.reads in
+      let reads = subst (λ (t : Task). Reads t call.source call.source_after h.outcome) (same_task call.words h.task (Prove budget) h.words_are ask) h.reads in
       h.status_is ∙ sym (found_safe h.outcome reads (subst Safe h.report_is begins))
 
-  pub safe_alone_by : (status : Status) → Explains words before after sink sink_after status → IsSafeAlone sink sink_after status
-  safe_alone_by = alone_if words before after sink sink_after (λ rest. codes "safe" ++ rest) (λ rest is. cc) (inl (Prove budget, ask)) judged_safe
-      (λ status report t begins. absurd (task_or_trial words (Prove budget) t.number ask t.words_are))
+  pub safe_alone_by : Explains call → IsSafeAlone call
+  safe_alone_by = alone_if call (λ rest. codes "safe" ++ rest) (λ rest is. cc) (inl (Prove budget, ask)) judged_safe
+      (λ status report t begins. absurd (task_or_trial call.words (Prove budget) t.number ask t.words_are))

@@ -25,7 +25,7 @@ use Rattle.civl_frontend.specs.Texts.{SpellsProgram}
 use Rattle.civl_frontend.specs.declared.status.Status.TheVariants.{Done, Refused}
 use Rattle.civl_frontend.proofs.Lawful.{text_written}
 use Rattle.civl_command.specs.Outcome.{Outcome, Asked, Replayed, FindsReplayed, making_status, replaying_status, report_of, status_of}
-use Rattle.civl_command.specs.Promises.{Certifies, IsReplayed}
+use Rattle.civl_command.specs.Statuses.{Certifies, IsReplayed}
 use Rattle.civl_command.proofs.Ways.{IsAsked}
 
 done_refused : Done ≡ Refused → ⊥

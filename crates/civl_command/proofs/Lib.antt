@@ -10,3 +10,4 @@ pub mod Showing
 pub mod Certifying
 pub mod Promising
 pub mod Alone
+pub mod Promised

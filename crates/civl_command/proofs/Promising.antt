@@ -36,7 +36,8 @@ use Rattle.civl_certify.specs.declared.proof_reports.replaying.Replaying.TheVari
 use Rattle.civl_words.specs.Words.{usual_budget}
 use Rattle.civl_frontend.specs.Texts.{SpellsOutline, IsReading, IsScriptReading, IsOutlineReading, limit}
 use Rattle.civl_frontend.specs.Status.{verdict_status, code_of}
-use Rattle.civl_frontend.specs.Streams.{ReadState, WriteState, Writes, ReadsAndWrites}
+use Rattle.civl_frontend.specs.Streams.{ReadState, WriteState, IsReported, Writes}
+use Rattle.civl_frontend.specs.Call.{Call, Reports, OnInput}
 use Rattle.civl_frontend.specs.declared.reader.Fault.{Fault}
 use Rattle.civl_frontend.specs.declared.status.Status.{Status}
 use Rattle.civl_frontend.specs.declared.status.Status.TheVariants.{Done, Rejected, Undecided, Refused, ReadFault, WriteFault, Usage, Memory}
@@ -48,7 +49,7 @@ use Rattle.civl_command.specs.Tasks.{AskFor, AskForSome, AskForTrial, AreTaken}
 use Rattle.civl_command.specs.Outcome.{Outcome, TooLong, Unread, Broken, Judged, Heavy, Surveyed, Printed, Misfit, Ran, Proven, Asked, Replayed, Checks, Surveys, Proves, Asks, Prints, Runs, OfRead, Finds, FindsBy, TrialCallsFor, survey_status, proved_status, proving_status, making_status, replaying_status, status_of, report_of, telling, trial_text, trial_report, limit_of}
 use Rattle.civl_command.specs.Judge.{Reads, JudgesInput, JudgesTrial, Fails, Judges, Explains, usage_text}
 use Rattle.civl_command.specs.Report.{run_text, trial_line}
-use Rattle.civl_command.specs.Promises.{SpellsTaken, Accepts, AcceptsRightly, TrialAcceptsRightly, IsSafeRightly, Rejects, RejectsProving, RejectsRightly, LeavesOpen, LeavesProvingOpen, LeavesOpenRightly, Tells, SurveysRightly, PrintsRightly, Replays, ReplaysRightly, CertifiesRightly, RefutesRightly, RefusesRightly, AnswersAs, IsComplete, TrialAnswersAs, IsTrialComplete}
+use Rattle.civl_command.specs.Statuses.{OnTrial, SpellsTaken, Accepts, AcceptsRightly, IsSafeRightly, Rejects, RejectsProving, RejectsRightly, LeavesOpen, LeavesProvingOpen, LeavesOpenRightly, Tells, SurveysRightly, PrintsRightly, Replays, ReplaysRightly, CertifiesRightly, RefutesRightly, RefusesRightly, AnswersAs, IsComplete, TrialAnswersAs, IsTrialComplete}
 use Rattle.civl_command.specs.declared.task.Task.{Task}
 use Rattle.civl_command.specs.declared.task.Task.TheVariants.{Check, Conditions, Fmt, RunLow, RunTop, Prove, Make, Replay}
 use Rattle.civl_command.proofs.Asking.{same_task, same_trial, task_or_trial}
@@ -118,7 +119,7 @@ silent words before after status report (inr (inr f)) is =
     silent_failure (AskForSome words) (AreTaken words) (AskForSome words ⊎ (after ≡ before)) usage_text before after status report f is
 
 -- on Usage the words ask for nothing of an input
-pub usage_unasked : (words : List (List ℕ)) (before after : ReadState) (sink sink_after : WriteState) → Explains words before after sink sink_after Usage → AskForSome words → ⊥
+pub usage_unasked : (words : List (List ℕ)) (before after : ReadState) (sink sink_after : WriteState) → IsReported (Judges words before after) sink sink_after Usage → AskForSome words → ⊥
 usage_unasked words before after sink sink_after (inl (report, inl h, grown)) = λ ask. no_outcome Usage h.outcome (omega arith) h.status_is
 usage_unasked words before after sink sink_after (inl (report, inr (inl t), grown)) = λ ask. no_outcome Usage t.answers.outcome (omega arith) t.answers.status_is
 usage_unasked words before after sink sink_after (inl (report, inr (inr f), grown)) = λ ask. f.0 (inl ask)
@@ -362,27 +363,31 @@ asked_by : (at budget : ℕ) (program : Program) (outcome : Outcome) → Done �
 asked_by at budget program outcome is (inl a) = absurd (done_not_refused (is ∙ ap status_of a.is))
 asked_by at budget program outcome is (inr a) = a
 
-module _ (words : List (List ℕ)) (before after : ReadState) (sink sink_after : WriteState) where
+-- what the status says of the rest of the call, if it is this one
+abbrev pub ExplainsAs : Call → Status → Type 0
+ExplainsAs call status = IsReported (Judges call.words call.source call.source_after) call.sink call.sink_after status
+
+module _ (call : Call) where
   -- what was found of the whole input for a task, where it isn't refused
   record Judgement (task : Task) (input : List ℕ) (status : Status) : Type 0 where
     outcome : Outcome
     finds : FindsBy task input outcome
     status_is : status ≡ status_of outcome
-    does : ReadsAndWrites after sink sink_after (report_of outcome)
+    does : Reports call (report_of outcome)
 
-  judgement : (status : Status) (report input : List ℕ) → (status ≡ Refused → ⊥) → before.left ≡ Some input → Appends sink.bytes sink_after.bytes report
-      → (h : JudgesInput words before after status report) → Judgement h.task input status
+  judgement : (status : Status) (report input : List ℕ) → (status ≡ Refused → ⊥) → call.source.left ≡ Some input → Appends call.sink.bytes call.sink_after.bytes report
+      → (h : JudgesInput call.words call.source call.source_after status report) → Judgement h.task input status
   judgement status report input some told grown h = by h.reads
     where
-      by : Reads h.task before after h.outcome → Judgement h.task input status
+      by : Reads h.task call.source call.source_after h.outcome → Judgement h.task input status
       by (inl past) = absurd (some (long_refused _ h.outcome status past.0 h.status_is))
       by (inr all) =
-          let found = all_found (FindsBy h.task) before after input h.outcome told all in
+          let found = all_found (FindsBy h.task) call.source call.source_after input h.outcome told all in
           record {
             outcome = h.outcome;
             finds = found.finds;
             status_is = h.status_is;
-            does = record { read = found.read; written = written telling (limit_of h.task) (FindsBy h.task) before after sink sink_after input report told grown h.outcome h.report_is };
+            does = record { read = found.read; written = written telling (limit_of h.task) (FindsBy h.task) call.source call.source_after call.sink call.sink_after input report told grown h.outcome h.report_is };
           }
 
   -- what was found of the text of a trial
@@ -390,26 +395,26 @@ module _ (words : List (List ℕ)) (before after : ReadState) (sink sink_after :
     outcome : Outcome
     calls : TrialCallsFor number outcome
     status_is : status ≡ status_of outcome
-    writes : Writes sink sink_after (trial_report number outcome)
+    writes : Writes call.sink call.sink_after (trial_report number outcome)
 
-  trial_of : (status : Status) (report : List ℕ) → Appends sink.bytes sink_after.bytes report → (t : JudgesTrial words before after status report) → Trial t.number status
+  trial_of : (status : Status) (report : List ℕ) → Appends call.sink.bytes call.sink_after.bytes report → (t : JudgesTrial call.words call.source call.source_after status report) → Trial t.number status
   trial_of status report grown t = record {
     outcome = t.answers.outcome;
     calls = t.answers.calls;
     status_is = t.answers.status_is;
-    writes = grown_as sink sink_after report (trial_report t.number t.answers.outcome) grown t.answers.report_is;
+    writes = grown_as call.sink call.sink_after report (trial_report t.number t.answers.outcome) grown t.answers.report_is;
   }
 
   -- a report on an input, written whole
   abbrev IsOnInput : Status → Type 0
-  IsOnInput status = (report : List ℕ) × JudgesInput words before after status report × Appends sink.bytes sink_after.bytes report
+  IsOnInput status = (report : List ℕ) × JudgesInput call.words call.source call.source_after status report × Appends call.sink.bytes call.sink_after.bytes report
 
   -- a report on the text of a trial, written whole
   abbrev IsOnTrial : Status → Type 0
-  IsOnTrial status = (number : ℕ) × AskForTrial number words × Trial number status
+  IsOnTrial status = (number : ℕ) × AskForTrial number call.words × Trial number status
 
   -- where the report was written whole, and no failure has this status
-  judged_by : (status : Status) → (status ≡ WriteFault → ⊥) → ((report : List ℕ) → Fails words before after status report → ⊥) → Explains words before after sink sink_after status
+  judged_by : (status : Status) → (status ≡ WriteFault → ⊥) → ((report : List ℕ) → Fails call.words call.source call.source_after status report → ⊥) → ExplainsAs call status
       → IsOnInput status ⊎ IsOnTrial status
   judged_by status no_fault no_failure (inl (report, inl h, grown)) = inl (report, h, grown)
   judged_by status no_fault no_failure (inl (report, inr (inl t), grown)) = inr (t.number, t.words_are, trial_of status report grown t)
@@ -417,71 +422,71 @@ module _ (words : List (List ℕ)) (before after : ReadState) (sink sink_after :
   judged_by status no_fault no_failure (inr h) = absurd (no_fault h.0)
 
   -- for the task that the words ask for
-  done_by : (wanted : Task) → Explains words before after sink sink_after Done → AskFor wanted words → (input : List ℕ) → before.left ≡ Some input → Judgement wanted input Done
+  done_by : (wanted : Task) → ExplainsAs call Done → AskFor wanted call.words → (input : List ℕ) → call.source.left ≡ Some input → Judgement wanted input Done
   done_by wanted e ask input told = by (judged_by Done (λ i. cc) (λ report f. f) e)
     where
       by : IsOnInput Done ⊎ IsOnTrial Done → Judgement wanted input Done
       by (inl (report, h, grown)) =
-          subst (λ (t : Task). Judgement t input Done) (same_task words h.task wanted h.words_are ask) (judgement Done report input done_not_refused told grown h)
-      by (inr (number, trial, t)) = absurd (task_or_trial words wanted number ask trial)
+          subst (λ (t : Task). Judgement t input Done) (same_task call.words h.task wanted h.words_are ask) (judgement Done report input done_not_refused told grown h)
+      by (inr (number, trial, t)) = absurd (task_or_trial call.words wanted number ask trial)
 
   -- the report in other words
-  written_as : (input report : List ℕ) (outcome : Outcome) → report_of outcome ≡ report → ReadsAndWrites after sink sink_after (report_of outcome) → ReadsAndWrites after sink sink_after report
-  written_as input report outcome is does = subst (λ (r : List ℕ). ReadsAndWrites after sink sink_after r) is does
+  written_as : (input report : List ℕ) (outcome : Outcome) → report_of outcome ≡ report → Reports call (report_of outcome) → Reports call report
+  written_as input report outcome is does = subst (λ (r : List ℕ). Reports call r) is does
 
-  pub accepts_by : AcceptedProgramsPreserve → (budget : ℕ) → Explains words before after sink sink_after Done → AskFor (Check budget) words → AcceptsRightly before after sink sink_after
+  pub accepts_by : AcceptedProgramsPreserve → (budget : ℕ) → ExplainsAs call Done → AskFor (Check budget) call.words → OnInput call AcceptsRightly
   accepts_by law budget e check input is =
       let found = done_by (Check budget) e check input is in
       let h = checked input budget found.outcome Done done_not_refused found.status_is found.finds in
       let a = accepted law input budget found.outcome found.finds.short h in
       (a.program, a.count, a.accepts, written_as input (accepted_text a.count) found.outcome a.report_is found.does)
 
-  pub surveys_by : (budget : ℕ) → Explains words before after sink sink_after Done → AskFor (Conditions budget) words → SurveysRightly budget before after sink sink_after
+  pub surveys_by : (budget : ℕ) → ExplainsAs call Done → AskFor (Conditions budget) call.words → OnInput call (SurveysRightly budget)
   surveys_by budget e conditions input is =
       let found = done_by (Conditions budget) e conditions input is in
       let t = told_of input budget found.outcome found.status_is found.finds in
       (t.program, t.found, t.tells, written_as input _ found.outcome (ap report_of t.is) found.does)
 
-  pub prints_by : Explains words before after sink sink_after Done → AskFor Fmt words → PrintsRightly before after sink sink_after
+  pub prints_by : ExplainsAs call Done → AskFor Fmt call.words → OnInput call PrintsRightly
   prints_by e fmt input told =
       let found = done_by Fmt e fmt input told in
       let p = spelled IsReading Prints input found.outcome Done done_not_refused found.status_is found.finds in
       (p.value, p.read.0, written_as input _ found.outcome (ap report_of p.says) found.does)
 
-  replays_by : (plain_of : Program → Plain) (input : List ℕ) (outcome : Outcome) → Done ≡ status_of outcome → Finds IsScriptReading (Runs plain_of) input outcome → ReadsAndWrites after sink sink_after (report_of outcome)
-      → (script : Script) × (trace : Trace) × Replays plain_of input script trace × ReadsAndWrites after sink sink_after (run_text script.program trace)
+  replays_by : (plain_of : Program → Plain) (input : List ℕ) (outcome : Outcome) → Done ≡ status_of outcome → Finds IsScriptReading (Runs plain_of) input outcome → Reports call (report_of outcome)
+      → (script : Script) × (trace : Trace) × Replays plain_of input script trace × Reports call (run_text script.program trace)
   replays_by plain_of input outcome is finds does =
       let s = spelled IsScriptReading (Runs plain_of) input outcome Done done_not_refused is finds in
       let r = replayed plain_of s.value outcome is (run_way plain_of s.value outcome s.says) in
       (s.value, r.trace, record { spells = s.read.0; rules = r.rules; runs = r.runs }, written_as input _ outcome (ap report_of r.is) does)
 
-  pub low_by : Explains words before after sink sink_after Done → AskFor RunLow words → ReplaysRightly lowest before after sink sink_after
+  pub low_by : ExplainsAs call Done → AskFor RunLow call.words → OnInput call (ReplaysRightly lowest)
   low_by e low input told = let found = done_by RunLow e low input told in replays_by lowest input found.outcome found.status_is found.finds found.does
 
-  pub top_by : Explains words before after sink sink_after Done → AskFor RunTop words → ReplaysRightly topmost before after sink sink_after
+  pub top_by : ExplainsAs call Done → AskFor RunTop call.words → OnInput call (ReplaysRightly topmost)
   top_by e top input told = let found = done_by RunTop e top input told in replays_by topmost input found.outcome found.status_is found.finds found.does
 
   -- ---- outlines
 
-  pub safe_by : LowestIsSafe → (budget : ℕ) → Explains words before after sink sink_after Done → AskFor (Prove budget) words → IsSafeRightly before after sink sink_after
+  pub safe_by : LowestIsSafe → (budget : ℕ) → ExplainsAs call Done → AskFor (Prove budget) call.words → OnInput call IsSafeRightly
   safe_by law budget e prove input told =
       let found = done_by (Prove budget) e prove input told in
       let h = outlined input budget found.outcome Done done_not_refused found.status_is found.finds in
       let s = shown_safe input budget found.outcome h.outline h.short h.spells h.proven law found.status_is in
       (s.outline, s.count, s.safe, written_as input (safe_text s.count) found.outcome s.report_is found.does)
 
-  rejects_proving : (input : List ℕ) (outcome : Outcome) → ReadsAndWrites after sink sink_after (report_of outcome) → ShowsRejected input outcome ⊎ ShowsUnproved input outcome → RejectsProving input after sink sink_after
+  rejects_proving : (input : List ℕ) (outcome : Outcome) → Reports call (report_of outcome) → ShowsRejected input outcome ⊎ ShowsUnproved input outcome → RejectsProving input (Reports call)
   rejects_proving input outcome does (inl s) = inl (s.outline, s.counter, s.rejects, written_as input (rejected_text s.outline.program s.counter) outcome s.report_is does)
   rejects_proving input outcome does (inr s) = inr (s.outline, s.goal, s.values, s.unproves, written_as input (unproved_text s.outline.program s.goal s.values) outcome s.report_is does)
 
-  leaves_proving : (input : List ℕ) (budget : ℕ) (outcome : Outcome) → ReadsAndWrites after sink sink_after (report_of outcome) → ShowsUndecided input budget outcome ⊎ ShowsOpen input budget outcome
-      → LeavesProvingOpen budget input after sink sink_after
+  leaves_proving : (input : List ℕ) (budget : ℕ) (outcome : Outcome) → Reports call (report_of outcome) → ShowsUndecided input budget outcome ⊎ ShowsOpen input budget outcome
+      → LeavesProvingOpen budget input (Reports call)
   leaves_proving input budget outcome does (inl s) = inl (s.outline, s.formula, s.log, s.leaves, written_as input (undecided_text s.outline.program s.formula budget) outcome s.report_is does)
   leaves_proving input budget outcome does (inr s) = inr (s.outline, s.goal, s.log, s.leaves, written_as input (open_text s.outline.program s.goal budget) outcome s.report_is does)
 
   -- ---- certificates
 
-  pub certifies_by : (at budget : ℕ) → Explains words before after sink sink_after Done → AskFor (Make at budget) words → CertifiesRightly at budget before after sink sink_after
+  pub certifies_by : (at budget : ℕ) → ExplainsAs call Done → AskFor (Make at budget) call.words → OnInput call (CertifiesRightly at budget)
   certifies_by at budget e make input told =
       let found = done_by (Make at budget) e make input told in
       let s = spelled IsReading (Asks at budget) input found.outcome Done done_not_refused found.status_is found.finds in
@@ -489,7 +494,7 @@ module _ (words : List (List ℕ)) (before after : ReadState) (sink sink_after :
       let c = certifying input at budget found.outcome s.value s.read.0 asked found.status_is in
       (c.program, c.condition, c.initial, c.shown, c.certifies, written_as input _ found.outcome c.report_is found.does)
 
-  pub refutes_by : Explains words before after sink sink_after Done → AskFor Replay words → RefutesRightly before after sink sink_after
+  pub refutes_by : ExplainsAs call Done → AskFor Replay call.words → OnInput call RefutesRightly
   refutes_by e replay input told =
       let found = done_by Replay e replay input told in
       let r = replayed_as input found.outcome found.finds found.status_is in
@@ -506,42 +511,42 @@ module _ (words : List (List ℕ)) (before after : ReadState) (sink sink_after :
       by (inr finds) = finds
 
   -- the report in other words
-  tried_as : (number : ℕ) (report : List ℕ) (outcome : Outcome) → report_of outcome ≡ report → Writes sink sink_after (trial_report number outcome) → Writes sink sink_after (trial_line number ++ report)
-  tried_as number report outcome is writes = subst (λ (r : List ℕ). Writes sink sink_after (trial_line number ++ r)) is writes
+  tried_as : (number : ℕ) (report : List ℕ) (outcome : Outcome) → report_of outcome ≡ report → Writes call.sink call.sink_after (trial_report number outcome) → Writes call.sink call.sink_after (trial_line number ++ report)
+  tried_as number report outcome is writes = subst (λ (r : List ℕ). Writes call.sink call.sink_after (trial_line number ++ r)) is writes
 
-  tried_accepts : AcceptedProgramsPreserve → (number : ℕ) → Trial number Done → TrialAcceptsRightly number sink sink_after
+  tried_accepts : AcceptedProgramsPreserve → (number : ℕ) → Trial number Done → OnTrial call number AcceptsRightly
   tried_accepts law number t =
       let finds = tried_whole number Done done_not_refused t in
       let h = checked (trial_text number) usual_budget t.outcome Done done_not_refused t.status_is finds in
       let a = accepted law (trial_text number) usual_budget t.outcome finds.short h in
       (a.program, a.count, a.accepts, tried_as number (accepted_text a.count) t.outcome a.report_is t.writes)
 
-  pub tries_by : AcceptedProgramsPreserve → (number : ℕ) → Explains words before after sink sink_after Done → AskForTrial number words → TrialAcceptsRightly number sink sink_after
+  pub tries_by : AcceptedProgramsPreserve → (number : ℕ) → ExplainsAs call Done → AskForTrial number call.words → OnTrial call number AcceptsRightly
   tries_by law number e trial = by (judged_by Done (λ i. cc) (λ report f. f) e)
     where
-      by : IsOnInput Done ⊎ IsOnTrial Done → TrialAcceptsRightly number sink sink_after
-      by (inl (report, h, grown)) = absurd (task_or_trial words h.task number h.words_are trial)
-      by (inr (other, also, t)) = subst (λ (n : ℕ). TrialAcceptsRightly n sink sink_after) (same_trial words other number also trial) (tried_accepts law other t)
+      by : IsOnInput Done ⊎ IsOnTrial Done → OnTrial call number AcceptsRightly
+      by (inl (report, h, grown)) = absurd (task_or_trial call.words h.task number h.words_are trial)
+      by (inr (other, also, t)) = subst (λ (n : ℕ). OnTrial call n AcceptsRightly) (same_trial call.words other number also trial) (tried_accepts law other t)
 
   -- ---- what is rejected and left open
 
   -- a report on an input that is neither plain nor a refusal is one of `check` or of `prove`
   on_check : (status : Status) → (status ≡ Refused → ⊥) → ((outcome : Outcome) → status ≡ status_of outcome → IsPlain outcome → ⊥) → (report : List ℕ)
-      → (h : JudgesInput words before after status report) → IsOfCheck h.task ⊎ IsOfProve h.task
+      → (h : JudgesInput call.words call.source call.source_after status report) → IsOfCheck h.task ⊎ IsOfProve h.task
   on_check status some other report h = by h.reads
     where
-      by : Reads h.task before after h.outcome → IsOfCheck h.task ⊎ IsOfProve h.task
+      by : Reads h.task call.source call.source_after h.outcome → IsOfCheck h.task ⊎ IsOfProve h.task
       by (inl past) = absurd (some (long_refused _ h.outcome status past.0 h.status_is))
       by (inr all) = of_check h.task all.0 h.outcome (other h.outcome h.status_is) all.2
 
-  pub rejects_by : Explains words before after sink sink_after Rejected → RejectsRightly words before after sink sink_after
+  pub rejects_by : ExplainsAs call Rejected → RejectsRightly call
   rejects_by e = by (judged_by Rejected (λ i. cc) (λ report f. f) e)
     where
-      of_task : (report : List ℕ) (h : JudgesInput words before after Rejected report) → Appends sink.bytes sink_after.bytes report → IsOfCheck h.task ⊎ IsOfProve h.task → RejectsRightly words before after sink sink_after
+      of_task : (report : List ℕ) (h : JudgesInput call.words call.source call.source_after Rejected report) → Appends call.sink.bytes call.sink_after.bytes report → IsOfCheck h.task ⊎ IsOfProve h.task → RejectsRightly call
       of_task report h grown (inl c) =
           inl (
             c.budget,
-            subst (λ (t : Task). AskFor t words) c.task_is h.words_are,
+            subst (λ (t : Task). AskFor t call.words) c.task_is h.words_are,
             λ input told.
                 let found = subst (λ (t : Task). Judgement t input Rejected) c.task_is (judgement Rejected report input rejected_not_refused told grown h) in
                 let v = checked input c.budget found.outcome Rejected rejected_not_refused found.status_is found.finds in
@@ -551,28 +556,28 @@ module _ (words : List (List ℕ)) (before after : ReadState) (sink sink_after :
       of_task report h grown (inr c) =
           inr (inr (
             c.budget,
-            subst (λ (t : Task). AskFor t words) c.task_is h.words_are,
+            subst (λ (t : Task). AskFor t call.words) c.task_is h.words_are,
             λ input told.
                 let found = subst (λ (t : Task). Judgement t input Rejected) c.task_is (judgement Rejected report input rejected_not_refused told grown h) in
                 let p = outlined input c.budget found.outcome Rejected rejected_not_refused found.status_is found.finds in
                 rejects_proving input found.outcome found.does (shown_rejected input c.budget found.outcome p.outline p.short p.spells p.proven found.status_is),
           ))
 
-      by : IsOnInput Rejected ⊎ IsOnTrial Rejected → RejectsRightly words before after sink sink_after
+      by : IsOnInput Rejected ⊎ IsOnTrial Rejected → RejectsRightly call
       by (inl (report, h, grown)) = of_task report h grown (on_check Rejected rejected_not_refused rejected_other report h)
       by (inr (number, trial, t)) =
           let v = checked (trial_text number) usual_budget t.outcome Rejected rejected_not_refused t.status_is (tried_whole number Rejected rejected_not_refused t) in
           let r = rejected (trial_text number) usual_budget t.outcome v in
-          inr (inl (number, trial, r.program, r.counter, r.rejects, tried_as number (rejected_text r.program r.counter) t.outcome r.report_is t.writes))
+          inr (inl (number, trial, (r.program, r.counter, r.rejects, tried_as number (rejected_text r.program r.counter) t.outcome r.report_is t.writes)))
 
-  pub leaves_open_by : Explains words before after sink sink_after Undecided → LeavesOpenRightly words before after sink sink_after
+  pub leaves_open_by : ExplainsAs call Undecided → LeavesOpenRightly call
   leaves_open_by e = by (judged_by Undecided (λ i. cc) (λ report f. f) e)
     where
-      of_task : (report : List ℕ) (h : JudgesInput words before after Undecided report) → Appends sink.bytes sink_after.bytes report → IsOfCheck h.task ⊎ IsOfProve h.task → LeavesOpenRightly words before after sink sink_after
+      of_task : (report : List ℕ) (h : JudgesInput call.words call.source call.source_after Undecided report) → Appends call.sink.bytes call.sink_after.bytes report → IsOfCheck h.task ⊎ IsOfProve h.task → LeavesOpenRightly call
       of_task report h grown (inl c) =
           inl (
             c.budget,
-            subst (λ (t : Task). AskFor t words) c.task_is h.words_are,
+            subst (λ (t : Task). AskFor t call.words) c.task_is h.words_are,
             λ input told.
                 let found = subst (λ (t : Task). Judgement t input Undecided) c.task_is (judgement Undecided report input undecided_not_refused told grown h) in
                 let v = checked input c.budget found.outcome Undecided undecided_not_refused found.status_is found.finds in
@@ -582,102 +587,102 @@ module _ (words : List (List ℕ)) (before after : ReadState) (sink sink_after :
       of_task report h grown (inr c) =
           inr (inr (
             c.budget,
-            subst (λ (t : Task). AskFor t words) c.task_is h.words_are,
+            subst (λ (t : Task). AskFor t call.words) c.task_is h.words_are,
             λ input told.
                 let found = subst (λ (t : Task). Judgement t input Undecided) c.task_is (judgement Undecided report input undecided_not_refused told grown h) in
                 let p = outlined input c.budget found.outcome Undecided undecided_not_refused found.status_is found.finds in
                 leaves_proving input c.budget found.outcome found.does (shown_undecided input c.budget found.outcome p.outline p.short p.spells p.proven found.status_is),
           ))
 
-      by : IsOnInput Undecided ⊎ IsOnTrial Undecided → LeavesOpenRightly words before after sink sink_after
+      by : IsOnInput Undecided ⊎ IsOnTrial Undecided → LeavesOpenRightly call
       by (inl (report, h, grown)) = of_task report h grown (on_check Undecided undecided_not_refused undecided_other report h)
       by (inr (number, trial, t)) =
           let v = checked (trial_text number) usual_budget t.outcome Undecided undecided_not_refused t.status_is (tried_whole number Undecided undecided_not_refused t) in
           let o = left_open (trial_text number) usual_budget t.outcome v in
-          inr (inl (number, trial, o.program, o.formula, o.log, o.leaves, tried_as number (undecided_text o.program o.formula usual_budget) t.outcome o.report_is t.writes))
+          inr (inl (number, trial, (o.program, o.formula, o.log, o.leaves, tried_as number (undecided_text o.program o.formula usual_budget) t.outcome o.report_is t.writes)))
 
-  pub refuses_by : Explains words before after sink sink_after Refused → RefusesRightly words before after sink sink_after
+  pub refuses_by : ExplainsAs call Refused → RefusesRightly call
   refuses_by e = by (judged_by Refused (λ i. cc) (λ report f. f) e)
     where
-      by : IsOnInput Refused ⊎ IsOnTrial Refused → RefusesRightly words before after sink sink_after
+      by : IsOnInput Refused ⊎ IsOnTrial Refused → RefusesRightly call
       by (inl (report, h, grown)) =
           inl (
             h.task,
             h.words_are,
             λ input told. (
               h.outcome,
-              called telling (limit_of h.task) (FindsBy h.task) before after sink sink_after input report told grown h.outcome h.reads,
+              called telling (limit_of h.task) (FindsBy h.task) call.source call.source_after call.sink call.sink_after input report told grown h.outcome h.reads,
               sym h.status_is,
-              carried telling (limit_of h.task) (FindsBy h.task) before after sink sink_after input report told grown h.outcome h.reads h.report_is,
+              carried telling (limit_of h.task) (FindsBy h.task) call.source call.source_after call.sink call.sink_after input report told grown h.outcome h.reads h.report_is,
             ),
           )
-      by (inr (number, trial, t)) = inr (number, trial, t.outcome, t.calls, sym t.status_is, t.writes)
+      by (inr (number, trial, t)) = inr (number, trial, (t.outcome, t.calls, sym t.status_is, t.writes))
 
   -- ---- each input is answered
 
-  module _ (task : Task) (input : List ℕ) (ask : AskFor task words) (told : before.left ≡ Some input) (stayed : Stayed before.faults after.faults) where
-    judged : (status : Status) (report : List ℕ) → Appends sink.bytes sink_after.bytes report → JudgesInput words before after status report → AnswersAs task input after sink sink_after status ⊎ (status ≡ Memory)
+  module _ (task : Task) (input : List ℕ) (ask : AskFor task call.words) (told : call.source.left ≡ Some input) (stayed : Stayed call.source.faults call.source_after.faults) where
+    judged : (status : Status) (report : List ℕ) → Appends call.sink.bytes call.sink_after.bytes report → JudgesInput call.words call.source call.source_after status report → AnswersAs task input call.source_after call.sink call.sink_after status ⊎ (status ≡ Memory)
     judged status report grown h =
-        let reads = subst (λ (t : Task). Reads t before after h.outcome) (same_task words h.task task h.words_are ask) h.reads in
-        let found = called telling (limit_of task) (FindsBy task) before after sink sink_after input report told grown h.outcome reads in
+        let reads = subst (λ (t : Task). Reads t call.source call.source_after h.outcome) (same_task call.words h.task task h.words_are ask) h.reads in
+        let found = called telling (limit_of task) (FindsBy task) call.source call.source_after call.sink call.sink_after input report told grown h.outcome reads in
         inl (record {
           found = h.outcome;
           calls = found;
           status_is = h.status_is;
           alike = λ outcome calls. one_outcome task input h.outcome outcome found calls;
-          carries = carried telling (limit_of task) (FindsBy task) before after sink sink_after input report told grown h.outcome reads h.report_is;
+          carries = carried telling (limit_of task) (FindsBy task) call.source call.source_after call.sink call.sink_after input report told grown h.outcome reads h.report_is;
         })
 
-    failed : (status : Status) (report : List ℕ) → Fails words before after status report → AnswersAs task input after sink sink_after status ⊎ (status ≡ Memory)
+    failed : (status : Status) (report : List ℕ) → Fails call.words call.source call.source_after status report → AnswersAs task input call.source_after call.sink call.sink_after status ⊎ (status ≡ Memory)
     failed Done report f = absurd f
     failed Rejected report f = absurd f
     failed Undecided report f = absurd f
     failed Refused report f = absurd f
-    failed ReadFault report f = absurd (not_both before.faults after.faults stayed f.1)
+    failed ReadFault report f = absurd (not_both call.source.faults call.source_after.faults stayed f.1)
     failed WriteFault report f = absurd f
     failed Usage report f = absurd (f.0 (inl (task, ask)))
     failed Memory report f = inr refl
 
-    answered : (status : Status) (report : List ℕ) → Appends sink.bytes sink_after.bytes report → Judges words before after status report → AnswersAs task input after sink sink_after status ⊎ (status ≡ Memory)
+    answered : (status : Status) (report : List ℕ) → Appends call.sink.bytes call.sink_after.bytes report → Judges call.words call.source call.source_after status report → AnswersAs task input call.source_after call.sink call.sink_after status ⊎ (status ≡ Memory)
     answered status report grown (inl h) = judged status report grown h
-    answered status report grown (inr (inl t)) = absurd (task_or_trial words task t.number ask t.words_are)
+    answered status report grown (inr (inl t)) = absurd (task_or_trial call.words task t.number ask t.words_are)
     answered status report grown (inr (inr f)) = failed status report f
 
-  pub complete_by : (status : Status) → Explains words before after sink sink_after status → IsComplete words before after sink sink_after status
-  complete_by status e task input ask told stayed faults stalls = elim e [
-    | inl h ↦ answered task input ask told stayed status h.0 h.2 h.1
+  pub complete_by : Explains call → IsComplete call
+  complete_by e task input ask told stayed faults stalls = elim e [
+    | inl h ↦ answered task input ask told stayed call.status h.0 h.2 h.1
     | inr h ↦ elim h.4.cause [
-      | inl rose ↦ absurd (not_both sink.faults sink_after.faults faults rose)
-      | inr rose ↦ absurd (not_both sink.stalls sink_after.stalls stalls rose)
+      | inl rose ↦ absurd (not_both call.sink.faults call.sink_after.faults faults rose)
+      | inr rose ↦ absurd (not_both call.sink.stalls call.sink_after.stalls stalls rose)
     ]
   ]
 
-  module _ (number : ℕ) (outcome : Outcome) (trial : AskForTrial number words) (calls : TrialCallsFor number outcome) where
-    tried : (other : ℕ) (status : Status) → other ≡ number → Trial other status → TrialAnswersAs number sink sink_after status outcome
+  module _ (number : ℕ) (outcome : Outcome) (trial : AskForTrial number call.words) (calls : TrialCallsFor number outcome) where
+    tried : (other : ℕ) (status : Status) → other ≡ number → Trial other status → TrialAnswersAs number call.sink call.sink_after status outcome
     tried other status same found =
         let t = subst (λ (n : ℕ). Trial n status) same found in
         record { found = t.outcome; calls = t.calls; status_is = t.status_is; alike = one_outcome (Check usual_budget) (trial_text number) t.outcome outcome t.calls calls; written = t.writes }
 
-    untried : (status : Status) (report : List ℕ) → Fails words before after status report → TrialAnswersAs number sink sink_after status outcome ⊎ (status ≡ Memory)
+    untried : (status : Status) (report : List ℕ) → Fails call.words call.source call.source_after status report → TrialAnswersAs number call.sink call.sink_after status outcome ⊎ (status ≡ Memory)
     untried Done report f = absurd f
     untried Rejected report f = absurd f
     untried Undecided report f = absurd f
     untried Refused report f = absurd f
-    untried ReadFault report f = absurd (task_or_trial words f.0.0 number f.0.1 trial)
+    untried ReadFault report f = absurd (task_or_trial call.words f.0.0 number f.0.1 trial)
     untried WriteFault report f = absurd f
     untried Usage report f = absurd (f.0 (inr (number, trial)))
     untried Memory report f = inr refl
 
-    tried_answered : (status : Status) (report : List ℕ) → Appends sink.bytes sink_after.bytes report → Judges words before after status report → TrialAnswersAs number sink sink_after status outcome ⊎ (status ≡ Memory)
-    tried_answered status report grown (inl h) = absurd (task_or_trial words h.task number h.words_are trial)
-    tried_answered status report grown (inr (inl t)) = inl (tried t.number status (same_trial words t.number number t.words_are trial) (trial_of status report grown t))
+    tried_answered : (status : Status) (report : List ℕ) → Appends call.sink.bytes call.sink_after.bytes report → Judges call.words call.source call.source_after status report → TrialAnswersAs number call.sink call.sink_after status outcome ⊎ (status ≡ Memory)
+    tried_answered status report grown (inl h) = absurd (task_or_trial call.words h.task number h.words_are trial)
+    tried_answered status report grown (inr (inl t)) = inl (tried t.number status (same_trial call.words t.number number t.words_are trial) (trial_of status report grown t))
     tried_answered status report grown (inr (inr f)) = untried status report f
 
-  pub trial_complete_by : (status : Status) → Explains words before after sink sink_after status → IsTrialComplete words sink sink_after status
-  trial_complete_by status e number outcome trial calls faults stalls = elim e [
-    | inl h ↦ tried_answered number outcome trial calls status h.0 h.2 h.1
+  pub trial_complete_by : Explains call → IsTrialComplete call
+  trial_complete_by e number outcome trial calls faults stalls = elim e [
+    | inl h ↦ tried_answered number outcome trial calls call.status h.0 h.2 h.1
     | inr h ↦ elim h.4.cause [
-      | inl rose ↦ absurd (not_both sink.faults sink_after.faults faults rose)
-      | inr rose ↦ absurd (not_both sink.stalls sink_after.stalls stalls rose)
+      | inl rose ↦ absurd (not_both call.sink.faults call.sink_after.faults faults rose)
+      | inr rose ↦ absurd (not_both call.sink.stalls call.sink_after.stalls stalls rose)
     ]
   ]

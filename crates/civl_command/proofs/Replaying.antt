@@ -9,7 +9,7 @@ use Rattle.civl_meaning.specs.declared.config.Move.{Move}
 use Rattle.civl_script.specs.Schedules.{IsSchedule}
 use Rattle.civl_script.specs.declared.schedule.Schedule.TheVariants.{Fits}
 use Rattle.civl_script.proofs.Only.{moves_count}
-use Rattle.civl_command.specs.Replay.{plain_for}
+use Rattle.civl_command.specs.inner.Replay.{plain_for}
 use Rattle.civl_command.specs.declared.replay.End.{End}
 use Rattle.civl_command.specs.declared.replay.End.TheVariants.{Low, Top}
 

@@ -28,7 +28,7 @@ use Rattle.civl_frontend.specs.Status.{verdict_status}
 use Rattle.civl_frontend.specs.declared.status.Status.TheVariants.{Done, Rejected, Undecided}
 use Rattle.civl_frontend.proofs.Accepting.{accepted_by}
 use Rattle.civl_command.specs.Outcome.{Outcome, Proven, proving_status, status_of, report_of}
-use Rattle.civl_command.specs.Promises.{SpellsReady, IsSafe, AcceptsOutlined, RejectsOutlined, Unproves, LeavesOpenOutlined, LeavesGoalOpen}
+use Rattle.civl_command.specs.Statuses.{SpellsReady, IsSafe, AcceptsOutlined, RejectsOutlined, Unproves, LeavesOpenOutlined, LeavesGoalOpen}
 use Rattle.civl_command.proofs.Outlining.{outline_numbered, outline_written}
 use Rattle.civl_command.proofs.Ways.{IsProven}
 

@@ -2,7 +2,8 @@
 use Rattle.std.specs.Prelude.{◌≡◌, ℕ, ◌⊎◌, List, codes}
 use Rattle.civl_verdicts.specs.reports.Lines.{line}
 use Rattle.civl_frontend.specs.Report.{bytes_of}
-use Rattle.civl_frontend.specs.Streams.{ReadState, WriteState, IsReported}
+use Rattle.civl_frontend.specs.Streams.{ReadState, IsReported}
+use Rattle.civl_frontend.specs.Call.{Call}
 use Rattle.civl_frontend.specs.Told.{WantsMemory, IsJudged as IsJudgedOf, ReadsAll as ReadsAllOf, Reads as ReadsOf, Fails as FailsOf}
 use Rattle.civl_frontend.specs.declared.judged.Judged.{Judged}
 use Rattle.civl_frontend.specs.declared.status.Status.{Status}
@@ -64,5 +65,6 @@ Judges words before after status report =
     JudgesInput words before after status report ⊎ (JudgesTrial words before after status report ⊎ Fails words before after status report)
 
 -- the report of the status was written whole; or the status is WriteFault, and the report of another was cut short
-abbrev pub Explains : List (List ℕ) → ReadState → ReadState → WriteState → WriteState → Status → Type 0
-Explains words before after sink sink_after status = IsReported (Judges words before after) sink sink_after status
+abbrev pub Explains : Call → Type 0
+Explains call =
+    IsReported (Judges call.words call.source call.source_after) call.sink call.sink_after call.status

@@ -1,8 +1,9 @@
 pub mod Report
-pub mod Replay
 pub mod Tasks
 pub mod Outcome
 pub mod Alike
 pub mod Judge
+pub mod Statuses
 pub mod Promises
 pub mod Laws
+pub mod inner

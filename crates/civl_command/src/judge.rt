@@ -4,7 +4,7 @@ ghost use Rattle.civl_words.specs.Words.{AreWordsOf, HasFitNumbers};
 ghost use Rattle.civl_frontend.specs.Texts.{IsReading, IsScriptReading, limit};
 ghost use Rattle.civl_frontend.specs.Streams.{reading};
 ghost use Rattle.civl_frontend.specs.Report.{bytes_of};
-ghost use Rattle.civl_command.specs.Replay.{plain_for};
+ghost use Rattle.civl_command.specs.inner.Replay.{plain_for};
 ghost use Rattle.civl_command.specs.Outcome.{Printed, Prints, Runs, Finds, FindsBy, limit_of};
 ghost use Rattle.civl_command.specs.Tasks.{command_for, AskFor, AskForSome, AsksProvers, AskProvers};
 ghost use Rattle.civl_command.specs.Judge.{IsJudged, Judges};

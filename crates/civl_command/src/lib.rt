@@ -6,6 +6,8 @@
 //! that breaks no static rule. `trial` gives the verdict on the text of a trial program. `prove` gives the verdict on a program and, where
 //! it is accepted, tells whether an outline of its topmost program shows that it doesn't fail. `proof make`
 //! gives a certificate of one condition, and `proof replay` replays one.
+//!
+//! What may be found stands in specs/ (`Outcome`), what each status says in `Judge` and `Statuses`, and what a call promises in `Promises`.
 #![tactic(auto)]
 
 mod admission;

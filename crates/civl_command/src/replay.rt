@@ -3,7 +3,7 @@ ghost use Rattle.std.specs.Prelude.{◌≡◌, ◌+◌, ◌<◌, ◌^◌, length
 ghost use Rattle.civl_tree.specs.Numbered.{IsNumbered};
 ghost use Rattle.civl_script.specs.replays.Trace.{trace_of};
 ghost use Rattle.civl_frontend.specs.Rules.{IsLawful};
-ghost use Rattle.civl_command.specs.Replay.{plain_for};
+ghost use Rattle.civl_command.specs.inner.Replay.{plain_for};
 ghost use Rattle.civl_command.specs.Outcome.{Misfit, Ran, Runs};
 ghost use Rattle.civl_command.specs.Judge.{IsJudged};
 

@@ -1,12 +1,9 @@
 // The top call.
-ghost use Rattle.std.specs.Prelude.{◌≡◌, ◌⊎◌, ℕ, [], map, string_bytes};
-ghost use Rattle.civl_meaning.specs.Layers.{lowest, topmost};
+ghost use Rattle.std.specs.Prelude.{◌≡◌, ◌⊎◌, map, string_bytes};
 ghost use Rattle.civl_frontend.specs.Streams.{reading, writing};
-ghost use Rattle.civl_command.specs.Tasks.{AskFor, AskForSome, AskForTrial, AskProvers};
+ghost use Rattle.civl_command.specs.Tasks.{AskForSome, AskProvers};
 ghost use Rattle.civl_command.specs.Judge.{Explains};
-ghost use Rattle.civl_command.specs.Report.{trial_line};
-ghost use Rattle.civl_command.specs.Promises.{AcceptsRightly, TrialAcceptsRightly, AcceptsAlone, IsSafeRightly, IsSafeAlone, SurveysRightly, PrintsRightly, ReplaysRightly, CertifiesRightly, RefutesRightly, RejectsRightly, LeavesOpenRightly, RefusesRightly, IsComplete, IsTrialComplete};
-ghost use Rattle.civl_command.specs.declared.task.Task.TheVariants.{Check, Conditions, Fmt, RunLow, RunTop, Prove, Make, Replay};
+ghost use Rattle.civl_command.specs.Promises.{Promises};
 
 use crate::judge::judge;
 use civl_frontend::Status;
@@ -24,12 +21,14 @@ fn respond<S: Source, K: Sink>(
     sink: &mut K,
     provers: &mut Vec<Box<dyn Prover>>,
 ) -> Status
-    ensures explains { Explains (map string_bytes words.now.items)
-        (reading (S.left source.old) (S.faults source.old))
-        (reading (S.left source.new) (S.faults source.new))
-        (writing (K.written sink.old) (K.faults sink.old) (K.stalls sink.old))
-        (writing (K.written sink.new) (K.faults sink.new) (K.stalls sink.new))
-        result }
+    ensures explains { Explains (record {
+      words = map string_bytes words.now.items;
+      source = reading (S.left source.old) (S.faults source.old);
+      source_after = reading (S.left source.new) (S.faults source.new);
+      sink = writing (K.written sink.old) (K.faults sink.old) (K.stalls sink.old);
+      sink_after = writing (K.written sink.new) (K.faults sink.new) (K.stalls sink.new);
+      status = result;
+    }) }
     ensures unread { (AskForSome (map string_bytes words.now.items) → ⊥) → source.new ≡ source.old }
     ensures unwritten { (result ≡ Status.ReadFault) ⊎ (result ≡ Status.Memory) → sink.new ≡ sink.old }
     ensures unasked { (AskProvers (map string_bytes words.now.items) → ⊥) → provers.new ≡ provers.old }
@@ -58,16 +57,16 @@ fn respond<S: Source, K: Sink>(
 /// Behind `check`, `conditions`, `prove` and `proof make` may stand `--budget N`, a number of at most 10,000,000: so many clauses each search may
 /// learn, and 200,000 where the words don't say. The whole input is read before anything is written, up to 1,048,576 bytes, or 67,108,864
 /// of a certificate, and one more, and the report is made whole before its first byte is written. The provers are asked under `check`,
-/// `conditions`, `trial`, `prove` and `proof make` alone, in their order, and none is believed without its certificate; those that gave a false
-/// one are dropped.
+/// `conditions`, `trial`, `prove` and `proof make` alone. In which order, and which are dropped, `ask` of civl_portfolio says of each
+/// round, and no clause here.
 ///
 /// # Answers
 ///
 /// - [`Status::Done`]: the program is accepted, its conditions were told, or one of them, it was printed, all goals of the outline hold, or the
 ///   schedule or the certificate was replayed.
 /// - [`Status::Rejected`]: a condition of the program that is checked, tried or outlined doesn't hold, or a goal of the outline.
-/// - [`Status::Undecided`]: the search for an initial store of the program that is checked, tried or outlined, or for values that violate
-///   one of its conditions or of the outline's goals, learned as many clauses as it may.
+/// - [`Status::Undecided`]: whether a store of the program that is checked, tried or outlined is initial, or whether values violate one of
+///   its conditions or of the outline's goals, is open: a log spends the budget on clauses that stand for it.
 /// - [`Status::Refused`]: the input is too long, or is no program, script or outline; its program breaks a static rule; a formula weighs too
 ///   much, no condition has the number, no store is initial, or what a script or an outline says doesn't fit its program; or it is no
 ///   certificate.
@@ -82,110 +81,25 @@ pub fn command<S: Source, K: Sink>(
     sink: &mut K,
     provers: &mut Vec<Box<dyn Prover>>,
 ) -> Status
-    // What each status says of the words, of what was read and of what was written.
-    ensures explains { Explains (map string_bytes words.now.items)
-        (reading (S.left source.old) (S.faults source.old))
-        (reading (S.left source.new) (S.faults source.new))
-        (writing (K.written sink.old) (K.faults sink.old) (K.stalls sink.old))
-        (writing (K.written sink.new) (K.faults sink.new) (K.stalls sink.new))
-        result }
+    // What is so of the words, of the streams as far as they tell their bytes, and of the status.
+    ensures promises { Promises (record {
+      words = map string_bytes words.now.items;
+      source = reading (S.left source.old) (S.faults source.old);
+      source_after = reading (S.left source.new) (S.faults source.new);
+      sink = writing (K.written sink.old) (K.faults sink.old) (K.stalls sink.old);
+      sink_after = writing (K.written sink.new) (K.faults sink.new) (K.stalls sink.new);
+      status = result;
+    }) }
 
-    // Words that ask for nothing of an input leave the source as it is, even where the usage line can't be written; a failed read and
-    // want of memory leave the sink; and words other than those of `check`, `conditions`, `trial`, `prove` and `proof make` leave
-    // the provers.
+    // Of the values themselves: words that ask for nothing of an input leave the source as it is, even where the usage line can't be
+    // written; a failed read and want of memory leave the sink; and words other than those of `check`, `conditions`, `trial`, `prove`
+    // and `proof make` leave the provers.
     ensures unread { (AskForSome (map string_bytes words.now.items) → ⊥) → source.new ≡ source.old }
     ensures unread_usage { result ≡ Status.Usage → source.new ≡ source.old }
     ensures unwritten { (result ≡ Status.ReadFault) ⊎ (result ≡ Status.Memory) → sink.new ≡ sink.old }
     ensures unasked { (AskProvers (map string_bytes words.now.items) → ⊥) → provers.new ≡ provers.old }
-
-    // Where the source tells its bytes: what the statuses on a text say of the whole input; and what they say of the text of a trial.
-    ensures accepted { (budget : ℕ) → result ≡ Status.Done → AskFor (Check budget) (map string_bytes words.now.items) → AcceptsRightly
-        (reading (S.left source.old) (S.faults source.old))
-        (reading (S.left source.new) (S.faults source.new))
-        (writing (K.written sink.old) (K.faults sink.old) (K.stalls sink.old))
-        (writing (K.written sink.new) (K.faults sink.new) (K.stalls sink.new)) }
-    ensures tried { (number : ℕ) → result ≡ Status.Done → AskForTrial number (map string_bytes words.now.items) → TrialAcceptsRightly number
-        (writing (K.written sink.old) (K.faults sink.old) (K.stalls sink.old))
-        (writing (K.written sink.new) (K.faults sink.new) (K.stalls sink.new)) }
-    ensures surveyed { (budget : ℕ) → result ≡ Status.Done → AskFor (Conditions budget) (map string_bytes words.now.items) → SurveysRightly budget
-        (reading (S.left source.old) (S.faults source.old))
-        (reading (S.left source.new) (S.faults source.new))
-        (writing (K.written sink.old) (K.faults sink.old) (K.stalls sink.old))
-        (writing (K.written sink.new) (K.faults sink.new) (K.stalls sink.new)) }
-    ensures printed { result ≡ Status.Done → AskFor Fmt (map string_bytes words.now.items) → PrintsRightly
-        (reading (S.left source.old) (S.faults source.old))
-        (reading (S.left source.new) (S.faults source.new))
-        (writing (K.written sink.old) (K.faults sink.old) (K.stalls sink.old))
-        (writing (K.written sink.new) (K.faults sink.new) (K.stalls sink.new)) }
-    ensures low { result ≡ Status.Done → AskFor RunLow (map string_bytes words.now.items) → ReplaysRightly lowest
-        (reading (S.left source.old) (S.faults source.old))
-        (reading (S.left source.new) (S.faults source.new))
-        (writing (K.written sink.old) (K.faults sink.old) (K.stalls sink.old))
-        (writing (K.written sink.new) (K.faults sink.new) (K.stalls sink.new)) }
-    ensures top { result ≡ Status.Done → AskFor RunTop (map string_bytes words.now.items) → ReplaysRightly topmost
-        (reading (S.left source.old) (S.faults source.old))
-        (reading (S.left source.new) (S.faults source.new))
-        (writing (K.written sink.old) (K.faults sink.old) (K.stalls sink.old))
-        (writing (K.written sink.new) (K.faults sink.new) (K.stalls sink.new)) }
-    ensures safe { (budget : ℕ) → result ≡ Status.Done → AskFor (Prove budget) (map string_bytes words.now.items) → IsSafeRightly
-        (reading (S.left source.old) (S.faults source.old))
-        (reading (S.left source.new) (S.faults source.new))
-        (writing (K.written sink.old) (K.faults sink.old) (K.stalls sink.old))
-        (writing (K.written sink.new) (K.faults sink.new) (K.stalls sink.new)) }
-    ensures certified { (at budget : ℕ) → result ≡ Status.Done → AskFor (Make at budget) (map string_bytes words.now.items) → CertifiesRightly at budget
-        (reading (S.left source.old) (S.faults source.old))
-        (reading (S.left source.new) (S.faults source.new))
-        (writing (K.written sink.old) (K.faults sink.old) (K.stalls sink.old))
-        (writing (K.written sink.new) (K.faults sink.new) (K.stalls sink.new)) }
-    ensures replayed { result ≡ Status.Done → AskFor Replay (map string_bytes words.now.items) → RefutesRightly
-        (reading (S.left source.old) (S.faults source.old))
-        (reading (S.left source.new) (S.faults source.new))
-        (writing (K.written sink.old) (K.faults sink.old) (K.stalls sink.old))
-        (writing (K.written sink.new) (K.faults sink.new) (K.stalls sink.new)) }
-    ensures rejected { result ≡ Status.Rejected → RejectsRightly (map string_bytes words.now.items)
-        (reading (S.left source.old) (S.faults source.old))
-        (reading (S.left source.new) (S.faults source.new))
-        (writing (K.written sink.old) (K.faults sink.old) (K.stalls sink.old))
-        (writing (K.written sink.new) (K.faults sink.new) (K.stalls sink.new)) }
-    ensures undecided { result ≡ Status.Undecided → LeavesOpenRightly (map string_bytes words.now.items)
-        (reading (S.left source.old) (S.faults source.old))
-        (reading (S.left source.new) (S.faults source.new))
-        (writing (K.written sink.old) (K.faults sink.old) (K.stalls sink.old))
-        (writing (K.written sink.new) (K.faults sink.new) (K.stalls sink.new)) }
-    ensures refused { result ≡ Status.Refused → RefusesRightly (map string_bytes words.now.items)
-        (reading (S.left source.old) (S.faults source.old))
-        (reading (S.left source.new) (S.faults source.new))
-        (writing (K.written sink.old) (K.faults sink.old) (K.stalls sink.old))
-        (writing (K.written sink.new) (K.faults sink.new) (K.stalls sink.new)) }
-
-    // Where the sink tells what it took: under `check` a report that begins with `accepted` is that of Done, or was cut short; so is the
-    // report of a trial that goes on so under its line, and under `prove` a report that begins with `safe`.
-    ensures alone { (budget : ℕ) → AskFor (Check budget) (map string_bytes words.now.items) → AcceptsAlone []
-        (writing (K.written sink.old) (K.faults sink.old) (K.stalls sink.old))
-        (writing (K.written sink.new) (K.faults sink.new) (K.stalls sink.new))
-        result }
-    ensures tried_alone { (number : ℕ) → AskForTrial number (map string_bytes words.now.items) → AcceptsAlone (trial_line number)
-        (writing (K.written sink.old) (K.faults sink.old) (K.stalls sink.old))
-        (writing (K.written sink.new) (K.faults sink.new) (K.stalls sink.new))
-        result }
-    ensures safe_alone { (budget : ℕ) → AskFor (Prove budget) (map string_bytes words.now.items) → IsSafeAlone
-        (writing (K.written sink.old) (K.faults sink.old) (K.stalls sink.old))
-        (writing (K.written sink.new) (K.faults sink.new) (K.stalls sink.new))
-        result }
-
-    // Each input, and the text of each trial, gets the status that it calls for, unless memory runs out.
-    ensures complete { IsComplete (map string_bytes words.now.items)
-        (reading (S.left source.old) (S.faults source.old))
-        (reading (S.left source.new) (S.faults source.new))
-        (writing (K.written sink.old) (K.faults sink.old) (K.stalls sink.old))
-        (writing (K.written sink.new) (K.faults sink.new) (K.stalls sink.new))
-        result }
-    ensures tried_complete { IsTrialComplete (map string_bytes words.now.items)
-        (writing (K.written sink.old) (K.faults sink.old) (K.stalls sink.old))
-        (writing (K.written sink.new) (K.faults sink.new) (K.stalls sink.new))
-        result }
 {
-    // The laws on which `accepted` and `safe` rest. They compute nothing.
+    // The laws on which `preserved`, `accepted` and `safe` rest. They compute nothing.
     accepted_programs_preserve();
     lowest_is_safe();
     respond(alloc, words, source, sink, provers)

@@ -21,7 +21,7 @@ use Rattle.civl_conditions.specs.declared.condition.Target.TheVariants as target
 use Rattle.civl_conditions.specs.declared.places.Place.{Place}
 use Rattle.civl_conditions.specs.Steps.{each_at, each_cut, has_layer, lasts_through, step_invariants}
 use Rattle.civl_conditions.specs.Listed.{starts, keeps, movers, targets, at_step}
-use Rattle.civl_conditions.specs.Placed.{place_of, step_places, parts_from, yield_at, blocks_from}
+use Rattle.civl_conditions.specs.inner.Placed.{place_of, step_places, parts_from, yield_at, blocks_from}
 
 -- ---- how many cuts there are
 

@@ -32,9 +32,9 @@ abbrev pub invariants_hold : Program → ℕ → Store → Bool
 invariants_hold program step g = list_all (holds_of_globals program g) (step_invariants program step)
 
 -- `init` holds, and the permissions of the linear globals and of the linear thread arguments are pairwise disjoint
-abbrev pub is_initial : Program → Store → Bool
-is_initial program g = holds_of_globals program g program.init && pairwise_disjoint (initial_permissions program g)
+abbrev pub meets_init : Program → Store → Bool
+meets_init program g = holds_of_globals program g program.init && pairwise_disjoint (initial_permissions program g)
 
 -- K1: an initial store that doesn't meet the invariant
 abbrev pub start_fails : Program → ℕ → ℕ → Store → Bool
-start_fails program step i g = is_initial program g && invariant_lost program step i g
+start_fails program step i g = meets_init program g && invariant_lost program step i g

@@ -1,6 +1,5 @@
 pub mod Steps
 pub mod Listed
-pub mod Placed
 pub mod Names
 pub mod Variables
 pub mod Passed
@@ -15,3 +14,4 @@ pub mod Violated
 pub mod Weights
 pub mod footprints
 pub mod paths
+pub mod inner

@@ -1,4 +1,4 @@
--- For private functions alone: the variables of calls, each found by its statement's number.
+-- The variables of calls, each found by its statement's number; `push_choices_at` cites `choices_at`.
 use Rattle.std.specs.Prelude.{ℕ, nat_lt, if◌then◌else◌, List, [], Option, None, Some, slice_get}
 use Rattle.std.specs.Option.{option_map_or}
 use Rattle.civl_tree.specs.declared.stmt.Stmt.{Stmt, out-Stmt}

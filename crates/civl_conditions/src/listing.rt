@@ -6,7 +6,7 @@ ghost use Rattle.civl_conditions.specs.declared.condition.Target.TheVariants as 
 ghost use Rattle.civl_conditions.specs.Steps.{begins_below, lasts_through, step_invariants, each_at};
 ghost use Rattle.civl_layers.specs.Movers.{is_left, is_right};
 ghost use Rattle.civl_conditions.specs.Listed.{starts, keeps, pair_of, fire_of, movers, at_step, conditions};
-ghost use Rattle.civl_conditions.specs.Placed.{step_places, parts_from, yield_at, blocks_from};
+ghost use Rattle.civl_conditions.specs.inner.Placed.{step_places, parts_from, yield_at, blocks_from};
 
 use crate::condition::{Condition, Part, Target};
 use crate::places::{Place, step_places};

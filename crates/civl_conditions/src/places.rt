@@ -3,7 +3,7 @@ ghost use Rattle.std.specs.Prelude.{◌≡◌, ◌≤◌, ◌++◌, ◌^◌, [],
 ghost use Rattle.civl_tree.specs.Numbered.{IsNumbered};
 ghost use Rattle.civl_layers.specs.Cuts.{proc_cuts};
 ghost use Rattle.civl_conditions.specs.Steps.{has_layer, each_at};
-ghost use Rattle.civl_conditions.specs.Placed.{place_of, step_places};
+ghost use Rattle.civl_conditions.specs.inner.Placed.{place_of, step_places};
 
 use crate::steps::has_layer;
 use civl_layers::{Cut, CutKind, Layered, cuts, program};

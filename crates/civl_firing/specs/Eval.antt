@@ -1,3 +1,4 @@
+-- Part of the claim: docs/CLAIM.md.
 -- The value of an expression in a scope, by cases over its form. It is total: a name that isn't there has the value
 -- `nothing`.
 use Rattle.std.specs.Prelude.{true, false, List, map, slice_index_or}

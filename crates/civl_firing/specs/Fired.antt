@@ -1,3 +1,4 @@
+-- Part of the claim: docs/CLAIM.md.
 -- Gated atomic actions (Hawblitzel, Petrank, Qadeer, Tasiran, CAV 2015): a gate, and a transition that is a guard with
 -- parallel updates.
 use Rattle.std.specs.Prelude.{Bool, List, [], ◌∷◌, map, slice_set, if◌then◌else◌, Option, None, Some}

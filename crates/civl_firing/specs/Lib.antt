@@ -6,8 +6,8 @@ pub mod Eval
 pub mod Scope
 pub mod Names
 pub mod Settings
-pub mod Asked
 pub mod Fired
 pub mod Agreement
 pub mod examples
 pub mod values
+pub mod inner

@@ -1,3 +1,4 @@
+-- Part of the claim: docs/CLAIM.md.
 -- The values of the names at a program's places: which names stand there, and for which values. The sorts of the names
 -- there are the scopes of civl_tree's rules.
 use Rattle.std.specs.Prelude.{false, List, ◌++◌, map}

@@ -1,3 +1,4 @@
+-- Part of the claim: docs/CLAIM.md.
 -- Stores: one value for each global.
 use Rattle.std.specs.Prelude.{List, map}
 use Rattle.civl_tree.specs.declared.program.Global.{Global}

@@ -1,3 +1,4 @@
+-- Part of the claim: docs/CLAIM.md.
 -- The value of an expression that is built from names of bools, `true`, `false`, `!`, `&&` and `||`.
 use Rattle.std.specs.Prelude.{ℕ, ◌+◌, Bool, true, false, not, ◌&&◌, ◌||◌, List, [], ◌∷◌, slice_index_or, if◌then◌else◌}
 use Rattle.std.specs.Str.{bytes_eq}

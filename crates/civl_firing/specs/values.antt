@@ -1,5 +1,4 @@
 pub mod Operators
-pub mod Operands
 pub mod Values
 pub mod Weights
 pub mod ActionWeights

@@ -4,7 +4,7 @@ ghost use Rattle.civl_firing.specs.values.Operators.{nothing};
 ghost use Rattle.civl_firing.specs.Eval.{values_of};
 ghost use Rattle.civl_firing.specs.Scope.{gate_values, frame_values, zeros_of_params, zeros_of_globals};
 ghost use Rattle.civl_firing.specs.Settings.{scope_in};
-ghost use Rattle.civl_firing.specs.Asked.{asked_values, scope_asked};
+ghost use Rattle.civl_firing.specs.inner.Asked.{asked_values, scope_asked};
 ghost use Rattle.civl_firing.specs.Fired.{gate_holds};
 
 use crate::expressions::{holds, value};

@@ -19,8 +19,8 @@ use Rattle.civl_shadows.specs.declared.shadow.Shadowed as given
 use Rattle.civl_shadows.specs.Shadows.{done_in}
 use Rattle.civl_followed.specs.declared.walk.Opening.{Opening}
 use Rattle.civl_followed.specs.declared.walk.Walk.{Walk}
-use Rattle.civl_followed.specs.Frames.{IsKept}
-use Rattle.civl_followed.specs.Along.{AlongAt, IsChosen, Closes}
+use Rattle.civl_followed.specs.inner.Frames.{IsKept}
+use Rattle.civl_followed.specs.inner.Along.{AlongAt, IsChosen, Closes}
 use Rattle.civl_followed.proofs.Stepping.{same_move, no_move, one_merged}
 
 module _ (program : Program) (layer : ℕ) (old : Walk) (b : Opening) (m : Move) (before now : Option Activation) (threads : List Running) (threads_are : threads ≡ old.lower.config.threads) (now_is : IsKept program now (frame_at program (layer + 1) threads m.thread)) where

@@ -31,7 +31,7 @@ use Rattle.civl_shadows.specs.Notes.{layer_glides}
 use Rattle.civl_meaning.specs.Remaining.{rest_of}
 use Rattle.civl_shadows.proofs.Goings.{rest_more}
 use Rattle.civl_followed.specs.declared.acting.Done.{Done}
-use Rattle.civl_followed.specs.Along.{Does, IsChosenOf, IsAfter, IsOffered}
+use Rattle.civl_followed.specs.inner.Along.{Does, IsChosenOf, IsAfter, IsOffered}
 
 -- ---- an action that does what a block did
 

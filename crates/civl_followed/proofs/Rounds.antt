@@ -15,7 +15,7 @@ use Rattle.civl_shadows.specs.declared.shadow.Shadowed as given
 use Rattle.civl_shadows.specs.Shadows.{IsLayerOf, Shows}
 use Rattle.civl_followed.specs.declared.walk.Opening.{Opening}
 use Rattle.civl_followed.specs.declared.walk.Walk.{Walk}
-use Rattle.civl_followed.specs.Along.{Grounds, BeginsAs, AlongAt, AlongIn, IsReady}
+use Rattle.civl_followed.specs.inner.Along.{Grounds, BeginsAs, AlongAt, AlongIn, IsReady}
 use Rattle.civl_followed.proofs.Walking.{ready_at, ready_in, none_open}
 use Rattle.civl_followed.proofs.Stepping.{moves_on}
 

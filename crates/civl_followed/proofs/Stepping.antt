@@ -23,7 +23,7 @@ use Rattle.civl_meaning.specs.Step as step
 use Rattle.civl_conditions.specs.footprints.Agreement.{StoresAgree, exists_at}
 use Rattle.civl_conditions.specs.Assumed.{inputs_of}
 use Rattle.civl_reduction.specs.interleavings.Systems.{System}
-use Rattle.civl_reduction.specs.interleavings.Runs.{RunsTo, BlocksTo, Staged, ends, Opens, opened}
+use Rattle.civl_reduction.specs.interleavings.Runs.{SystemRuns, BlocksTo, Staged, ends, Opens, opened}
 use Rattle.civl_reduction.specs.interleavings.Threads.{Threads, Config, Move, inside_in, stepping_of, step_of}
 use Rattle.civl_reduction.specs.exchanges.Interleavings.{Chosen, Call, as_config}
 use Rattle.civl_reduction.proofs.exchanges.Exchanging.{steps_back}
@@ -41,7 +41,7 @@ use Rattle.civl_shadows.specs.declared.shadow.Shadowed as given
 use Rattle.civl_shadows.specs.Shadows.{done_in, Shows}
 use Rattle.civl_followed.specs.declared.walk.Opening.{Opening}
 use Rattle.civl_followed.specs.Followed.{inside_at, ended, block_count}
-use Rattle.civl_followed.specs.Along.{Grounds, AlongAt, AlongIn, IsReady, Does, IsChosen}
+use Rattle.civl_followed.specs.inner.Along.{Grounds, AlongAt, AlongIn, IsReady, Does, IsChosen}
 use Rattle.civl_followed.proofs.Walking.{roots, made, inside_is, count_more, opens_more, stage, runs_more, all_more}
 
 length_more : (ns : List plain.Move) (n : plain.Move) → length (ns ++ n ∷ []) ≡ length ns + 1
@@ -197,7 +197,7 @@ module _ (program : Program) (layer : ℕ) (store : Store) (moves : List plain.M
 
       abbrev Followed : (Proc × Activation → List Value → Type 0) → Type 0
       Followed picked =
-          (more : List (Move Chosen)) × (y : Config Store Running) × RunsTo (stepping_of Q) more (as_config x) y × MeetsBeside program layer to (plain_config y)
+          (more : List (Move Chosen)) × (y : Config Store Running) × SystemRuns (stepping_of Q) more (as_config x) y × MeetsBeside program layer to (plain_config y)
           × HowFollowed program layer store g.checked (roots program layer store moves g) picked from last to r.one more
 
       follows : (picked : Proc × Activation → List Value → Type 0) → BlockIsRefinedBy picked program layer from last to r.one.thread → Followed picked
@@ -208,10 +208,10 @@ module _ (program : Program) (layer : ℕ) (store : Store) (moves : List plain.M
       Makes n = (y : meaning.Config) × (step.step_of upper x n ≡ (answer.Moved, y)) × AlongAt program layer store moves new y (ns ++ n ∷ []) rest
 
       -- by one move
-      by_one : (n : plain.Move) (own_move : Move Chosen) (more : List (Move Chosen)) (y : Config Store Running) → more ≡ own_move ∷ [] → RunsTo (stepping_of Q) more (as_config x) y → MeetsBeside program layer to (plain_config y)
+      by_one : (n : plain.Move) (own_move : Move Chosen) (more : List (Move Chosen)) (y : Config Store Running) → more ≡ own_move ∷ [] → SystemRuns (stepping_of Q) more (as_config x) y → MeetsBeside program layer to (plain_config y)
           → plain_move own_move ≡ n → Makes n
       by_one n own_move more y is runs meets same =
-          let h = subst (λ (l : List (Move Chosen)). RunsTo (stepping_of Q) l (as_config x) y) is runs in
+          let h = subst (λ (l : List (Move Chosen)). SystemRuns (stepping_of Q) l (as_config x) y) is runs in
           let one_step : step_of Q (as_config x) own_move ≡ Some y = h.1 ∙ ap (λ (z : Config Store Running). Some z) h.2 in
           let plain_step : step.step_of upper x n ≡ (answer.Moved, plain_config y) =
           ap (step.step_of upper x) (sym same) ∙ steps_back upper store (inside program (layer + 1)) x (plain_move own_move) own_move.chosen.1 y one_step in
@@ -258,7 +258,7 @@ module _ (program : Program) (layer : ℕ) (store : Store) (moves : List plain.M
             | inl q ↦ absurd (none-some h (sym q.0 ∙ (sym frames_are ∙ is)))
             | inr q ↦ elim q.2 [
               | inl z ↦
-                  let here : as_config x ≡ f.1 = subst (λ (l : List (Move Chosen)). RunsTo (stepping_of Q) l (as_config x) f.1) z.1 f.2 in
+                  let here : as_config x ≡ f.1 = subst (λ (l : List (Move Chosen)). SystemRuns (stepping_of Q) l (as_config x) f.1) z.1 f.2 in
                   let there : plain_config f.1 ≡ x = ap plain_config (sym here) in
                   let none : length (ns ++ []) ≡ length ns = ap length (append-nil ns) in
                   let result = along [] f.1 f.3 (subst (λ (l : List plain.Move). run.RunsTo upper l (step.start upper store) (plain_config f.1)) (sym (append-nil ns)) (subst (run.RunsTo upper ns (step.start upper store)) (sym there) r.following.runs))

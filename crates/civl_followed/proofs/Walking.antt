@@ -35,7 +35,7 @@ use Rattle.civl_shadows.specs.declared.shadow.Shadowed as given
 use Rattle.civl_shadows.specs.Shadows.{Shows}
 use Rattle.civl_followed.specs.declared.walk.Opening.{Opening}
 use Rattle.civl_followed.specs.Followed.{inside_at, ended, block_count, FailsInBlocks, FollowsBlocks}
-use Rattle.civl_followed.specs.Along.{Grounds, BeginsAs, IsFollowing, AlongAt, AlongIn, IsReady}
+use Rattle.civl_followed.specs.inner.Along.{Grounds, BeginsAs, IsFollowing, AlongAt, AlongIn, IsReady}
 
 -- ---- lists
 

@@ -1,3 +1,2 @@
 pub mod Followed
-pub mod Frames
-pub mod Along
+pub mod inner

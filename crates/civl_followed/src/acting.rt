@@ -1,7 +1,7 @@
 // Whether an action does what a block did.
 ghost use Rattle.std.specs.Prelude.{ℕ, ◌≡◌, ◌+◌, ◌<◌, ◌^◌, true, false, All, IfOk};
 ghost use Rattle.civl_bits.specs.Value.{IsValue};
-ghost use Rattle.civl_followed.specs.Along.{Does, IsAfter};
+ghost use Rattle.civl_followed.specs.inner.Along.{Does, IsAfter};
 
 use crate::agreeing::{agree, are_same};
 use civl_bits::Value;

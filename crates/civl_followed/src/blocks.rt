@@ -2,7 +2,7 @@
 ghost use Rattle.std.specs.Prelude.{◌≡◌, ◌+◌, ◌<◌, ◌^◌, IfOk};
 ghost use Rattle.civl_reduction.specs.blocks.Cuts.{frame_at};
 ghost use Rattle.civl_followed.specs.Followed.{inside_at};
-ghost use Rattle.civl_followed.specs.Frames.{IsKept};
+ghost use Rattle.civl_followed.specs.inner.Frames.{IsKept};
 
 use civl_meaning::remaining::rest_at;
 use civl_meaning::{Activation, Config, Running};

@@ -8,7 +8,7 @@ ghost use Rattle.civl_reduction.specs.simulation.Refined.{with_values};
 ghost use Rattle.civl_reduction.specs.staged.Stops.{StopsAt};
 ghost use Rattle.civl_shadows.specs.Notes.{noted, progress_of};
 ghost use Rattle.civl_meaning.specs.Remaining.{rest_of};
-ghost use Rattle.civl_followed.specs.Along.{IsChosenOf};
+ghost use Rattle.civl_followed.specs.inner.Along.{IsChosenOf};
 
 use crate::acting::{Done, does};
 use civl_bits::Value;

@@ -10,8 +10,8 @@ ghost use Rattle.civl_tree.specs.declared.program.Program.{Program as Tree};
 ghost use Rattle.civl_meaning.specs.declared.config.Activation.{Activation as Frame};
 ghost use Rattle.civl_reduction.specs.blocks.Shadow.{merged};
 ghost use Rattle.civl_reduction.specs.simulation.Refined.{last_frame};
-ghost use Rattle.civl_followed.specs.Frames.{IsKept};
-ghost use Rattle.civl_followed.specs.Along.{IsChosen, Closes};
+ghost use Rattle.civl_followed.specs.inner.Frames.{IsKept};
+ghost use Rattle.civl_followed.specs.inner.Along.{IsChosen, Closes};
 
 use crate::acting::Done;
 use crate::blocks::frame_of;

@@ -7,7 +7,7 @@ ghost use Rattle.civl_meaning.specs.Table.{ArePlaces};
 ghost use Rattle.civl_reduction.specs.checked.Checked.{IsChecked};
 ghost use Rattle.civl_shadows.specs.Shadows.{IsLayerOf, Shows};
 ghost use Rattle.civl_followed.specs.Followed.{FailsInBlocks, FollowsBlocks};
-ghost use Rattle.civl_followed.specs.Along.{Grounds, FollowsOne, FollowsAll};
+ghost use Rattle.civl_followed.specs.inner.Along.{Grounds, FollowsOne, FollowsAll};
 
 use crate::blocks::{frame_of, is_inside};
 use crate::closing::close;

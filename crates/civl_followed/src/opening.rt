@@ -4,7 +4,7 @@ ghost use Rattle.civl_bits.specs.declared.value.Value.{Value as Given};
 ghost use Rattle.civl_reduction.specs.blocks.Shadow.{Shadowed as Beside};
 ghost use Rattle.civl_shadows.specs.Frames.{framed_of};
 ghost use Rattle.civl_shadows.specs.Shadows.{done_in, Shows};
-ghost use Rattle.civl_followed.specs.Along.{BeginsAs, IsOffered, done_by};
+ghost use Rattle.civl_followed.specs.inner.Along.{BeginsAs, IsOffered, done_by};
 
 use crate::choosing::push_stops;
 use crate::walk::Opening;

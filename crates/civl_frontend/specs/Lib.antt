@@ -5,3 +5,4 @@ pub mod Rules
 pub mod Report
 pub mod Streams
 pub mod Told
+pub mod Call

@@ -1,4 +1,4 @@
--- What reading a text gives, in the clauses of private functions.
+-- What reading a text gives, as `read_program`, `read_script` and `read_outline` cite it.
 use Rattle.std.specs.Prelude.{ℕ, List, ⊤, Ok, Err}
 use Rattle.civl_tree.specs.Token.{Token}
 use Rattle.civl_tree.specs.SpellingDomain.{HasSpelling, ScriptHasSpelling}

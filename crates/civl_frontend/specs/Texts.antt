@@ -1,3 +1,4 @@
+-- Part of the claim: docs/CLAIM.md.
 -- What a text spells, and how it is read: as a program, as a script, or as an outline.
 use Rattle.std.specs.Prelude.{ℕ, List, Result, Ok, Err}
 use Rattle.civl_tree.specs.Token.{Token}

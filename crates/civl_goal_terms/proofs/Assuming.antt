@@ -24,8 +24,8 @@ use Rattle.civl_goals.specs.Outlines.{invariant_holds, note_holds}
 use Rattle.civl_goals.specs.Failed.{held_before, owned_in, assumed}
 use Rattle.civl_goal_terms.specs.declared.places.At.{At}
 use Rattle.civl_goal_terms.specs.declared.settings.Setting.{Setting}
-use Rattle.civl_goal_terms.specs.Told.{frame}
-use Rattle.civl_goal_terms.specs.Settings.{Here, CanStand, SaysHere}
+use Rattle.civl_goal_terms.specs.inner.Told.{frame}
+use Rattle.civl_goal_terms.specs.inner.Settings.{Here, CanStand, SaysHere}
 use Rattle.civl_goal_terms.proofs.HoldingWords.{held_are_words}
 use Rattle.civl_goal_terms.proofs.Parting.{held_within, held_sorted}
 

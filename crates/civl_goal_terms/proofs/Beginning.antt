@@ -9,7 +9,7 @@ use Rattle.civl_tree.specs.declared.program.Program.{Program}
 use Rattle.civl_tree.specs.rules.Uses.{param_sorts}
 use Rattle.civl_meaning.specs.Meaning.{proc_number}
 use Rattle.civl_meaning.proofs.Begun.{proc_is}
-use Rattle.civl_conditions.specs.Invariants.{is_initial}
+use Rattle.civl_conditions.specs.Invariants.{meets_init}
 use Rattle.civl_conditions.specs.Weights.{initial_own}
 use Rattle.civl_states.specs.formula_parts.Given.{bits_of_sorts}
 use Rattle.civl_states.specs.Stores.{global_sorts}
@@ -24,7 +24,7 @@ use Rattle.civl_goals.specs.Failed.{thread_fails, failed}
 use Rattle.civl_goals.specs.Variables.{variables}
 use Rattle.civl_goals.specs.Weights.{invariant_weight, first_note_weight, weight}
 use Rattle.civl_goal_terms.specs.Formulas.{sorts_of}
-use Rattle.civl_goal_terms.specs.Frames.{named_sorts}
+use Rattle.civl_goal_terms.specs.inner.Frames.{named_sorts}
 
 -- ---- variables
 
@@ -39,15 +39,15 @@ thread_sorts program i = globals_named [] program.globals
 -- ---- what they ask
 
 pub invariant_is : (program : Program) (outline : Outline) (values : List Value)
-    → (is_initial program (record { values = values }) && not (invariant_holds program outline (record { values = values }))) ≡ failed program outline goal.Invariant values
+    → (meets_init program (record { values = values }) && not (invariant_holds program outline (record { values = values }))) ≡ failed program outline goal.Invariant values
 unfolding failed
 invariant_is program outline values = refl
 
 pub thread_is : (program : Program) (outline : Outline) (i : ℕ) (thread : Declared) (values : List Value) → slice_get program.threads i ≡ Some thread
-    → (is_initial program (record { values = values }) && thread_fails program outline (record { values = values }) thread) ≡ failed program outline (goal.Thread i) values
+    → (meets_init program (record { values = values }) && thread_fails program outline (record { values = values }) thread) ≡ failed program outline (goal.Thread i) values
 unfolding failed
 thread_is program outline i thread values e =
-    ap (λ (b : Bool). is_initial program (record { values = values }) && b) (sym (there_is (slice_get program.threads i) thread false (thread_fails program outline (record { values = values })) e))
+    ap (λ (b : Bool). meets_init program (record { values = values }) && b) (sym (there_is (slice_get program.threads i) thread false (thread_fails program outline (record { values = values })) e))
 
 -- ---- weights
 

@@ -23,8 +23,8 @@ use Rattle.civl_body.proofs.Typed.{first_suits, form_kept}
 use Rattle.civl_goals.specs.Weights.{form_weight, form_reaches, once, summed_at}
 use Rattle.civl_goal_terms.specs.declared.places.At.{At}
 use Rattle.civl_goal_terms.specs.declared.settings.Setting.{Setting}
-use Rattle.civl_goal_terms.specs.Places.{IsAt, fork_in}
-use Rattle.civl_goal_terms.specs.Settings.{Here, SaysHere}
+use Rattle.civl_goal_terms.specs.inner.Places.{IsAt, fork_in}
+use Rattle.civl_goal_terms.specs.inner.Settings.{Here, SaysHere}
 
 -- ---- one of two places
 

@@ -21,14 +21,14 @@ use Rattle.civl_goals.specs.declared.goal.Goal.TheVariants as goal
 use Rattle.civl_goals.specs.Failed.{loses_invariant, begins_badly, leads_astray, step_fails, held_before, failed}
 use Rattle.civl_goals.specs.Weights.{invariant_weight, note_before_weight, form_weight, form_begins, form_reaches, summed_at, items_at, own_weight}
 use Rattle.civl_goal_terms.specs.declared.places.At.{At}
-use Rattle.civl_goal_terms.specs.There.{HasStatement, IsCall, IsSpawn, IsThere}
-use Rattle.civl_goal_terms.specs.Places.{IsAt}
+use Rattle.civl_goal_terms.specs.inner.There.{HasStatement, IsCall, IsSpawn, IsThere}
+use Rattle.civl_goal_terms.specs.inner.Places.{IsAt}
 use Rattle.civl_terms.specs.declared.node.Node.{Node}
 use Rattle.civl_goal_terms.specs.declared.settings.Setting.{Setting}
-use Rattle.civl_goal_terms.specs.Settings.{sorts_at, done_by, TellsHere}
+use Rattle.civl_goal_terms.specs.inner.Settings.{sorts_at, done_by, TellsHere}
 use Rattle.civl_goal_terms.specs.Formulas.{sorts_of}
-use Rattle.civl_goal_terms.specs.Sorted.{top_sorts, statement_sorts}
-use Rattle.civl_goal_terms.specs.Fails.{is_unsafe, fails_of, named_weight, IsOwn, IsOwnOf}
+use Rattle.civl_goal_terms.specs.inner.Sorted.{top_sorts, statement_sorts}
+use Rattle.civl_goal_terms.specs.inner.Fails.{is_unsafe, fails_of, named_weight, IsOwn, IsOwnOf}
 use Rattle.civl_goal_terms.proofs.Sorting.{grouped_are}
 use Rattle.civl_goal_terms.proofs.Standing.{statement_there, statement_weighs, items_there, note_some}
 

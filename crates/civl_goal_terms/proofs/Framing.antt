@@ -39,8 +39,8 @@ use Rattle.civl_moves.specs.Calls.{AreBodyTerms}
 use Rattle.civl_body.proofs.Typed.{Kept, form_kept, args_typed, args_sorted}
 use Rattle.civl_goals.specs.Outlines.{note_holds}
 use Rattle.civl_goal_terms.specs.declared.places.At.{At}
-use Rattle.civl_goal_terms.specs.Places.{IsAt}
-use Rattle.civl_goal_terms.specs.Frames.{named_sorts, begins_astray}
+use Rattle.civl_goal_terms.specs.inner.Places.{IsAt}
+use Rattle.civl_goal_terms.specs.inner.Frames.{named_sorts, begins_astray}
 
 -- ---- a procedure with a name
 

@@ -8,7 +8,7 @@ use Rattle.civl_tree.specs.declared.program.Program.{Program}
 use Rattle.civl_tree.specs.rules.Scopes.{global_scope}
 use Rattle.civl_states.specs.Notes.{HasType}
 use Rattle.civl_outlines.specs.declared.outline.Outline.{Outline}
-use Rattle.civl_goal_terms.specs.Outlined.{IsOutlined}
+use Rattle.civl_goal_terms.specs.inner.Outlined.{IsOutlined}
 
 -- one of them, where they are lent
 pub hold_typed : (program : Program) (outline : Outline) → IsOutlined program outline → (holds : List Expr) (k : ℕ) (e : Expr) → holds ≡ outline.holds → k < length holds → e ≡ get_or holds k e → HasType (global_scope program) e Truth

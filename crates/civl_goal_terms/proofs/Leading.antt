@@ -8,6 +8,7 @@ use Rattle.civl_tree.specs.declared.name.Name.{Name}
 use Rattle.civl_tree.specs.declared.expr.Expr.{Expr}
 use Rattle.civl_tree.specs.declared.stmt.Stmt.{Stmt, out-Stmt}
 use Rattle.civl_tree.specs.declared.stmt.Stmt.TheOpen.{Stmt-F, Assign, Assert, If, While, YieldLoop, RankLoop, Call, Yield, Commit, Intro, Spawn}
+use Rattle.civl_tree.specs.declared.program.Proc.{Proc}
 use Rattle.civl_tree.specs.declared.program.Program.{Program}
 use Rattle.civl_tree.specs.rules.Names.{names_in_proc}
 use Rattle.civl_outlines.specs.declared.outline.Outline.{Outline}
@@ -22,9 +23,10 @@ use Rattle.civl_meaning.specs.declared.config.Change.TheVariants.{Stays, Goes}
 use Rattle.civl_meaning.specs.declared.config.Stepped.TheVariants as answer
 use Rattle.civl_meaning.specs.Layers.{topmost}
 use Rattle.civl_meaning.specs.Meaning.{Meaning, Does, Runs, Missing, called}
-use Rattle.civl_meaning.specs.Places.{skip_layer}
-use Rattle.civl_meaning.specs.Change.{with_results, acted, call_change, layer_change, spot_change, proc_change}
-use Rattle.civl_meaning.specs.Failing.{call_fails, layer_fails, spot_fails, proc_fails}
+use Rattle.civl_meaning.specs.Places.{Spot, skip_layer}
+use Rattle.civl_meaning.specs.Change.{with_results, acted, call_doing, statement_doing, spot_doing, proc_doing}
+use Rattle.civl_meaning.specs.Change as step
+use Rattle.civl_meaning.specs.Failing.{fails_at}
 use Rattle.civl_conditions.specs.paths.Paths.{Course}
 use Rattle.civl_conditions.specs.Movers.{on_some}
 use Rattle.civl_moves.specs.sweeps.Sweeps.{Swept, with_meaning}
@@ -33,13 +35,13 @@ use Rattle.civl_body.specs.Passing.{course_in}
 use Rattle.civl_goals.specs.Outlines.{invariant_holds, note_holds}
 use Rattle.civl_goals.specs.Failed.{does, fired_store, led_to, loses_invariant, begins_badly, leads_astray}
 use Rattle.civl_goal_terms.specs.declared.places.At.{At}
-use Rattle.civl_goal_terms.specs.There.{IsCall}
-use Rattle.civl_goal_terms.specs.Told.{frame}
-use Rattle.civl_goal_terms.specs.Places.{IsAt, fork_in}
-use Rattle.civl_goal_terms.specs.Settings.{Here, frame_at, done_by}
-use Rattle.civl_goal_terms.specs.Steps.{begun, moved, swept_by}
-use Rattle.civl_goal_terms.specs.Frames.{begins_astray}
-use Rattle.civl_goal_terms.specs.Fails.{is_unsafe}
+use Rattle.civl_goal_terms.specs.inner.There.{IsCall}
+use Rattle.civl_goal_terms.specs.inner.Told.{frame}
+use Rattle.civl_goal_terms.specs.inner.Places.{IsAt, fork_in}
+use Rattle.civl_goal_terms.specs.inner.Settings.{Here, frame_at, done_by}
+use Rattle.civl_goal_terms.specs.inner.Steps.{begun, moved, swept_by}
+use Rattle.civl_goal_terms.specs.inner.Frames.{begins_astray}
+use Rattle.civl_goal_terms.specs.inner.Fails.{is_unsafe}
 
 on_where : {A : Type 0} (b : Bool) (x : A) (test : A → Bool) → on_some (if b then Some x else None) test ≡ (b && test x)
 on_where true x test = refl
@@ -58,23 +60,30 @@ module _ (program : Program) (at : At) (is : IsAt program at) (here : Here) wher
   -- ---- what it does, by its statement
 
   abbrev change_by : Stmt-F Stmt → Change
-  change_by d = layer_change plain here.store here.chosen at.proc.now here.locals at.number at.next d
+  change_by d = step.done_by plain here.store here.chosen (statement_doing plain at.proc.now here.locals at.number at.next d)
 
   does_is : does program here.store own here.chosen ≡ change_by (out-Stmt at.stmt.now)
-  does_is = ap (proc_change plain here.store here.chosen None own) is.proc ∙ ap (spot_change plain here.store here.chosen None own at.proc.now) is.spot
+  does_is = ap (λ (x : Option Proc). step.done_by plain here.store here.chosen (proc_doing plain None own x)) is.proc ∙ ap (λ (x : Option Spot). step.done_by plain here.store here.chosen (spot_doing plain None own at.proc.now x)) is.spot
 
-  fails_is : proc_fails plain here.store own (slice_get program.procs at.root) ≡ layer_fails plain here.store at.proc.now here.locals (out-Stmt at.stmt.now)
-  fails_is = ap (proc_fails plain here.store own) is.proc ∙ ap (spot_fails plain here.store own at.proc.now) is.spot
+  abbrev fails_by : Stmt-F Stmt → Bool
+  fails_by d = fails_at plain here.store (statement_doing plain at.proc.now here.locals at.number at.next d)
+
+  fails_is : fails_at plain here.store (proc_doing plain None own (slice_get program.procs at.root)) ≡ fails_by (out-Stmt at.stmt.now)
+  fails_is = ap (λ (x : Option Proc). fails_at plain here.store (proc_doing plain None own x)) is.proc ∙ ap (λ (x : Option Spot). fails_at plain here.store (spot_doing plain None own at.proc.now x)) is.spot
 
   -- ---- whether it fails
 
-  broken_call : (rs : List Name) (m : Meaning) (args : List Value) → (with_meaning course rs m args here.chosen (begun here)).broken ≡ call_fails plain here.store m args
+  broken_call : (rs : List Name) (m : Meaning) (args : List Value) → (with_meaning course rs m args here.chosen (begun here)).broken ≡ fails_at plain here.store (call_doing (names_in_proc at.proc.now) here.locals rs at.number at.next m args)
   broken_call rs (Does a) args = refl
   broken_call rs (Runs n p) args = refl
   broken_call rs Missing args = refl
 
-  broken_form : (d : Stmt-F Stmt) → (moved course at.number d (begun here)).broken ≡ layer_fails plain here.store at.proc.now here.locals d
-  broken_form (Assert e) = refl
+  broken_form : (d : Stmt-F Stmt) → (moved course at.number d (begun here)).broken ≡ fails_by d
+  broken_form (Assert e) = broken_assert (is_true (value_of (frame_values program.globals at.proc.now here.locals) e))
+    where
+      broken_assert : (b : Bool) → not b ≡ fails_at plain here.store (if b then step.Goes here.locals at.next else step.Fails)
+      broken_assert true = refl
+      broken_assert false = refl
   broken_form (Call f es rs) = broken_call rs (called plain f) (values_of (frame_values program.globals at.proc.now here.locals) es)
   broken_form _ = refl
 
@@ -96,7 +105,7 @@ module _ (program : Program) (at : At) (is : IsAt program at) (here : Here) wher
   store_where true false guard store outs rs = refl
   store_where false fit guard store outs rs = refl
 
-  fired_call : (rs : List Name) (m : Meaning) (args : List Value) → fired_store (call_change plain here.store here.chosen (names_in_proc at.proc.now) here.locals rs at.number at.next m args) ≡ fired_when (with_meaning course rs m args here.chosen (begun here))
+  fired_call : (rs : List Name) (m : Meaning) (args : List Value) → fired_store (step.done_by plain here.store here.chosen (call_doing (names_in_proc at.proc.now) here.locals rs at.number at.next m args)) ≡ fired_when (with_meaning course rs m args here.chosen (begun here))
   unfolding fired fires
   fired_call rs (Does a) args =
       store_where (gate_holds program.globals here.store a args) (choices_fit a here.chosen) (guard_holds program.globals here.store a args here.chosen) (store_after program.globals here.store a args here.chosen) (outs_after program.globals here.store a args here.chosen) rs
@@ -128,14 +137,14 @@ module _ (program : Program) (at : At) (is : IsAt program at) (here : Here) wher
   led_where true false guard store outs rs = refl
   led_where false fit guard store outs rs = refl
 
-  led_call : (rs : List Name) (m : Meaning) (args : List Value) → led_to here.store own (call_change plain here.store here.chosen (names_in_proc at.proc.now) here.locals rs at.number at.next m args) ≡ led_when (with_meaning course rs m args here.chosen (begun here))
+  led_call : (rs : List Name) (m : Meaning) (args : List Value) → led_to here.store own (step.done_by plain here.store here.chosen (call_doing (names_in_proc at.proc.now) here.locals rs at.number at.next m args)) ≡ led_when (with_meaning course rs m args here.chosen (begun here))
   unfolding fired fires
   led_call rs (Does a) args =
       led_where (gate_holds program.globals here.store a args) (choices_fit a here.chosen) (guard_holds program.globals here.store a args here.chosen) (store_after program.globals here.store a args here.chosen) (outs_after program.globals here.store a args here.chosen) rs
   led_call rs (Runs n p) args = refl
   led_call rs Missing args = refl
 
-  led_assert : (b : Bool) → led_to here.store own (if b then Goes here.locals at.next else Stays answer.Failing) ≡ (if b then Some (here.store, frame at.root at.next here.locals) else None)
+  led_assert : (b : Bool) → led_to here.store own (step.done_by plain here.store here.chosen (if b then step.Goes here.locals at.next else step.Fails)) ≡ (if b then Some (here.store, frame at.root at.next here.locals) else None)
   led_assert true = refl
   led_assert false = refl
 

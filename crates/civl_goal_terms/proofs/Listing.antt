@@ -15,7 +15,7 @@ use Rattle.civl_goals.specs.declared.goal.Goal.{Goal}
 use Rattle.civl_goals.specs.declared.goal.Goal.TheVariants as goal
 use Rattle.civl_goals.specs.Outlines.{written_before}
 use Rattle.civl_goals.specs.Listed.{begins, moves_permissions, thread_goal, thread_goals, linear_goal, linear_goals, is_root, noted_at, noted_in, noted_of, noted, form_goals, stmt_goals, root_goals, proc_goals, statement_goals, goals}
-use Rattle.civl_goal_terms.specs.There.{HasStatement, IsCall, IsSpawn, IsThere}
+use Rattle.civl_goal_terms.specs.inner.There.{HasStatement, IsCall, IsSpawn, IsThere}
 
 -- ---- goals
 

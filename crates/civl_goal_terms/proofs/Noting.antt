@@ -19,7 +19,7 @@ use Rattle.civl_outlines.specs.declared.outline.Note.{Note}
 use Rattle.civl_outlines.specs.declared.outline.Outline.{Outline}
 use Rattle.civl_goals.specs.Outlines.{written_before, note_holds}
 use Rattle.civl_goals.specs.Weights.{note_before_weight}
-use Rattle.civl_goal_terms.specs.Told.{frame, TellsNote}
+use Rattle.civl_goal_terms.specs.inner.Told.{frame, TellsNote}
 
 module _ (program : Program) (outline : Outline) (r s : ℕ) (proc : Proc) (there : slice_get program.procs r ≡ Some proc) where
   -- whether the note that is written there holds

@@ -23,10 +23,10 @@ use Rattle.civl_goals.specs.Outlines.{invariant_holds, note_holds}
 use Rattle.civl_goals.specs.Failed.{held_before, owned_in}
 use Rattle.civl_goal_terms.specs.declared.others.Beside.{Beside}
 use Rattle.civl_goal_terms.specs.declared.places.At.{At}
-use Rattle.civl_goal_terms.specs.Others.{other_frame, loses_note, violated_beside}
-use Rattle.civl_goal_terms.specs.Places.{IsAt}
-use Rattle.civl_goal_terms.specs.Settings.{Here, frame_at, done_by}
-use Rattle.civl_goal_terms.specs.There.{HasStatement, IsCall}
+use Rattle.civl_goal_terms.specs.inner.Others.{other_frame, loses_note, violated_beside}
+use Rattle.civl_goal_terms.specs.inner.Places.{IsAt}
+use Rattle.civl_goal_terms.specs.inner.Settings.{Here, frame_at, done_by}
+use Rattle.civl_goal_terms.specs.inner.There.{HasStatement, IsCall}
 
 -- ---- some of what is disjoint
 

@@ -15,7 +15,7 @@ use Rattle.civl_firing.specs.Fired.{gate_holds, guard_holds, choices_fit, store_
 use Rattle.civl_meaning.specs.declared.config.Stepped.TheVariants as answer
 use Rattle.civl_meaning.specs.declared.config.Change.{Change}
 use Rattle.civl_meaning.specs.declared.config.Change.TheVariants.{Stays}
-use Rattle.civl_meaning.specs.Change.{acted, call_change, layer_change, spot_change, proc_change}
+use Rattle.civl_meaning.specs.Change.{acted, done_by, call_doing, statement_doing, spot_doing, proc_doing}
 use Rattle.civl_meaning.specs.Layers.{topmost}
 use Rattle.civl_meaning.specs.Meaning.{Meaning, Does, Runs, Missing, called}
 use Rattle.civl_meaning.specs.Places.{Spot}
@@ -24,10 +24,10 @@ use Rattle.civl_moves.specs.sweeps.Sweeps.{with_meaning}
 use Rattle.civl_body.specs.Passing.{course_in}
 use Rattle.civl_goals.specs.Failed.{does, fired_store}
 use Rattle.civl_goal_terms.specs.declared.places.At.{At}
-use Rattle.civl_goal_terms.specs.Places.{IsAt}
-use Rattle.civl_goal_terms.specs.Settings.{Here, frame_at}
-use Rattle.civl_goal_terms.specs.Steps.{moved, begun, swept_by}
-use Rattle.civl_goal_terms.specs.There.{IsCall}
+use Rattle.civl_goal_terms.specs.inner.Places.{IsAt}
+use Rattle.civl_goal_terms.specs.inner.Settings.{Here, frame_at}
+use Rattle.civl_goal_terms.specs.inner.Steps.{moved, begun, swept_by}
+use Rattle.civl_goal_terms.specs.inner.There.{IsCall}
 
 module _ (program : Program) (at : At) (here : Here) (test : Store → Bool) where
   abbrev proc : Proc
@@ -55,7 +55,7 @@ module _ (program : Program) (at : At) (here : Here) (test : Store → Bool) whe
     by_tests false fits guard = refl
 
   by_meaning : (m : Meaning) (results : List Name) (args : List Value)
-      → happens (call_change (topmost program) here.store here.chosen (names_in_proc proc) here.locals results at.number at.next m args)
+      → happens (done_by (topmost program) here.store here.chosen (call_doing (names_in_proc proc) here.locals results at.number at.next m args))
       ≡ ((with_meaning (course_in program program.layers proc (λ number. here.chosen)) results m args here.chosen (begun here)).live
       && test (with_meaning (course_in program program.layers proc (λ number. here.chosen)) results m args here.chosen (begun here)).store)
   unfolding fired fires
@@ -64,7 +64,7 @@ module _ (program : Program) (at : At) (here : Here) (test : Store → Bool) whe
   by_meaning Missing results args = refl
 
   by_form : (form : Stmt-F Stmt) → IsCall form
-      → happens (layer_change (topmost program) here.store here.chosen proc here.locals at.number at.next form)
+      → happens (done_by (topmost program) here.store here.chosen (statement_doing (topmost program) proc here.locals at.number at.next form))
       ≡ ((moved (course_in program program.layers proc (λ number. here.chosen)) at.number form (begun here)).live && test (moved (course_in program program.layers proc (λ number. here.chosen)) at.number form (begun here)).store)
   by_form (Call f es rs) h = by_meaning (called (topmost program) f) rs _
   by_form (Assign x e) h = absurd h
@@ -79,10 +79,10 @@ module _ (program : Program) (at : At) (here : Here) (test : Store → Bool) whe
   by_form (Spawn f es) h = absurd h
 
   -- what stands there is what is done
-  does_there : IsAt program at → does program here.store (frame_at at here) here.chosen ≡ layer_change (topmost program) here.store here.chosen proc here.locals at.number at.next (out-Stmt at.stmt.now)
+  does_there : IsAt program at → does program here.store (frame_at at here) here.chosen ≡ done_by (topmost program) here.store here.chosen (statement_doing (topmost program) proc here.locals at.number at.next (out-Stmt at.stmt.now))
   does_there is =
-      ap (λ (o : Option Proc). proc_change (topmost program) here.store here.chosen None (frame_at at here) o) is.proc
-      ∙ ap (λ (o : Option Spot). spot_change (topmost program) here.store here.chosen None (frame_at at here) proc o) is.spot
+      ap (λ (o : Option Proc). done_by (topmost program) here.store here.chosen (proc_doing (topmost program) None (frame_at at here) o)) is.proc
+      ∙ ap (λ (o : Option Spot). done_by (topmost program) here.store here.chosen (spot_doing (topmost program) None (frame_at at here) proc o)) is.spot
 
   -- a call fires just where the sweep is here, and leads to its store
   pub call_fires : IsAt program at → IsCall (out-Stmt at.stmt.now) → on_some (fired_store (does program here.store (frame_at at here) here.chosen)) test ≡ ((swept_by program at here).live && test (swept_by program at here).store)

@@ -43,12 +43,12 @@ use Rattle.civl_goals.specs.Weights.{invariant_weight, note_before_weight, form_
 use Rattle.civl_goal_terms.specs.declared.others.Beside.{Beside}
 use Rattle.civl_goal_terms.specs.declared.places.At.{At}
 use Rattle.civl_goal_terms.specs.Formulas.{sorts_of}
-use Rattle.civl_goal_terms.specs.Given.{top_count, chosen_from, behind_chosen, here_from}
-use Rattle.civl_goal_terms.specs.Others.{IsBeside, violated_beside}
-use Rattle.civl_goal_terms.specs.Places.{IsAt}
-use Rattle.civl_goal_terms.specs.Settings.{sorts_at}
-use Rattle.civl_goal_terms.specs.Sorted.{top_sorts}
-use Rattle.civl_goal_terms.specs.Told.{frame}
+use Rattle.civl_goal_terms.specs.inner.Given.{top_count, chosen_from, behind_chosen, here_from}
+use Rattle.civl_goal_terms.specs.inner.Others.{IsBeside, violated_beside}
+use Rattle.civl_goal_terms.specs.inner.Places.{IsAt}
+use Rattle.civl_goal_terms.specs.inner.Settings.{sorts_at}
+use Rattle.civl_goal_terms.specs.inner.Sorted.{top_sorts}
+use Rattle.civl_goal_terms.specs.inner.Told.{frame}
 use Rattle.civl_goal_terms.proofs.Sorting.{names_are}
 use Rattle.civl_goal_terms.proofs.Choosing.{form_few}
 use Rattle.civl_goal_terms.proofs.Standing.{counted, choices_there}

@@ -29,7 +29,7 @@ use Rattle.civl_states.specs.Notes.{HasType}
 use Rattle.civl_goals.specs.Outlines.{exists_on_top, stands_before, written_before}
 use Rattle.civl_goals.specs.Listed.{is_root}
 use Rattle.civl_goals.specs.Rules.{says_of, hold_scope, outline_scope, root_at, stands_in, note_fits, misplaced, unfit_holds, unfit}
-use Rattle.civl_goal_terms.specs.Outlined.{IsOutlined}
+use Rattle.civl_goal_terms.specs.inner.Outlined.{IsOutlined}
 use Rattle.civl_goal_terms.proofs.Scoping.{sort_alike, widths_alike, globals_larger, names_larger}
 
 -- ---- an expression that says something of a place

@@ -24,7 +24,7 @@ use Rattle.civl_meaning.specs.Remaining.{rest_of}
 use Rattle.civl_body.proofs.Forms.{if_size, is_if}
 use Rattle.civl_goals.specs.Listed.{is_root}
 use Rattle.civl_goals.proofs.Plain.{roots_are_plain}
-use Rattle.civl_goal_terms.specs.There.{HasStatement}
+use Rattle.civl_goal_terms.specs.inner.There.{HasStatement}
 
 -- ---- procedures
 

@@ -20,7 +20,7 @@ use Rattle.civl_goals.specs.declared.goal.Goal.TheVariants as goal
 use Rattle.civl_goals.specs.Outlines.{top_globals}
 use Rattle.civl_goals.specs.Variables.{of_names, of_frame, choices_at, of_statement, variables}
 use Rattle.civl_goal_terms.specs.Formulas.{sorts_of}
-use Rattle.civl_goal_terms.specs.Sorted.{top_sorts, sorts_in_frame, choices_in, chosen_sorts, statement_sorts, grouped_sorts}
+use Rattle.civl_goal_terms.specs.inner.Sorted.{top_sorts, sorts_in_frame, choices_in, chosen_sorts, statement_sorts, grouped_sorts}
 
 -- nothing stands where there is no procedure with this number
 pub chosen_none : (program : Program) (s : ℕ) (list : List Sort) (shown : List Proc) (r : ℕ) → shown ≡ program.procs → length shown ≤ r → list ≡ list ++ chosen_sorts program r s

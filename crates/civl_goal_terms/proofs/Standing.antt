@@ -43,15 +43,15 @@ use Rattle.civl_goals.specs.Failed.{assumed, does, store_in, frame_of, behind_fr
 use Rattle.civl_goals.specs.Weights.{invariant_weight, note_before_weight, form_weight, items_at, statement_weight, own_weight, weight}
 use Rattle.civl_goals.specs.Variables.{variables}
 use Rattle.civl_goal_terms.specs.declared.places.At.{At}
-use Rattle.civl_goal_terms.specs.Places.{IsAt}
+use Rattle.civl_goal_terms.specs.inner.Places.{IsAt}
 use Rattle.civl_goal_terms.specs.declared.settings.Setting.{Setting}
-use Rattle.civl_goal_terms.specs.Settings.{Here, sorts_at, frame_at, CanStand, SaysHere}
+use Rattle.civl_goal_terms.specs.inner.Settings.{Here, sorts_at, frame_at, CanStand, SaysHere}
 use Rattle.civl_firing.specs.values.Values.{is_sort}
 use Rattle.std.proofs.lemmas.List.Elements.{All-nil}
 use Rattle.civl_goal_terms.specs.Formulas.{sorts_of}
-use Rattle.civl_goal_terms.specs.Sorted.{top_sorts, sorts_in_frame, statement_sorts}
-use Rattle.civl_goal_terms.specs.Given.{top_count, chosen_from, behind_chosen, here_from}
-use Rattle.civl_goal_terms.specs.Fails.{violated_at}
+use Rattle.civl_goal_terms.specs.inner.Sorted.{top_sorts, sorts_in_frame, statement_sorts}
+use Rattle.civl_goal_terms.specs.inner.Given.{top_count, chosen_from, behind_chosen, here_from}
+use Rattle.civl_goal_terms.specs.inner.Fails.{violated_at}
 use Rattle.civl_goal_terms.proofs.Choosing.{form_few}
 
 -- ---- how many

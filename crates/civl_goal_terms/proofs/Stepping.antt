@@ -38,8 +38,8 @@ use Rattle.civl_body.specs.Passing.{course_in}
 use Rattle.civl_body.proofs.Calling.{does_is}
 use Rattle.civl_goal_terms.specs.declared.places.At.{At}
 use Rattle.civl_goal_terms.specs.declared.settings.Setting.{Setting}
-use Rattle.civl_goal_terms.specs.Settings.{Here, CanStand, SaysHere}
-use Rattle.civl_goal_terms.specs.Steps.{begun, moved, moved_at, SaysSwept}
+use Rattle.civl_goal_terms.specs.inner.Settings.{Here, CanStand, SaysHere}
+use Rattle.civl_goal_terms.specs.inner.Steps.{begun, moved, moved_at, SaysSwept}
 
 -- ---- before the statement
 

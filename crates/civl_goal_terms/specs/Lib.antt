@@ -1,12 +1,2 @@
 pub mod Formulas
-pub mod Sorted
-pub mod Outlined
-pub mod There
-pub mod Places
-pub mod Told
-pub mod Settings
-pub mod Steps
-pub mod Frames
-pub mod Fails
-pub mod Given
-pub mod Others
+pub mod inner

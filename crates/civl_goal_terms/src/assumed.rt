@@ -12,9 +12,9 @@ ghost use Rattle.civl_conditions.specs.Weights.{lin, linear_globals};
 ghost use Rattle.civl_goals.specs.Outlines.{invariant_holds, note_holds};
 ghost use Rattle.civl_goals.specs.Failed.{held_before, assumed};
 ghost use Rattle.civl_goals.specs.Weights.{invariant_weight, note_before_weight};
-ghost use Rattle.civl_goal_terms.specs.Outlined.{IsOutlined};
-ghost use Rattle.civl_goal_terms.specs.Places.{IsAt};
-ghost use Rattle.civl_goal_terms.specs.Settings.{CanStand, TellsHere, frame_at};
+ghost use Rattle.civl_goal_terms.specs.inner.Outlined.{IsOutlined};
+ghost use Rattle.civl_goal_terms.specs.inner.Places.{IsAt};
+ghost use Rattle.civl_goal_terms.specs.inner.Settings.{CanStand, TellsHere, frame_at};
 
 use crate::apart::{push_held, words_apart};
 use crate::holds::holds_at;

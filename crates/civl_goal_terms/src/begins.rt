@@ -7,7 +7,7 @@ ghost use Rattle.civl_layers.specs.Layered.{IsLayered};
 ghost use Rattle.civl_terms.specs.Graphs.{sort_at};
 ghost use Rattle.civl_terms.specs.Building.{Grows, Lengthens};
 ghost use Rattle.civl_terms.specs.Weights.{graph_weight};
-ghost use Rattle.civl_conditions.specs.Invariants.{is_initial};
+ghost use Rattle.civl_conditions.specs.Invariants.{meets_init};
 ghost use Rattle.civl_conditions.specs.Weights.{initial_own};
 ghost use Rattle.civl_states.specs.formula_parts.Given.{AreVariablesOf};
 ghost use Rattle.civl_states.specs.Stores.{AreGlobals};
@@ -17,8 +17,8 @@ ghost use Rattle.civl_goals.specs.Outlines.{invariant_holds};
 ghost use Rattle.civl_goals.specs.Failed.{thread_fails};
 ghost use Rattle.civl_goals.specs.Weights.{invariant_weight, first_note_weight, weight};
 ghost use Rattle.civl_goal_terms.specs.Formulas.{sorts_of, IsViolation};
-ghost use Rattle.civl_goal_terms.specs.Outlined.{IsOutlined};
-ghost use Rattle.civl_goal_terms.specs.Told.{TellsStore};
+ghost use Rattle.civl_goal_terms.specs.inner.Outlined.{IsOutlined};
+ghost use Rattle.civl_goal_terms.specs.inner.Told.{TellsStore};
 
 use crate::frames::begins_astray;
 use crate::holds::holds_at;
@@ -42,7 +42,7 @@ fn invariant_at(
     requires layered { IsLayered program.now }
     requires outlined { IsOutlined program.now outline.now }
     requires globals { AreGlobals terms.old program.now globals.now }
-    ensures tells { IfOk result (λ id. TellsStore terms.old terms.new program.now globals.now (λ g. is_initial program.now g && not (invariant_holds program.now outline.now g)) id) }
+    ensures tells { IfOk result (λ id. TellsStore terms.old terms.new program.now globals.now (λ g. meets_init program.now g && not (invariant_holds program.now outline.now g)) id) }
     ensures sorted { IfOk result (λ id. sort_at terms.new id ≡ Some Truth) }
     ensures weighs { OnOk result (graph_weight terms.new ≤ graph_weight terms.old + 4 * initial_own program.now + 2 * invariant_weight program.now outline.now + 3) }
     ensures grows { Grows terms.old terms.new }
@@ -124,7 +124,7 @@ fn thread_at(
     requires outlined { IsOutlined program.now outline.now }
     requires number { number < length program.now.threads }
     requires globals { AreGlobals terms.old program.now globals.now }
-    ensures tells { IfOk result (λ id. (t : Declared) → slice_get program.now.threads number ≡ Some t → TellsStore terms.old terms.new program.now globals.now (λ g. is_initial program.now g && thread_fails program.now outline.now g t) id) }
+    ensures tells { IfOk result (λ id. (t : Declared) → slice_get program.now.threads number ≡ Some t → TellsStore terms.old terms.new program.now globals.now (λ g. meets_init program.now g && thread_fails program.now outline.now g t) id) }
     ensures sorted { IfOk result (λ id. sort_at terms.new id ≡ Some Truth) }
     ensures weighs { OnOk result ((t : Declared) → slice_get program.now.threads number ≡ Some t → graph_weight terms.new ≤ graph_weight terms.old + 4 * initial_own program.now + first_note_weight program.now outline.now (proc_number program.now t.callee) + 3) }
     ensures grows { Grows terms.old terms.new }

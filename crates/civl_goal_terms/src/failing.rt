@@ -11,12 +11,12 @@ ghost use Rattle.civl_states.specs.formula_parts.Said.{Env, IsTest};
 ghost use Rattle.civl_goals.specs.Failed.{loses_invariant, begins_badly, leads_astray};
 ghost use Rattle.civl_goals.specs.Outlines.{note_holds};
 ghost use Rattle.civl_goals.specs.Weights.{invariant_weight, note_before_weight, form_weight, form_begins, form_reaches, once, summed_at};
-ghost use Rattle.civl_goal_terms.specs.Outlined.{IsOutlined};
-ghost use Rattle.civl_goal_terms.specs.Places.{IsAt, fork_in};
-ghost use Rattle.civl_goal_terms.specs.Settings.{Here, CanStand, SaysHere, TellsHere, done_by};
-ghost use Rattle.civl_goal_terms.specs.Told.{frame};
-ghost use Rattle.civl_goal_terms.specs.Fails.{is_unsafe};
-ghost use Rattle.civl_goal_terms.specs.There.{IsCall, IsSpawn};
+ghost use Rattle.civl_goal_terms.specs.inner.Outlined.{IsOutlined};
+ghost use Rattle.civl_goal_terms.specs.inner.Places.{IsAt, fork_in};
+ghost use Rattle.civl_goal_terms.specs.inner.Settings.{Here, CanStand, SaysHere, TellsHere, done_by};
+ghost use Rattle.civl_goal_terms.specs.inner.Told.{frame};
+ghost use Rattle.civl_goal_terms.specs.inner.Fails.{is_unsafe};
+ghost use Rattle.civl_goal_terms.specs.inner.There.{IsCall, IsSpawn};
 
 use crate::frames::begins_astray;
 use crate::holds::holds_at;

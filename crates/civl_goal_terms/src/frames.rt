@@ -22,8 +22,8 @@ ghost use Rattle.civl_states.specs.Stores.{AreGlobals, AreStore};
 ghost use Rattle.civl_states.specs.Laying.{inner_sorts};
 ghost use Rattle.civl_goals.specs.Outlines.{note_holds};
 ghost use Rattle.civl_goals.specs.Weights.{first_note_weight};
-ghost use Rattle.civl_goal_terms.specs.Outlined.{IsOutlined};
-ghost use Rattle.civl_goal_terms.specs.Frames.{named_sorts, begins_astray};
+ghost use Rattle.civl_goal_terms.specs.inner.Outlined.{IsOutlined};
+ghost use Rattle.civl_goal_terms.specs.inner.Frames.{named_sorts, begins_astray};
 
 use crate::notes::note_at;
 use civl_bits::Value;

@@ -6,8 +6,8 @@ ghost use Rattle.civl_terms.specs.Building.{Grows};
 ghost use Rattle.civl_terms.specs.Weights.{graph_weight};
 ghost use Rattle.civl_states.specs.Stores.{AreGlobals};
 ghost use Rattle.civl_goals.specs.Weights.{invariant_weight};
-ghost use Rattle.civl_goal_terms.specs.Outlined.{IsOutlined};
-ghost use Rattle.civl_goal_terms.specs.Told.{TellsHolds};
+ghost use Rattle.civl_goal_terms.specs.inner.Outlined.{IsOutlined};
+ghost use Rattle.civl_goal_terms.specs.inner.Told.{TellsHolds};
 
 use civl_bits::Value;
 use civl_outlines::Outline;

@@ -12,8 +12,8 @@ ghost use Rattle.civl_actions.specs.Scopes.{AreOf};
 ghost use Rattle.civl_states.specs.Stores.{AreGlobals};
 ghost use Rattle.civl_goals.specs.Outlines.{written_before};
 ghost use Rattle.civl_goals.specs.Weights.{note_before_weight};
-ghost use Rattle.civl_goal_terms.specs.Outlined.{IsOutlined};
-ghost use Rattle.civl_goal_terms.specs.Told.{TellsNote};
+ghost use Rattle.civl_goal_terms.specs.inner.Outlined.{IsOutlined};
+ghost use Rattle.civl_goal_terms.specs.inner.Told.{TellsNote};
 
 use civl_bits::Value;
 use civl_moves::note_term;

@@ -19,11 +19,11 @@ ghost use Rattle.civl_goals.specs.Outlines.{invariant_holds, note_holds};
 ghost use Rattle.civl_goals.specs.Failed.{held_before};
 ghost use Rattle.civl_goals.specs.Weights.{invariant_weight, note_before_weight, form_weight, weight};
 ghost use Rattle.civl_goal_terms.specs.Formulas.{sorts_of, IsViolation};
-ghost use Rattle.civl_goal_terms.specs.Outlined.{IsOutlined};
-ghost use Rattle.civl_goal_terms.specs.There.{IsCall, IsThere};
-ghost use Rattle.civl_goal_terms.specs.Places.{IsAt};
-ghost use Rattle.civl_goal_terms.specs.Settings.{CanStand, frame_at, done_by};
-ghost use Rattle.civl_goal_terms.specs.Others.{IsBeside, TellsBeside, other_frame, loses_note, violated_beside};
+ghost use Rattle.civl_goal_terms.specs.inner.Outlined.{IsOutlined};
+ghost use Rattle.civl_goal_terms.specs.inner.There.{IsCall, IsThere};
+ghost use Rattle.civl_goal_terms.specs.inner.Places.{IsAt};
+ghost use Rattle.civl_goal_terms.specs.inner.Settings.{CanStand, frame_at, done_by};
+ghost use Rattle.civl_goal_terms.specs.inner.Others.{IsBeside, TellsBeside, other_frame, loses_note, violated_beside};
 
 use crate::apart::{push_held, words_apart};
 use crate::assumed::{held_at, said_at};

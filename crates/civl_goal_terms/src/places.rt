@@ -8,8 +8,8 @@ ghost use Rattle.civl_meaning.specs.Rest.{place_in};
 ghost use Rattle.civl_layers.specs.Layered.{IsLayered};
 ghost use Rattle.civl_yields.specs.YieldRules.{yield_rules};
 ghost use Rattle.civl_meaning.specs.Remaining.{rest_of};
-ghost use Rattle.civl_goal_terms.specs.Places.{IsAt, fork_in, told};
-ghost use Rattle.civl_goal_terms.specs.There.{HasStatement};
+ghost use Rattle.civl_goal_terms.specs.inner.Places.{IsAt, fork_in, told};
+ghost use Rattle.civl_goal_terms.specs.inner.There.{HasStatement};
 
 use civl_body::sizes::sizes;
 use civl_meaning::remaining::{Numbered, push_among};

@@ -8,7 +8,7 @@ ghost use Rattle.civl_meaning.specs.Meaning.{called};
 ghost use Rattle.civl_conditions.specs.footprints.Agreement.{exists_at};
 ghost use Rattle.civl_conditions.specs.Variables.{choices_of, layer_choices};
 ghost use Rattle.civl_goal_terms.specs.Formulas.{sorts_of};
-ghost use Rattle.civl_goal_terms.specs.Sorted.{top_sorts, sorts_in_frame, choices_in, chosen_sorts, statement_sorts, grouped_sorts};
+ghost use Rattle.civl_goal_terms.specs.inner.Sorted.{top_sorts, sorts_in_frame, choices_in, chosen_sorts, statement_sorts, grouped_sorts};
 
 use civl_conditions::{action_called, exists_at};
 use civl_goals::Goal;

@@ -17,13 +17,13 @@ ghost use Rattle.civl_states.specs.formula_parts.Given.{bits_of_sorts, AreVariab
 ghost use Rattle.civl_goals.specs.Failed.{held_before};
 ghost use Rattle.civl_goals.specs.Weights.{invariant_weight, note_before_weight, form_weight, weight};
 ghost use Rattle.civl_goal_terms.specs.Formulas.{sorts_of, IsViolation};
-ghost use Rattle.civl_goal_terms.specs.Outlined.{IsOutlined};
-ghost use Rattle.civl_goal_terms.specs.Places.{IsAt};
-ghost use Rattle.civl_goal_terms.specs.Sorted.{top_sorts};
-ghost use Rattle.civl_goal_terms.specs.Settings.{CanStand, SaysHere, TellsHere, sorts_at, done_by};
-ghost use Rattle.civl_goal_terms.specs.Fails.{fails_of, violated_at, IsOwn, IsOwnOf, named_weight};
-ghost use Rattle.civl_goal_terms.specs.Given.{here_from};
-ghost use Rattle.civl_goal_terms.specs.There.{IsThere};
+ghost use Rattle.civl_goal_terms.specs.inner.Outlined.{IsOutlined};
+ghost use Rattle.civl_goal_terms.specs.inner.Places.{IsAt};
+ghost use Rattle.civl_goal_terms.specs.inner.Sorted.{top_sorts};
+ghost use Rattle.civl_goal_terms.specs.inner.Settings.{CanStand, SaysHere, TellsHere, sorts_at, done_by};
+ghost use Rattle.civl_goal_terms.specs.inner.Fails.{fails_of, violated_at, IsOwn, IsOwnOf, named_weight};
+ghost use Rattle.civl_goal_terms.specs.inner.Given.{here_from};
+ghost use Rattle.civl_goal_terms.specs.inner.There.{IsThere};
 
 use crate::assumed::{assumed_at, held_at};
 use crate::failing::{begins_at, leads_at, loses_at, unsafe_at};

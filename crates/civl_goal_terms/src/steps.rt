@@ -21,9 +21,9 @@ ghost use Rattle.civl_states.specs.formula_parts.Lists.{AreSaid};
 ghost use Rattle.civl_moves.specs.States.{CanSweep, Moves, swept_at};
 ghost use Rattle.civl_body.specs.Passing.{StandsCall, course_in};
 ghost use Rattle.civl_goals.specs.Weights.{form_weight};
-ghost use Rattle.civl_goal_terms.specs.Places.{IsAt};
-ghost use Rattle.civl_goal_terms.specs.Settings.{Here, CanStand, SaysHere, sorts_at};
-ghost use Rattle.civl_goal_terms.specs.Steps.{begun, moved_at, swept_by, SaysSwept};
+ghost use Rattle.civl_goal_terms.specs.inner.Places.{IsAt};
+ghost use Rattle.civl_goal_terms.specs.inner.Settings.{Here, CanStand, SaysHere, sorts_at};
+ghost use Rattle.civl_goal_terms.specs.inner.Steps.{begun, moved_at, swept_by, SaysSwept};
 
 use crate::places::At;
 use crate::settings::Setting;

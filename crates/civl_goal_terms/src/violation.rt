@@ -12,7 +12,7 @@ ghost use Rattle.civl_goals.specs.Listed.{goals};
 ghost use Rattle.civl_goals.specs.Rules.{unfit};
 ghost use Rattle.civl_goals.specs.Weights.{weight};
 ghost use Rattle.civl_goal_terms.specs.Formulas.{sorts_of, IsViolation};
-ghost use Rattle.civl_goal_terms.specs.There.{IsThere};
+ghost use Rattle.civl_goal_terms.specs.inner.There.{IsThere};
 
 use crate::begins::{invariant_fails, thread_begins_astray};
 use crate::others::other_fails;

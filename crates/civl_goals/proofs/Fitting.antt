@@ -16,7 +16,7 @@ use Rattle.civl_tree.specs.rules.Exprs.{names_known, known_step, widths_fit, ind
 use Rattle.civl_types.proofs.Widths.{width_layer, widths_is}
 use Rattle.civl_yields.specs.Places.{stray, stray_step, no_leave}
 use Rattle.civl_goals.specs.Rules.{says_of}
-use Rattle.civl_goals.specs.Sayings.{fitting_sort, fitting_step}
+use Rattle.civl_goals.specs.inner.Sayings.{fitting_sort, fitting_step}
 
 -- ---- tests
 

@@ -18,15 +18,15 @@ use Rattle.civl_meaning.specs.Permissions.{pairwise_disjoint}
 use Rattle.civl_meaning.specs.Meaning.{proc_number}
 use Rattle.civl_meaning.specs.Config.{moved_frame}
 use Rattle.civl_meaning.specs.Layers.{topmost}
-use Rattle.civl_meaning.specs.Change.{new_frame, proc_change}
-use Rattle.civl_meaning.specs.Failing.{proc_fails}
+use Rattle.civl_meaning.specs.Change.{new_frame, done_by, proc_doing}
+use Rattle.civl_meaning.specs.Failing.{fails_at}
 use Rattle.civl_linear.specs.Cuts.{held_numbers}
 use Rattle.civl_linear.specs.Held.{traced_proc}
 use Rattle.civl_conditions.specs.declared.condition.Condition.TheVariants.{Keep as KeepsPermissions}
 use Rattle.civl_conditions.specs.Steps.{of_proc}
 use Rattle.civl_conditions.specs.Values.{part, store_of, count_of}
 use Rattle.civl_conditions.specs.Permissions.{in_store, of_held}
-use Rattle.civl_conditions.specs.Invariants.{is_initial}
+use Rattle.civl_conditions.specs.Invariants.{meets_init}
 use Rattle.civl_conditions.specs.Movers.{on_some}
 use Rattle.civl_conditions.specs.Violated.{violated}
 use Rattle.civl_goals.specs.declared.goal.Goal.{Goal}
@@ -58,7 +58,7 @@ beside program outline g frame other =
 -- ---- what the frame's statement does in the topmost program, with these values for the choices
 
 abbrev pub does : Program → Store → Activation → List Value → Change
-does program g frame chosen = proc_change (topmost program) g chosen None frame (slice_get program.procs frame.procedure)
+does program g frame chosen = done_by (topmost program) g chosen (proc_doing (topmost program) None frame (slice_get program.procs frame.procedure))
 
 -- the store behind an action that fired
 abbrev pub fired_store : Change → Option Store
@@ -138,13 +138,13 @@ thread_fails program outline g thread = on_some (thread_frame program g thread) 
 unfoldable pub failed : Program → Outline → Goal → List Value → Bool
 failed program outline goal.Invariant values =
     let g : Store = record { values = values } in
-    is_initial program g && not (invariant_holds program outline g)
+    meets_init program g && not (invariant_holds program outline g)
 failed program outline (goal.Thread i) values =
     let g : Store = record { values = values } in
-    is_initial program g && option_map_or (thread_fails program outline g) (slice_get program.threads i) false
+    meets_init program g && option_map_or (thread_fails program outline g) (slice_get program.threads i) false
 failed program outline (goal.Linear x) values = violated program (KeepsPermissions (program.layers + 1) x) values
 failed program outline (goal.Safe r s) values =
-    step_fails program outline values r s (λ g frame change. proc_fails (topmost program) g frame (slice_get program.procs r))
+    step_fails program outline values r s (λ g frame change. fails_at (topmost program) g (proc_doing (topmost program) None frame (slice_get program.procs r)))
 failed program outline (goal.Keep r s) values = step_fails program outline values r s (loses_invariant program outline)
 failed program outline (goal.Spawn r s) values = step_fails program outline values r s (begins_badly program outline)
 failed program outline (goal.Next r s) values = step_fails program outline values r s (leads_astray program outline)

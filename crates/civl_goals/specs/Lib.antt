@@ -5,8 +5,8 @@ pub mod Listed
 pub mod Names
 pub mod Rules
 pub mod Weights
-pub mod Sayings
 pub mod Told
 pub mod Spots
 pub mod examples
 pub mod GoalHolds
+pub mod inner

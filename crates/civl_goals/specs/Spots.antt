@@ -1,4 +1,4 @@
--- The places of notes; and sets of them, which serve private functions.
+-- The places of notes, and sets of them; `spot_of` is cited by public calls.
 use Rattle.std.specs.Prelude.{Bool, ◌&&◌, nat_eq, if◌then◌else◌, List, [], ◌∷◌, ◌++◌}
 use Rattle.std.specs.List.{list_any}
 use Rattle.civl_outlines.specs.declared.outline.Note.{Note}

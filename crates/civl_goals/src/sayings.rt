@@ -5,7 +5,7 @@ ghost use Rattle.civl_tree.specs.rules.Sorts.{is_truth};
 ghost use Rattle.civl_tree.specs.rules.Exprs.{literal_fits, is_index};
 ghost use Rattle.civl_goals.specs.Outlines.{exists_on_top, top_globals};
 ghost use Rattle.civl_goals.specs.Rules.{says_of};
-ghost use Rattle.civl_goals.specs.Sayings.{scope_of, fitting_sort};
+ghost use Rattle.civl_goals.specs.inner.Sayings.{scope_of, fitting_sort};
 
 use civl_tree::{Expr, Global, Name, Proc, Program, Sort};
 use civl_types::names::same_name;

@@ -6,7 +6,7 @@ use Rattle.civl_tree.specs.Numbering.{statements_of}
 use Rattle.civl_tree.specs.rules.Rules.{numbers_where}
 use Rattle.civl_layers.specs.declared.rule.LayerRule.{LayerRule}
 use Rattle.civl_layers.specs.declared.rule.LayerRule.TheVariants.{Range, Hidden, NotBelow, NotThere, Signature, Introduced}
-use Rattle.civl_layers.specs.Asked.{rule_of, stmt_breaks}
+use Rattle.civl_layers.specs.inner.Asked.{rule_of, stmt_breaks}
 use Rattle.civl_names.proofs.walks.Walking.{none_asked}
 
 pub statements_told : (rule : LayerRule) (program : Program) (place : ℕ) (proc : Proc) → numbers_where (stmt_breaks rule program (take place program.procs) proc) 0 (statements_of proc.body) ≡ (rule_of rule).statements program place proc

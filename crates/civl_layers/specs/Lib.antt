@@ -7,9 +7,8 @@ pub mod NotThere
 pub mod Introduced
 pub mod Layered
 pub mod LayerRules
-pub mod Spans
-pub mod Asked
 pub mod Movers
 pub mod Cuts
 pub mod CutCounts
 pub mod examples
+pub mod inner

@@ -4,7 +4,7 @@ ghost use Rattle.std.specs.List.{list_any};
 ghost use Rattle.civl_layers.specs.Names.{uses};
 ghost use Rattle.civl_tree.specs.declared.stmt.Stmt.{out-Stmt};
 ghost use Rattle.civl_layers.specs.Hidden.{action_hidden, invariant_hidden, with_hidden, form_hidden, stmt_hidden};
-ghost use Rattle.civl_layers.specs.Spans.{hidden_by};
+ghost use Rattle.civl_layers.specs.inner.Spans.{hidden_by};
 
 use crate::span::{Span, is_hidden, uses_hidden};
 use civl_tree::{Action, Choice, Expr, Invariant, Program, Refines, Stmt, Update};

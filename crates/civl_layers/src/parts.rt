@@ -1,5 +1,5 @@
 // Whether a part of a program breaks a rule.
-ghost use Rattle.civl_layers.specs.Asked.{rule_of, stmt_breaks};
+ghost use Rattle.civl_layers.specs.inner.Asked.{rule_of, stmt_breaks};
 
 use crate::below::call_or_spawn_not_below;
 use crate::hidden::{action_hidden, invariant_hidden, stmt_hidden, with_hidden};

@@ -2,7 +2,7 @@
 ghost use Rattle.std.specs.Prelude.{◌≡◌};
 ghost use Rattle.civl_layers.specs.Names.{uses};
 ghost use Rattle.civl_layers.specs.Hidden.{hidden_in_action, hidden_at_step};
-ghost use Rattle.civl_layers.specs.Spans.{hidden_by};
+ghost use Rattle.civl_layers.specs.inner.Spans.{hidden_by};
 
 use crate::names::global_named;
 use crate::ranges::{exists_around, exists_through};

@@ -11,7 +11,7 @@ use Rattle.std.proofs.lemmas.List.Sums.{take_while-cons}
 use Rattle.std.proofs.lemmas.List.Folds.{length-prefix_len}
 use Rattle.civl_tree.specs.Token.{Token, Named, Reserved, Sign, Number, text_of, IsToken, begins_name, is_name_byte, is_identifier, is_reserved, is_sign}
 use Rattle.civl_lex.specs.Lexical.{opens_digit, MayEnd, IsAtFront, IsLongest, NoneAtFront}
-use Rattle.civl_lex.specs.Front.{word_of, number_of, sign_of, front_token}
+use Rattle.civl_lex.specs.inner.Front.{word_of, number_of, sign_of, front_token}
 use Rattle.civl_lex.proofs.Runs.{first_passes, run_all, run_stops, run_covers, run_is}
 use Rattle.civl_lex.proofs.Numbers.{number_of-parts, number_of-decimal, decimal-number_of, decimal_digits}
 use Rattle.civl_lex.proofs.Spellings.{HasShape, has_shape, begins_sign, sign_parts, name_no_digit, digit_no_name}

@@ -5,7 +5,7 @@ use Rattle.std.specs.List.{after_first, starts_with, flat_map, AllByRecursion, p
 use Rattle.std.proofs.lemmas.Bool.{and_parts, or_parts, cond-true, cond-false, not_from_false, eqb-true, eq-eqb, and_from, false≢true}
 use Rattle.std.proofs.lemmas.List.{drop-drop, take_rest}
 use Rattle.std.proofs.Math.Bool.{and-false}
-use Rattle.civl_lex.specs.Front.{behind, behind_gap}
+use Rattle.civl_lex.specs.inner.Front.{behind, behind_gap}
 use Rattle.civl_lex.specs.Gap.{is_blank, is_one_line, Piece, Blank, Comment, IsPiece, piece_text, IsGap, IsOpenComment, IsLastGap, opens_comment, opens_gap}
 
 -- ---- what the code does

@@ -2,7 +2,7 @@
 use Rattle.std.proofs.Common.{◌≡◌, ◌≢◌, ℕ, ◌+◌, ◌-◌, ◌<◌, ◌≤◌, suc, zero, List, [], ◌∷◌, ◌++◌, length, drop, refl, sym, ap, subst, ◌∙◌, arith, Option, Some, None, Result, Ok, Err, inl, inr}
 use Rattle.std.proofs.lemmas.List.{length-append, length-drop, drop_at, drop-drop}
 use Rattle.civl_tree.specs.Token.{Token, text_of}
-use Rattle.civl_lex.specs.Front.{behind_gap, front_token}
+use Rattle.civl_lex.specs.inner.Front.{behind_gap, front_token}
 use Rattle.civl_lex.specs.Lexical.{IsLongest}
 use Rattle.civl_lex.specs.Text.{IsNext, Leads, IsFault, NoTokenAt, IsLexedAs}
 use Rattle.civl_lex.proofs.Fronts.{IsFront, front_right, text_within}

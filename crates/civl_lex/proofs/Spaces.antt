@@ -6,7 +6,7 @@ use Rattle.std.specs.Option.{option_map}
 use Rattle.std.proofs.lemmas.Bool.{and_parts, or_from, cond-true, cond-false, not-true, not_from_true, false≢true, false_from_ne_true}
 use Rattle.std.proofs.lemmas.List.{take_at}
 use Rattle.civl_tree.specs.Token.{Token, Named, Reserved, Sign, Number, text_of, IsToken, begins_name, is_name_byte, is_identifier, is_reserved, is_sign, signs}
-use Rattle.civl_lex.specs.Front.{word_of, number_of, sign_of, front_token}
+use Rattle.civl_lex.specs.inner.Front.{word_of, number_of, sign_of, front_token}
 use Rattle.civl_lex.specs.Gap.{is_blank}
 use Rattle.civl_lex.specs.Laws.{AreSpaced, spaced}
 use Rattle.civl_lex.specs.Lexical.{IsLongest}

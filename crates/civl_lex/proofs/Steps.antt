@@ -6,7 +6,7 @@ use Rattle.std.proofs.lemmas.List.{length-drop, length-map, drop-drop, drop_at, 
 use Rattle.std.proofs.lemmas.List.Elements.{All-push}
 use Rattle.civl_tree.specs.Token.{Token as Spelling, text_of}
 use Rattle.civl_lex.specs.declared.token.Token.{Token}
-use Rattle.civl_lex.specs.Front.{behind_gap, front_token, IsCut}
+use Rattle.civl_lex.specs.inner.Front.{behind_gap, front_token, IsCut}
 use Rattle.civl_lex.specs.Lexical.{IsLongest}
 use Rattle.civl_lex.specs.Spelled.{spelled, spelled_token, IsCutFrom, HaveStarts}
 use Rattle.civl_lex.specs.Text.{IsNext, Leads, HasTokens, Reaches, NoTokenAt, StartsAt}

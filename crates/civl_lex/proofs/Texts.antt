@@ -4,7 +4,7 @@ use Rattle.std.specs.Prelude.{nat_eq}
 use Rattle.std.proofs.lemmas.Bool.{or_from, and_left, cases_lt}
 use Rattle.std.proofs.lemmas.List.{append-nil, append_cancel_left, length-drop, nil_from_length}
 use Rattle.civl_tree.specs.Token.{Token, Named, Reserved, Sign, Number, text_of, IsToken}
-use Rattle.civl_lex.specs.Front.{behind_gap}
+use Rattle.civl_lex.specs.inner.Front.{behind_gap}
 use Rattle.civl_lex.specs.Gap.{is_blank, IsGap, IsLastGap, opens_comment, opens_gap}
 use Rattle.civl_lex.specs.Lexical.{IsAtFront, IsLongest}
 use Rattle.civl_lex.specs.Text.{IsNext, Leads, HasTokens, IsFault, NoTokenAt, StartsAt, IsLexedAs}

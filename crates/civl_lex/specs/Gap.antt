@@ -1,3 +1,4 @@
+-- Part of the claim: docs/CLAIM.md.
 -- What may stand between the tokens of a text: blanks and comments.
 use Rattle.std.specs.Prelude.{◌≡◌, ℕ, ◌||◌, ◌&&◌, ◌⊎◌, Bool, false, not, nat_eq, IsTrue, List, [], ◌∷◌, ◌++◌, codes}
 use Rattle.std.specs.List.{list_all, AllByRecursion, flat_map}

@@ -1,3 +1,4 @@
+-- Part of the claim: docs/CLAIM.md.
 -- Which tokens begin at the front of some bytes, and which of them is the longest: the rule of "maximal munch" (as in
 -- ISO C, 6.4, paragraph 4).
 use Rattle.std.specs.Prelude.{◌≡◌, ℕ, ◌≤◌, Bool, false, not, IsTrue, List, [], ◌∷◌, ◌++◌, length}

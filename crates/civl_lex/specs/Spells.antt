@@ -1,3 +1,4 @@
+-- Part of the claim: docs/CLAIM.md.
 -- What a text spells, where `spell` gives the tokens of a value, and `fits` says which values have a spelling.
 use Rattle.std.specs.Prelude.{◌≡◌, ℕ, List}
 use Rattle.civl_tree.specs.Token.{Token}

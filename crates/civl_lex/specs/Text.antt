@@ -1,3 +1,4 @@
+-- Part of the claim: docs/CLAIM.md.
 -- The tokens of a text: at each place outside blanks and comments the longest token that begins there is taken.
 use Rattle.std.specs.Prelude.{◌≡◌, ℕ, ◌≢◌, false, List, [], ◌∷◌, ◌++◌, length, drop, Result, Ok, Err}
 use Rattle.civl_tree.specs.Token.{Token, text_of}

@@ -1,7 +1,7 @@
 // Blanks and comments.
 ghost use Rattle.std.specs.Prelude.{◌≡◌, ◌≤◌, ◌==◌, length, drop};
 ghost use Rattle.std.specs.List.{after_first};
-ghost use Rattle.civl_lex.specs.Front.{behind_gap};
+ghost use Rattle.civl_lex.specs.inner.Front.{behind_gap};
 ghost use Rattle.civl_lex.specs.Gap.{is_blank};
 
 use crate::run::line_len;

@@ -2,7 +2,7 @@
 ghost use Rattle.std.specs.Prelude.{◌≡◌, ℕ, ◌+◌, ◌<◌, ◌≤◌, ◌⊎◌, length, drop, List, IfOk, IfSome, MatchResult, IsErrOf, All};
 ghost use Rattle.std.specs.Option.{option_map};
 ghost use Rattle.civl_tree.specs.Token.{Token as Spelling};
-ghost use Rattle.civl_lex.specs.Front.{front_token, IsCut};
+ghost use Rattle.civl_lex.specs.inner.Front.{front_token, IsCut};
 ghost use Rattle.civl_lex.specs.Spelled.{spelled_token, spelled, IsCutFrom, HaveStarts};
 ghost use Rattle.civl_lex.specs.Text.{HasTokens, NoTokenAt};
 

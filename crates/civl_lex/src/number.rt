@@ -4,7 +4,7 @@ ghost use Rattle.std.specs.Char.{is_ascii_digit};
 ghost use Rattle.std.specs.List.{take_while, prefix_len, list_all};
 ghost use Rattle.std.specs.Option.{option_map};
 ghost use Rattle.civl_tree.specs.Token.{Number};
-ghost use Rattle.civl_lex.specs.Front.{number_of, IsCut};
+ghost use Rattle.civl_lex.specs.inner.Front.{number_of, IsCut};
 ghost use Rattle.civl_lex.specs.Spelled.{spelled_token};
 
 use crate::run::digit_len;

@@ -2,7 +2,7 @@
 ghost use Rattle.std.specs.Prelude.{◌≡◌, ◌<◌, length, IfSome};
 ghost use Rattle.std.specs.Option.{option_map};
 ghost use Rattle.civl_tree.specs.Token.{is_sign};
-ghost use Rattle.civl_lex.specs.Front.{sign_of, IsCut};
+ghost use Rattle.civl_lex.specs.inner.Front.{sign_of, IsCut};
 ghost use Rattle.civl_lex.specs.Spelled.{spelled_token};
 
 use crate::table::is_among;

@@ -2,7 +2,7 @@
 ghost use Rattle.std.specs.Prelude.{◌≡◌};
 ghost use Rattle.std.specs.List.{list_all, take_while};
 ghost use Rattle.civl_tree.specs.Token.{is_name, is_name_byte, is_reserved, is_identifier};
-ghost use Rattle.civl_lex.specs.Front.{word_of, IsCut};
+ghost use Rattle.civl_lex.specs.inner.Front.{word_of, IsCut};
 ghost use Rattle.civl_lex.specs.Spelled.{spelled_token};
 
 use crate::run::{begins_name, is_name_byte, name_len};

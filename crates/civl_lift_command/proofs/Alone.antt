@@ -7,7 +7,7 @@ use Rattle.civl_verdicts.specs.declared.verdict.Verdict.{Verdict}
 use Rattle.civl_verdicts.specs.declared.verdict.Verdict.TheVariants as verdict
 use Rattle.civl_verdicts.specs.verdict_reports.Verdicts.{verdict_text}
 use Rattle.civl_frontend.specs.Report.{fault_text}
-use Rattle.civl_frontend.specs.Streams.{ReadState, WriteState}
+use Rattle.civl_frontend.specs.Call.{Call}
 use Rattle.civl_frontend.specs.declared.reader.Fault.{Fault}
 use Rattle.civl_frontend.specs.declared.reader.Fault.TheVariants.{NoToken, NotHere, Deep}
 use Rattle.civl_frontend.specs.declared.status.Status.{Status}
@@ -15,7 +15,7 @@ use Rattle.civl_frontend.specs.declared.status.Status.TheVariants.{Done, Rejecte
 use Rattle.civl_frontend.proofs.Streaming.{grown_by}
 use Rattle.civl_lift_command.specs.Outcome.{Outcome, TooLong, Unread, Broken, Heavy, Judged, Misfit, NotInitial, NotFailing, Lifted, Spent, status_of, report_of}
 use Rattle.civl_lift_command.specs.Judge.{JudgesInput, Fails, Explains}
-use Rattle.civl_lift_command.specs.Promises.{LiftsAlone}
+use Rattle.civl_lift_command.specs.Statuses.{LiftsAlone}
 
 -- a text begins with `lifted`
 abbrev Begins : List ℕ → Type 0
@@ -60,8 +60,8 @@ outcome_alone (NotFailing moved) h = absurd (refused_first _ h)
 outcome_alone (Lifted moves thread) h = refl
 outcome_alone (Spent step thread) h = absurd (spent_first _ h)
 
-module _ (words : List (List ℕ)) (before after : ReadState) (sink sink_after : WriteState) where
-  failed_alone : (status : Status) (report : List ℕ) → Fails words before after status report → Begins report → ⊥
+module _ (call : Call) where
+  failed_alone : (status : Status) (report : List ℕ) → Fails call.words call.source call.source_after status report → Begins report → ⊥
   failed_alone Done report f h = f
   failed_alone Rejected report f h = f
   failed_alone Undecided report f h = f
@@ -71,12 +71,12 @@ module _ (words : List (List ℕ)) (before after : ReadState) (sink sink_after :
   failed_alone Usage report f h = usual_first _ (subst Begins f.2 h)
   failed_alone Memory report f h = nothing_first (subst Begins f.1 h)
 
-  judged_alone : (status : Status) (report : List ℕ) → JudgesInput words before after status report → Begins report → status ≡ Done
+  judged_alone : (status : Status) (report : List ℕ) → JudgesInput call.words call.source call.source_after status report → Begins report → status ≡ Done
   judged_alone status report h begins = h.status_is ∙ sym (outcome_alone h.outcome (subst Begins h.report_is begins))
 
-  pub alone_by : (status : Status) → Explains words before after sink sink_after status → LiftsAlone sink sink_after status
-  alone_by status (inl (report, inl h, grown)) taken rest was is =
-      inl (judged_alone status report h (rest, grown_by sink sink_after taken report (codes "lifted" ++ rest) grown was is))
-  alone_by status (inl (report, inr f, grown)) taken rest was is =
-      absurd (failed_alone status report f (rest, grown_by sink sink_after taken report (codes "lifted" ++ rest) grown was is))
-  alone_by status (inr h) taken rest was is = inr h.0
+  pub alone_by : Explains call → LiftsAlone call
+  alone_by (inl (report, inl h, grown)) taken rest was is =
+      inl (judged_alone call.status report h (rest, grown_by call.sink call.sink_after taken report (codes "lifted" ++ rest) grown was is))
+  alone_by (inl (report, inr f, grown)) taken rest was is =
+      absurd (failed_alone call.status report f (rest, grown_by call.sink call.sink_after taken report (codes "lifted" ++ rest) grown was is))
+  alone_by (inr h) taken rest was is = inr h.0

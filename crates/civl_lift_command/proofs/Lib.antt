@@ -8,3 +8,4 @@ pub mod Agreeing
 pub mod Alone
 pub mod Judging
 pub mod Promising
+pub mod Promised

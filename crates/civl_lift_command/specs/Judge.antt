@@ -1,6 +1,7 @@
 -- What each status says of the words, of the input and of what was written.
 use Rattle.std.specs.Prelude.{◌≡◌, ℕ, ◌⊎◌, List}
-use Rattle.civl_frontend.specs.Streams.{ReadState, WriteState, IsReported}
+use Rattle.civl_frontend.specs.Streams.{ReadState, IsReported}
+use Rattle.civl_frontend.specs.Call.{Call}
 use Rattle.civl_frontend.specs.Texts.{limit}
 use Rattle.civl_frontend.specs.Told.{Reads as ReadsOf, Fails as FailsOf}
 use Rattle.civl_frontend.specs.declared.status.Status.{Status}
@@ -30,5 +31,6 @@ abbrev pub Judges : List (List ℕ) → ReadState → ReadState → Status → L
 Judges words before after status report = JudgesInput words before after status report ⊎ Fails words before after status report
 
 -- the report of the status was written whole; or the status is WriteFault, and the report of another was cut short
-abbrev pub Explains : List (List ℕ) → ReadState → ReadState → WriteState → WriteState → Status → Type 0
-Explains words before after sink sink_after status = IsReported (Judges words before after) sink sink_after status
+abbrev pub Explains : Call → Type 0
+Explains call =
+    IsReported (Judges call.words call.source call.source_after) call.sink call.sink_after call.status

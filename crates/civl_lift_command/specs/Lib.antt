@@ -4,4 +4,6 @@ pub mod Lifting
 pub mod Outcome
 pub mod Alike
 pub mod Judge
+pub mod Statuses
 pub mod Promises
+pub mod Laws

@@ -4,7 +4,7 @@ ghost use Rattle.civl_bits.specs.declared.value.Value.{Value};
 ghost use Rattle.civl_meaning.specs.Meaning.{proc_number};
 ghost use Rattle.civl_meaning.specs.Permissions.{of_params};
 ghost use Rattle.civl_meaning.specs.Initial.{of_args, of_thread, initial_permissions};
-ghost use Rattle.civl_conditions.specs.Invariants.{is_initial};
+ghost use Rattle.civl_conditions.specs.Invariants.{meets_init};
 
 use crate::permissions::{are_apart, push_globals, push_params};
 use civl_firing::Store;
@@ -71,7 +71,7 @@ fn permissions(alloc: Global, program: &Program, store: &Store) -> Result<Vec<Li
 ///
 /// For want of memory.
 pub(crate) fn is_initial(alloc: Global, program: &Program, store: &Store) -> Result<bool, Memory>
-    ensures { IfOk result (λ is. is ≡ is_initial program.now store.now) }
+    ensures { IfOk result (λ is. is ≡ meets_init program.now store.now) }
 {
     if !holds(&at_start(program.globals.as_slice(), store), &program.init) {
         return Ok(false);

@@ -4,12 +4,14 @@
 //! store, which is initial, to a failing configuration, they are lifted to moves of its topmost program that do so there
 //! ([`lift_command`], over `lift` of `civl_lifting`).
 //!
-//! What may be found stands in specs/ (`Outcome`, `Lifting`), and what each status says in `Judge` and `Promises`.
+//! What may be found stands in specs/ (`Outcome`, `Lifting`), what each status says in `Judge` and `Statuses`, and what a call promises in
+//! `Promises`.
 #![tactic(auto)]
 
 mod initial;
 mod judge;
 mod judged;
+pub mod laws;
 mod permissions;
 mod report;
 mod schedule;

@@ -3,7 +3,7 @@ ghost use Rattle.std.specs.Prelude.{◌≡◌, ◌⊎◌, map, string_bytes};
 ghost use Rattle.civl_frontend.specs.Streams.{reading, writing};
 ghost use Rattle.civl_lift_command.specs.Words.{AskToLiftSome};
 ghost use Rattle.civl_lift_command.specs.Judge.{Explains};
-ghost use Rattle.civl_lift_command.specs.Promises.{LiftsRightly, LiftsAlone, RejectsRightly, LeavesOpenRightly, RefusesRightly, IsComplete};
+ghost use Rattle.civl_lift_command.specs.Promises.{Promises};
 
 use crate::judge::judge;
 use civl_frontend::Status;
@@ -18,12 +18,14 @@ fn respond<S: Source, K: Sink>(
     source: &mut S,
     sink: &mut K,
 ) -> Status
-    ensures explains { Explains (map string_bytes words.now.items)
-        (reading (S.left source.old) (S.faults source.old))
-        (reading (S.left source.new) (S.faults source.new))
-        (writing (K.written sink.old) (K.faults sink.old) (K.stalls sink.old))
-        (writing (K.written sink.new) (K.faults sink.new) (K.stalls sink.new))
-        result }
+    ensures explains { Explains (record {
+      words = map string_bytes words.now.items;
+      source = reading (S.left source.old) (S.faults source.old);
+      source_after = reading (S.left source.new) (S.faults source.new);
+      sink = writing (K.written sink.old) (K.faults sink.old) (K.stalls sink.old);
+      sink_after = writing (K.written sink.new) (K.faults sink.new) (K.stalls sink.new);
+      status = result;
+    }) }
     ensures unread { (AskToLiftSome (map string_bytes words.now.items) → ⊥) → source.new ≡ source.old }
     ensures unwritten { (result ≡ Status.ReadFault) ⊎ (result ≡ Status.Memory) → sink.new ≡ sink.old }
 {
@@ -64,57 +66,23 @@ pub fn lift_command<S: Source, K: Sink>(
     source: &mut S,
     sink: &mut K,
 ) -> Status
-    // What each status says of the words, of what was read and of what was written.
-    ensures explains { Explains (map string_bytes words.now.items)
-        (reading (S.left source.old) (S.faults source.old))
-        (reading (S.left source.new) (S.faults source.new))
-        (writing (K.written sink.old) (K.faults sink.old) (K.stalls sink.old))
-        (writing (K.written sink.new) (K.faults sink.new) (K.stalls sink.new))
-        result }
+    // What is so of the words, of the streams as far as they tell their bytes, and of the status.
+    ensures promises { Promises (record {
+      words = map string_bytes words.now.items;
+      source = reading (S.left source.old) (S.faults source.old);
+      source_after = reading (S.left source.new) (S.faults source.new);
+      sink = writing (K.written sink.old) (K.faults sink.old) (K.stalls sink.old);
+      sink_after = writing (K.written sink.new) (K.faults sink.new) (K.stalls sink.new);
+      status = result;
+    }) }
 
-    // Words that don't ask for lifting leave the source as it is, even where the usage line can't be written; a failed read and want of
-    // memory leave the sink.
+    // Of the values themselves: words that don't ask for lifting leave the source as it is, even where the usage line can't be written;
+    // a failed read and want of memory leave the sink.
     ensures unread { (AskToLiftSome (map string_bytes words.now.items) → ⊥) → source.new ≡ source.old }
     ensures unread_usage { result ≡ Status.Usage → source.new ≡ source.old }
     ensures unwritten { (result ≡ Status.ReadFault) ⊎ (result ≡ Status.Memory) → sink.new ≡ sink.old }
-
-    // Where the source tells its bytes: what the statuses on a text say of the whole input.
-    ensures lifted { result ≡ Status.Done → LiftsRightly
-        (reading (S.left source.old) (S.faults source.old))
-        (reading (S.left source.new) (S.faults source.new))
-        (writing (K.written sink.old) (K.faults sink.old) (K.stalls sink.old))
-        (writing (K.written sink.new) (K.faults sink.new) (K.stalls sink.new)) }
-    ensures rejected { result ≡ Status.Rejected → RejectsRightly
-        (reading (S.left source.old) (S.faults source.old))
-        (reading (S.left source.new) (S.faults source.new))
-        (writing (K.written sink.old) (K.faults sink.old) (K.stalls sink.old))
-        (writing (K.written sink.new) (K.faults sink.new) (K.stalls sink.new)) }
-    ensures undecided { result ≡ Status.Undecided → LeavesOpenRightly (map string_bytes words.now.items)
-        (reading (S.left source.old) (S.faults source.old))
-        (reading (S.left source.new) (S.faults source.new))
-        (writing (K.written sink.old) (K.faults sink.old) (K.stalls sink.old))
-        (writing (K.written sink.new) (K.faults sink.new) (K.stalls sink.new)) }
-    ensures refused { result ≡ Status.Refused → RefusesRightly (map string_bytes words.now.items)
-        (reading (S.left source.old) (S.faults source.old))
-        (reading (S.left source.new) (S.faults source.new))
-        (writing (K.written sink.old) (K.faults sink.old) (K.stalls sink.old))
-        (writing (K.written sink.new) (K.faults sink.new) (K.stalls sink.new)) }
-
-    // Where the sink tells what it took: a report that begins with `lifted` is that of Done, or was cut short.
-    ensures lifted_alone { LiftsAlone
-        (writing (K.written sink.old) (K.faults sink.old) (K.stalls sink.old))
-        (writing (K.written sink.new) (K.faults sink.new) (K.stalls sink.new))
-        result }
-
-    // Each input gets a status that it calls for, unless memory runs out.
-    ensures complete { IsComplete (map string_bytes words.now.items)
-        (reading (S.left source.old) (S.faults source.old))
-        (reading (S.left source.new) (S.faults source.new))
-        (writing (K.written sink.old) (K.faults sink.old) (K.stalls sink.old))
-        (writing (K.written sink.new) (K.faults sink.new) (K.stalls sink.new))
-        result }
 {
-    // The law on which `lifted` rests, beside the contract of `lift`. It computes nothing.
+    // The law on which `lifted` and `undecided` rest, beside the contract of `lift`. It computes nothing.
     accepted_programs_preserve();
     respond(alloc, words, source, sink)
 }

@@ -4,5 +4,5 @@ pub mod Places
 pub mod Cuts
 pub mod LinearRules
 pub mod Lengths
-pub mod Wants
 pub mod examples
+pub mod inner

@@ -1,7 +1,7 @@
 // What calls and spawns do to what is held.
 ghost use Rattle.std.specs.Prelude.{◌≡◌, map, IfOk};
 ghost use Rattle.civl_linear.specs.Modes.{passed_names, given_names};
-ghost use Rattle.civl_linear.specs.Wants.{wants};
+ghost use Rattle.civl_linear.specs.inner.Wants.{wants};
 ghost use Rattle.civl_linear.specs.Held.{without_names, with_names, call_held, spawn_held};
 ghost use Rattle.civl_types.specs.Views.{signature_of};
 

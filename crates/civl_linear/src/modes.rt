@@ -1,7 +1,7 @@
 // Modes of parameters and outputs.
 ghost use Rattle.std.specs.Prelude.{◌≡◌};
 ghost use Rattle.civl_linear.specs.Modes.{is_passed, is_taken, is_lent, is_given};
-ghost use Rattle.civl_linear.specs.Wants.{wants};
+ghost use Rattle.civl_linear.specs.inner.Wants.{wants};
 
 use civl_tree::Mode;
 

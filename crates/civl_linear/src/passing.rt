@@ -2,7 +2,7 @@
 ghost use Rattle.std.specs.Prelude.{◌≡◌};
 ghost use Rattle.civl_tree.specs.rules.Names.{has_name};
 ghost use Rattle.civl_linear.specs.Modes.{plain_name, passed_names, given_names};
-ghost use Rattle.civl_linear.specs.Wants.{wants};
+ghost use Rattle.civl_linear.specs.inner.Wants.{wants};
 
 use crate::modes::{Want, is_given, wants};
 use civl_tree::{Expr, Name, Param};

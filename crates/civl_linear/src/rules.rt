@@ -4,7 +4,7 @@ ghost use Rattle.std.specs.List.{list_any};
 ghost use Rattle.civl_tree.specs.rules.Names.{any_twice, has_name};
 ghost use Rattle.civl_types.specs.Views.{signature_of};
 ghost use Rattle.civl_linear.specs.Modes.{is_passed, is_taken, at_modes, plain_name, passed_names, given_names};
-ghost use Rattle.civl_linear.specs.Wants.{list_of};
+ghost use Rattle.civl_linear.specs.inner.Wants.{list_of};
 ghost use Rattle.civl_linear.specs.Held.{holds, without_names};
 ghost use Rattle.civl_linear.specs.LinearRules.{is_lost};
 ghost use Rattle.civl_linear.specs.Places.{not_held, any_not_held, passed_twice, given_to_held, stmt_not_held, stmt_held_twice, stmt_assigned, assigned, misgiven, any_misgiven, call_misgiven};

@@ -7,7 +7,7 @@ use Rattle.civl_conditions.specs.declared.condition.Condition.TheVariants.{Start
 use Rattle.civl_conditions.specs.Listed.{conditions}
 use Rattle.civl_movers.specs.Settings.{IsOfActions}
 use Rattle.civl_movers.proofs.Listed.{HasActions, listed_there}
-use Rattle.civl_maker.specs.Kinds.{kind_of}
+use Rattle.civl_maker.specs.inner.Kinds.{kind_of}
 use Rattle.civl_refine.specs.Kinds.{IsOfPaths}
 use Rattle.civl_refine.specs.steadiness.Kinds.{IsOfSteadiness}
 use Rattle.civl_maker.specs.declared.violation.Kind.TheVariants.{Actions, Paths, Steadiness}

@@ -11,7 +11,7 @@ ghost use Rattle.civl_conditions.specs.Listed.{conditions};
 ghost use Rattle.civl_conditions.specs.Weights.{weight};
 ghost use Rattle.civl_states.specs.formula_parts.Given.{AreVariablesOf};
 ghost use Rattle.civl_states.specs.Formulas.{sorts_of, IsViolation};
-ghost use Rattle.civl_maker.specs.Kinds.{kind_of};
+ghost use Rattle.civl_maker.specs.inner.Kinds.{kind_of};
 
 use crate::makers::{path_violation, steady_violation};
 use civl_bodies::Bodies;

@@ -9,7 +9,7 @@ use Rattle.civl_tree.specs.Numbering.{size_of, sizes_of, numbered}
 use Rattle.civl_tree.specs.declared.program.Proc.{Proc}
 use Rattle.civl_meaning.proofs.Placing.{inside_is, inside_layer}
 use Rattle.civl_meaning.proofs.Finding.{among_is}
-use Rattle.civl_meaning.specs.Left.{stmt_of}
+use Rattle.civl_meaning.specs.inner.Left.{stmt_of}
 use Rattle.civl_meaning.specs.Rest.{Rest, Inner, firsts, rest_step, rest_inside, with_rest, rest_among, place_in, head_of, SpotOfRest, rest_at}
 
 firsts_with : (ss : List Stmt) → firsts (map with_rest ss) ≡ ss

@@ -8,7 +8,7 @@ use Rattle.civl_tree.specs.declared.stmt.Stmt.TheFolds.{ind-Stmt}
 use Rattle.civl_meaning.specs.Places.{Spot, is_skipped, first_in, start_of, spot_among, spot_at, inside_of, loop_spot}
 use Rattle.civl_tree.specs.Numbering.{size_of, sizes_of}
 use Rattle.civl_tree.proofs.Lists.{drop_is}
-use Rattle.civl_meaning.specs.Left.{stmt_of, alone, first_left, among_left, inside_left}
+use Rattle.civl_meaning.specs.inner.Left.{stmt_of, alone, first_left, among_left, inside_left}
 use Rattle.civl_meaning.proofs.Placing.{inside_is, inside_layer}
 use Rattle.civl_meaning.proofs.Finding.{among_is, among_here, among_inside}
 

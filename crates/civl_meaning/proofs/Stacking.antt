@@ -1,6 +1,6 @@
 -- A step keeps the frames of its thread stacked.
 use Rattle.std.proofs.Common.{◌≡◌, ℕ, zero, suc, ◌+◌, ◌-◌, ◌≤◌, Bool, true, false, List, [], ◌∷◌, ◌++◌, take, length, refl, sym, ap, ◌∙◌, subst, Option, None, Some, slice_get, slice_set, arith}
-use Rattle.std.specs.Prelude.{All, if◌then◌else◌}
+use Rattle.std.specs.Prelude.{All, option_map, if◌then◌else◌}
 use Rattle.std.proofs.lemmas.List.Elements.{All-nil, All-cons, All-head, All-tail, All-set, All-push}
 use Rattle.std.proofs.lemmas.Option.{none-some, same_Some}
 use Rattle.civl_bits.specs.declared.value.Value.{Value}
@@ -25,8 +25,7 @@ use Rattle.civl_firing.specs.declared.firing.Fired.{Fired}
 use Rattle.civl_firing.specs.declared.firing.Fired.TheVariants as fire
 use Rattle.civl_meaning.specs.declared.config.Change.{Change}
 use Rattle.civl_meaning.specs.declared.config.Change.TheVariants.{Stays, Goes, Acts, Enters, Leaves, Spawns}
-use Rattle.civl_firing.specs.values.Values.{is_true}
-use Rattle.civl_firing.specs.Eval.{value_of, values_of}
+use Rattle.civl_firing.specs.Eval.{values_of}
 use Rattle.civl_firing.specs.Scope.{frame_values}
 use Rattle.civl_tree.specs.rules.Names.{names_in_proc, action_named}
 use Rattle.civl_firing.specs.Fired.{gate_holds, choices_fit, fired}
@@ -34,7 +33,8 @@ use Rattle.civl_meaning.specs.Places.{Spot, spot_at}
 use Rattle.civl_tree.specs.Numbering.{size_step, size_of, sizes_of}
 use Rattle.civl_tree.proofs.Sizes.{size_is}
 use Rattle.civl_meaning.specs.Meaning.{Meaning, Does, Runs, Missing, meaning_of_action, refined, meaning_by, meaning_of, meaning_else, called, proc_number}
-use Rattle.civl_meaning.specs.Change.{new_frame, acted, action_change, call_change, layer_change, returned_at, returned_in, returned, leaves, outs_in, spot_change, proc_change, caller_of, state_change, change_of}
+use Rattle.civl_meaning.specs.Change.{new_frame, acted, action_change, done_by, call_doing, statement_doing, returned_at, returned_in, returned, outs_in, is_true_in, spot_doing, proc_doing, caller_of, state_doing, change_of}
+use Rattle.civl_meaning.specs.Change as does
 use Rattle.civl_meaning.specs.Step.{thread_after, state_after, step_with, step_in}
 use Rattle.civl_meaning.specs.Config.{IsPlaced, IsBodyOf, LayerCalls, SpotCalls, ProcCalls, Waits, next_procedure, AreWaiting, IsStack, StateIsStacked, IsStacked, StepKeepsStacks, RunKeepsStacks}
 use Rattle.civl_meaning.proofs.Spots.{start_below, Stands, spot_stands}
@@ -176,7 +176,7 @@ action_keeps plain callee state store chosen names locals results next action ar
     by_gate true true (fire.Moved s outs) = g _
 
 -- the call with which a thread begins
-first_keeps : (plain : Plain) (callee : ℕ) (store : Store) (chosen args : List Value) (m : Meaning) → meaning_of plain callee ≡ m → Kept plain callee Before (call_change plain store chosen [] [] [] 0 0 m args)
+first_keeps : (plain : Plain) (callee : ℕ) (store : Store) (chosen args : List Value) (m : Meaning) → meaning_of plain callee ≡ m → Kept plain callee Before (done_by plain store chosen (call_doing [] [] [] 0 0 m args))
 first_keeps plain callee store chosen args (Does action) e = action_keeps plain callee Before store chosen [] [] [] 0 action args tt (λ vs. tt)
 first_keeps plain callee store chosen args (Runs n p) e = record {
   placed = All-nil (IsPlaced plain);
@@ -189,7 +189,7 @@ first_keeps plain callee store chosen args Missing e = tt
 -- a call in a frame
 call_keeps : (plain : Plain) (callee : ℕ) (below : List Activation) (top : Activation) (proc : Proc) (store : Store) (chosen : List Value) (names : List Name) (locals : List Value) (results : List Name) (s : Spot) (f : Name) (es : List _) (rs : List Name) (args : List Value) →
     slice_get plain.program.procs top.procedure ≡ Some proc → Stands proc.body s → out-Stmt s.stmt ≡ Call f es rs → IsStack plain callee below top → (m : Meaning) → called plain f ≡ m →
-    Kept plain callee (Inside below top) (call_change plain store chosen names locals results s.number s.next m args)
+    Kept plain callee (Inside below top) (done_by plain store chosen (call_doing names locals results s.number s.next m args))
 call_keeps plain callee below top proc store chosen names locals results s f es rs args e st c h (Does action) q =
     action_keeps plain callee (Inside below top) store chosen names locals results s.next action args h (λ vs. stack_goes plain callee below top vs s.next proc e st.next h)
 call_keeps plain callee below top proc store chosen names locals results s f es rs args e st c h (Runs n p) q =
@@ -208,11 +208,11 @@ if_place false x y m h k = k
 -- a statement
 layer_keeps : (plain : Plain) (callee : ℕ) (below : List Activation) (top : Activation) (proc : Proc) (store : Store) (chosen : List Value) (s : Spot) (d : Stmt-F Stmt) →
     slice_get plain.program.procs top.procedure ≡ Some proc → Stands proc.body s → out-Stmt s.stmt ≡ d → s.number + size_step (map-Stmt Stmt ℕ size_of d) ≤ sizes_of proc.body → IsStack plain callee below top →
-    Kept plain callee (Inside below top) (layer_change plain store chosen proc top.locals s.number s.next d)
+    Kept plain callee (Inside below top) (done_by plain store chosen (statement_doing plain proc top.locals s.number s.next d))
 layer_keeps plain callee below top proc store chosen s (Assign x e) t st q l h = stack_goes plain callee below top _ s.next proc t st.next h
-layer_keeps plain callee below top proc store chosen s (Assert e) t st q l h = by_truth (is_true (value_of (frame_values plain.program.globals proc top.locals) e))
+layer_keeps plain callee below top proc store chosen s (Assert e) t st q l h = by_truth (is_true_in plain proc top.locals e)
   where
-    by_truth : (b : Bool) → Kept plain callee (Inside below top) (if b then Goes top.locals s.next else Stays answer.Failing)
+    by_truth : (b : Bool) → Kept plain callee (Inside below top) (done_by plain store chosen (if b then does.Goes top.locals s.next else does.Fails))
     by_truth true = stack_goes plain callee below top top.locals s.next proc t st.next h
     by_truth false = h
 layer_keeps plain callee below top proc store chosen s (If e a b) t st q l h =
@@ -234,7 +234,7 @@ layer_keeps plain callee below top proc store chosen s Commit t st q l h = h
 layer_keeps plain callee below top proc store chosen s (Intro x e) t st q l h = h
 
 -- the end of the topmost frame
-leaves_keeps : (plain : Plain) (callee : ℕ) (below : List Activation) (top : Activation) (outs : List Value) (o : Option Activation) → caller_of below ≡ o → IsStack plain callee below top → Kept plain callee (Inside below top) (leaves plain outs o)
+leaves_keeps : (plain : Plain) (callee : ℕ) (below : List Activation) (top : Activation) (outs : List Value) (o : Option Activation) → caller_of below ≡ o → IsStack plain callee below top → Kept plain callee (Inside below top) (Leaves (option_map (returned plain outs) o))
 leaves_keeps plain callee below top outs None e h = tt
 leaves_keeps plain callee below top outs (Some f) e h =
     let front = take (length below - 1) below in
@@ -245,7 +245,7 @@ leaves_keeps plain callee below top outs (Some f) e h =
 
 -- a frame
 spot_keeps : (plain : Plain) (callee : ℕ) (below : List Activation) (top : Activation) (proc : Proc) (store : Store) (chosen : List Value) → slice_get plain.program.procs top.procedure ≡ Some proc → IsStack plain callee below top → (o : Option Spot) → spot_at proc.body top.place ≡ o →
-    Kept plain callee (Inside below top) (spot_change plain store chosen (caller_of below) top proc o)
+    Kept plain callee (Inside below top) (done_by plain store chosen (spot_doing plain (caller_of below) top proc o))
 spot_keeps plain callee below top proc store chosen t h None e = leaves_keeps plain callee below top (outs_in proc top.locals) (caller_of below) refl h
 spot_keeps plain callee below top proc store chosen t h (Some s) e =
     let st = spot_stands proc.body top.place s e in
@@ -254,12 +254,12 @@ spot_keeps plain callee below top proc store chosen t h (Some s) e =
     layer_keeps plain callee below top proc store chosen s (out-Stmt s.stmt) t st refl (omega arith) h
 
 proc_keeps : (plain : Plain) (callee : ℕ) (below : List Activation) (top : Activation) (store : Store) (chosen : List Value) → IsStack plain callee below top → (o : Option Proc) → slice_get plain.program.procs top.procedure ≡ o →
-    Kept plain callee (Inside below top) (proc_change plain store chosen (caller_of below) top o)
+    Kept plain callee (Inside below top) (done_by plain store chosen (proc_doing plain (caller_of below) top o))
 proc_keeps plain callee below top store chosen h None e = h
 proc_keeps plain callee below top store chosen h (Some proc) e = spot_keeps plain callee below top proc store chosen e h (spot_at proc.body top.place) refl
 
 -- a thread
-state_keeps : (plain : Plain) (store : Store) (chosen : List Value) (thread : Running) (state : State) → StateIsStacked plain thread.callee state → Kept plain thread.callee state (state_change plain store chosen thread state)
+state_keeps : (plain : Plain) (store : Store) (chosen : List Value) (thread : Running) (state : State) → StateIsStacked plain thread.callee state → Kept plain thread.callee state (done_by plain store chosen (state_doing plain thread state))
 state_keeps plain store chosen thread Before h = first_keeps plain thread.callee store chosen thread.args (meaning_of plain thread.callee) refl
 state_keeps plain store chosen thread (Inside below top) h = proc_keeps plain thread.callee below top store chosen h (slice_get plain.program.procs top.procedure) refl
 state_keeps plain store chosen thread After h = tt
@@ -300,16 +300,16 @@ action_spawns plain store chosen names locals results next action args =
     by_gate true true fire.Blocked = tt
     by_gate true true (fire.Moved s outs) = tt
 
-call_spawns : (plain : Plain) (store : Store) (chosen : List Value) (names : List Name) (locals : List Value) (results : List Name) (at next : ℕ) (m : Meaning) (args : List Value) → SpawnsBefore (call_change plain store chosen names locals results at next m args)
+call_spawns : (plain : Plain) (store : Store) (chosen : List Value) (names : List Name) (locals : List Value) (results : List Name) (at next : ℕ) (m : Meaning) (args : List Value) → SpawnsBefore (done_by plain store chosen (call_doing names locals results at next m args))
 call_spawns plain store chosen names locals results at next (Does action) args = action_spawns plain store chosen names locals results next action args
 call_spawns plain store chosen names locals results at next (Runs n p) args = tt
 call_spawns plain store chosen names locals results at next Missing args = tt
 
-layer_spawns : (plain : Plain) (store : Store) (chosen : List Value) (proc : Proc) (locals : List Value) (at next : ℕ) (d : Stmt-F Stmt) → SpawnsBefore (layer_change plain store chosen proc locals at next d)
+layer_spawns : (plain : Plain) (store : Store) (chosen : List Value) (proc : Proc) (locals : List Value) (at next : ℕ) (d : Stmt-F Stmt) → SpawnsBefore (done_by plain store chosen (statement_doing plain proc locals at next d))
 layer_spawns plain store chosen proc locals at next (Assign x e) = tt
-layer_spawns plain store chosen proc locals at next (Assert e) = by_truth (is_true (value_of (frame_values plain.program.globals proc locals) e))
+layer_spawns plain store chosen proc locals at next (Assert e) = by_truth (is_true_in plain proc locals e)
   where
-    by_truth : (b : Bool) → SpawnsBefore (if b then Goes locals next else Stays answer.Failing)
+    by_truth : (b : Bool) → SpawnsBefore (done_by plain store chosen (if b then does.Goes locals next else does.Fails))
     by_truth true = tt
     by_truth false = tt
 layer_spawns plain store chosen proc locals at next (If e a b) = tt
@@ -322,16 +322,15 @@ layer_spawns plain store chosen proc locals at next (Yield e) = tt
 layer_spawns plain store chosen proc locals at next Commit = tt
 layer_spawns plain store chosen proc locals at next (Intro x e) = tt
 
-spot_spawns : (plain : Plain) (store : Store) (chosen : List Value) (caller : Option Activation) (top : Activation) (proc : Proc) (o : Option Spot) → SpawnsBefore (spot_change plain store chosen caller top proc o)
-spot_spawns plain store chosen None top proc None = tt
-spot_spawns plain store chosen (Some f) top proc None = tt
+spot_spawns : (plain : Plain) (store : Store) (chosen : List Value) (caller : Option Activation) (top : Activation) (proc : Proc) (o : Option Spot) → SpawnsBefore (done_by plain store chosen (spot_doing plain caller top proc o))
+spot_spawns plain store chosen caller top proc None = tt
 spot_spawns plain store chosen caller top proc (Some s) = layer_spawns plain store chosen proc top.locals s.number s.next (out-Stmt s.stmt)
 
-state_spawns : (plain : Plain) (store : Store) (chosen : List Value) (thread : Running) (state : State) → SpawnsBefore (state_change plain store chosen thread state)
+state_spawns : (plain : Plain) (store : Store) (chosen : List Value) (thread : Running) (state : State) → SpawnsBefore (done_by plain store chosen (state_doing plain thread state))
 state_spawns plain store chosen thread Before = call_spawns plain store chosen [] [] [] 0 0 (meaning_of plain thread.callee) thread.args
 state_spawns plain store chosen thread (Inside below top) = by_proc (slice_get plain.program.procs top.procedure)
   where
-    by_proc : (o : Option Proc) → SpawnsBefore (proc_change plain store chosen (caller_of below) top o)
+    by_proc : (o : Option Proc) → SpawnsBefore (done_by plain store chosen (proc_doing plain (caller_of below) top o))
     by_proc None = tt
     by_proc (Some proc) = spot_spawns plain store chosen (caller_of below) top proc (spot_at proc.body top.place)
 state_spawns plain store chosen thread After = tt

@@ -19,7 +19,7 @@ use Rattle.civl_meaning.specs.declared.table.BodyPlaces.{BodyPlaces}
 use Rattle.civl_meaning.specs.Places.{Spot, start_of, first_in, spot_among, spot_at, inside_of, loop_spot}
 use Rattle.civl_meaning.specs.Found.{spot}
 use Rattle.civl_meaning.specs.Table.{IsFound, entry, found_in, ArePlacesOf}
-use Rattle.civl_meaning.specs.Filled.{Filled, here_spot}
+use Rattle.civl_meaning.specs.inner.Filled.{Filled, here_spot}
 use Rattle.civl_meaning.proofs.Finding.{among_here, among_inside}
 use Rattle.civl_meaning.proofs.Placing.{inside_is, inside_layer}
 use Rattle.civl_meaning.proofs.Spots.{among_past}

@@ -1,4 +1,4 @@
--- For private functions alone: what the code finds at a place, as a spot.
+-- What the code finds at a place, as a spot; `places_of` cites it.
 use Rattle.std.specs.Prelude.{ℕ, ◌≡◌, Option, None, Some, ◌+◌, ◌^◌, ◌<◌, ⊤}
 use Rattle.civl_tree.specs.declared.stmt.Stmt.{Stmt, out-Stmt}
 use Rattle.civl_tree.specs.declared.stmt.Stmt.TheOpen.{Stmt-F, If}

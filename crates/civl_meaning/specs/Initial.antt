@@ -1,3 +1,4 @@
+-- Part of the claim: docs/CLAIM.md.
 -- The stores in which a program may start.
 use Rattle.std.specs.Prelude.{List, [], ◌++◌, flat_map, Option, None, Some, slice_get, IsTrue}
 use Rattle.civl_bits.specs.declared.value.Value.{Value}

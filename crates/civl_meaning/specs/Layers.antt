@@ -1,3 +1,4 @@
+-- Part of the claim: docs/CLAIM.md.
 -- The plain programs of a layered one (Kragl, Qadeer, CAV 2018): in the program of layer k each procedure of layer k or
 -- less is replaced by the action that it refines.
 use Rattle.std.specs.Prelude.{ℕ, Bool, true, nat_lt, map, Option, None, Some}

@@ -1,13 +1,10 @@
 pub mod Places
 pub mod Found
 pub mod Table
-pub mod Filled
-pub mod Left
 pub mod Rest
 pub mod Remaining
 pub mod Frame
 pub mod Meaning
-pub mod Callees
 pub mod Change
 pub mod Step
 pub mod Config
@@ -19,3 +16,4 @@ pub mod Permissions
 pub mod Initial
 pub mod Preserves
 pub mod examples
+pub mod inner

@@ -1,3 +1,4 @@
+-- Part of the claim: docs/CLAIM.md.
 -- What a name that is called means in a plain program: an action, or a procedure with its body.
 use Rattle.std.specs.Prelude.{ℕ, Bool, true, false, map, Option, None, Some, slice_get}
 use Rattle.civl_tree.specs.declared.name.Name.{Name}

@@ -1,3 +1,4 @@
+-- Part of the claim: docs/CLAIM.md.
 -- Linear permissions (Kragl, Qadeer, CAV 2018; linear variables of the Civl verifier): what a linear value carries, and
 -- which carriers are disjoint. A permission is its number.
 use Rattle.std.specs.Prelude.{ℕ, zero, suc, Bool, true, not, ◌&&◌, nat_eq, List, [], ◌∷◌, ◌++◌, if◌then◌else◌}

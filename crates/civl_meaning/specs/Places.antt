@@ -1,3 +1,4 @@
+-- Part of the claim: docs/CLAIM.md.
 -- What stands at a place of a procedure's body. A place is the number of a statement, as civl_tree numbers them. A plain
 -- program's statements are those that aren't `yield`, `commit` or `intro`: these are passed over.
 use Rattle.std.specs.Prelude.{ℕ, ◌+◌, Bool, true, false, nat_lt, nat_eq, if◌then◌else◌, Option, None, Some, List, [], ◌∷◌, map}

@@ -1,3 +1,4 @@
+-- Part of the claim: docs/CLAIM.md.
 -- What a layered program is verified for: its lowest program fails only where its topmost one does.
 use Rattle.civl_tree.specs.declared.program.Program.{Program}
 use Rattle.civl_firing.specs.declared.store.Store.{Store}

@@ -1,3 +1,4 @@
+-- Part of the claim: docs/CLAIM.md.
 -- Interleavings: lists of moves.
 use Rattle.std.specs.Prelude.{ℕ, ◌+◌, ◌≡◌, ◌↔◌, Bool, true, false, List, [], ◌∷◌, ◌++◌, length, Option, None, Some, if◌then◌else◌}
 use Rattle.civl_meaning.specs.declared.config.Move.{Move}

@@ -1,3 +1,4 @@
+-- Part of the claim: docs/CLAIM.md.
 -- The step of a configuration: the change of one thread, made. (Small-step interleaving.)
 use Rattle.std.specs.Prelude.{◌≡◌, ◌≢◌, ◌<◌, ℕ, ◌-◌, List, [], ◌∷◌, ◌++◌, length, take, map, Option, None, Some, slice_get, slice_set}
 use Rattle.civl_bits.specs.declared.value.Value.{Value}
@@ -89,11 +90,7 @@ config_after config t thread change = record {
 -- the answer and the configuration after a change; a refused step leaves the configuration
 abbrev pub step_with : Config → ℕ → Running → Change → Stepped × Config
 step_with config t thread (Stays a) = (a, config)
-step_with config t thread (Goes locals place) = (answer.Moved, config_after config t thread (Goes locals place))
-step_with config t thread (Acts store locals place) = (answer.Moved, config_after config t thread (Acts store locals place))
-step_with config t thread (Enters frame place) = (answer.Moved, config_after config t thread (Enters frame place))
-step_with config t thread (Leaves frame) = (answer.Moved, config_after config t thread (Leaves frame))
-step_with config t thread (Spawns other place) = (answer.Moved, config_after config t thread (Spawns other place))
+step_with config t thread change = (answer.Moved, config_after config t thread change)
 
 abbrev pub step_in : Plain → Config → Move → Option Running → Stepped × Config
 step_in plain config move None = (answer.NoThread, config)

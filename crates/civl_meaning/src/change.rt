@@ -3,7 +3,6 @@ ghost use Rattle.std.specs.Prelude.{◌≡◌, ◌+◌, ◌^◌, ◌<◌, Some, 
 ghost use Rattle.civl_tree.specs.declared.stmt.Stmt.{out-Stmt};
 ghost use Rattle.civl_meaning.specs.declared.config.State.TheVariants.{Before};
 ghost use Rattle.civl_firing.specs.Truth.{place_of};
-ghost use Rattle.civl_firing.specs.values.Values.{is_true};
 ghost use Rattle.civl_firing.specs.Eval.{value_of, values_of};
 ghost use Rattle.civl_firing.specs.Scope.{frame_values};
 ghost use Rattle.civl_tree.specs.rules.Names.{names_in_proc};
@@ -11,9 +10,10 @@ ghost use Rattle.civl_firing.specs.Names.{names_of};
 ghost use Rattle.civl_meaning.specs.Places.{start_of};
 ghost use Rattle.civl_tree.specs.Numbering.{sizes_of};
 ghost use Rattle.civl_meaning.specs.Found.{Fits};
-ghost use Rattle.civl_meaning.specs.Callees.{meaning};
+ghost use Rattle.civl_meaning.specs.inner.Callees.{meaning};
 ghost use Rattle.civl_meaning.specs.Meaning.{called, proc_number};
-ghost use Rattle.civl_meaning.specs.Change.{with_results, new_frame, acted, action_change, call_change, layer_change};
+ghost use Rattle.civl_meaning.specs.Change.{with_results, new_frame, acted, action_change, is_true_in, call_doing, statement_doing, done_by};
+ghost use Rattle.civl_meaning.specs.Change as does;
 
 use crate::config::{Activation, Change, Plain, Running, State, Stepped};
 use crate::found::{Found, begin};
@@ -94,7 +94,7 @@ struct After<'a> {
 }
 
 /// What an action did.
-fn done_by(alloc: Alloc, after: &After<'_>, fired: Fired) -> Result<Change, Memory>
+fn after_action(alloc: Alloc, after: &After<'_>, fired: Fired) -> Result<Change, Memory>
     ensures { IfOk result (λ c. c ≡ acted (names_of after.now.names) after.now.locals.now after.now.results.now after.now.next fired) }
 {
     match fired {
@@ -129,7 +129,7 @@ fn call_of_action(
         return Ok(Change::Stays(Stepped::BadChoices));
     }
     let fired = transition(alloc, globals, store, action, args, chosen)?;
-    done_by(alloc, after, fired)
+    after_action(alloc, after, fired)
 }
 
 /// A call that stands at the place `at`.
@@ -143,7 +143,7 @@ fn call(
     callee: Callee<'_>,
     args: &[Value],
 ) -> Result<Change, Memory>
-    ensures { IfOk result (λ c. c ≡ call_change plain.now store.now chosen.now (names_of after.now.names) after.now.locals.now after.now.results.now at after.now.next (meaning callee.entry) args.now) }
+    ensures { IfOk result (λ c. c ≡ done_by plain.now store.now chosen.now (call_doing (names_of after.now.names) after.now.locals.now after.now.results.now at after.now.next (meaning callee.entry) args.now)) }
 {
     match callee {
         Callee::Missing => Ok(Change::Stays(Stepped::Blocked)),
@@ -164,7 +164,7 @@ pub fn first_call(
     callee: Callee<'_>,
     args: &[Value],
 ) -> Result<Change, Memory>
-    ensures { IfOk result (λ c. c ≡ call_change plain.now store.now chosen.now [] [] [] 0 0 (meaning callee.entry) args.now) }
+    ensures { IfOk result (λ c. c ≡ done_by plain.now store.now chosen.now (call_doing [] [] [] 0 0 (meaning callee.entry) args.now)) }
 {
     let after = After {
         names: Names {
@@ -219,7 +219,7 @@ fn value_in(standing: &Standing<'_>, expr: &Expr) -> Value
 
 /// Whether an expression is true in a frame.
 pub fn holds_in(standing: &Standing<'_>, expr: &Expr) -> bool
-    ensures { result ≡ is_true (value_of (frame_values standing.now.plain.now.program.globals standing.now.proc.now standing.now.locals.now) expr.now) }
+    ensures { result ≡ is_true_in standing.now.plain.now standing.now.proc.now standing.now.locals.now expr.now }
 {
     let globals = standing.plain.program.globals.as_slice();
     holds(&in_frame(globals, standing.proc, standing.locals), expr)
@@ -272,7 +272,7 @@ fn branch(
 ) -> usize
     requires at { at + 1 < 2 ^ 64 }
     requires second { second ≡ at + 1 + sizes_of a.now }
-    ensures { result ≡ (if is_true (value_of (frame_values standing.now.plain.now.program.globals standing.now.proc.now standing.now.locals.now) test.now) then start_of a.now (at + 1) next else start_of b.now (at + 1 + sizes_of a.now) next) }
+    ensures { result ≡ (if is_true_in standing.now.plain.now standing.now.proc.now standing.now.locals.now test.now then start_of a.now (at + 1) next else start_of b.now (at + 1 + sizes_of a.now) next) }
 {
     if holds_in(standing, test) {
         begin(a.as_slice(), at + 1, next)
@@ -284,7 +284,7 @@ fn branch(
 /// Where a loop goes.
 fn turn(standing: &Standing<'_>, at: usize, next: usize, test: &Expr, body: &List<Stmt>) -> usize
     requires { at + 1 < 2 ^ 64 }
-    ensures { result ≡ (if is_true (value_of (frame_values standing.now.plain.now.program.globals standing.now.proc.now standing.now.locals.now) test.now) then start_of body.now (at + 1) at else next) }
+    ensures { result ≡ (if is_true_in standing.now.plain.now standing.now.proc.now standing.now.locals.now test.now then start_of body.now (at + 1) at else next) }
 {
     if holds_in(standing, test) {
         begin(body.as_slice(), at + 1, at)
@@ -297,10 +297,12 @@ fn turn(standing: &Standing<'_>, at: usize, next: usize, test: &Expr, body: &Lis
 fn asserted(
     alloc: Alloc,
     standing: &Standing<'_>,
+    store: &Store,
+    chosen: &[Value],
     next: usize,
     expr: &Expr,
 ) -> Result<Change, Memory>
-    ensures { IfOk result (λ c. c ≡ (if is_true (value_of (frame_values standing.now.plain.now.program.globals standing.now.proc.now standing.now.locals.now) expr.now) then Change.Goes standing.now.locals.now next else Change.Stays Stepped.Failing)) }
+    ensures { IfOk result (λ c. c ≡ done_by standing.now.plain.now store.now chosen.now (if is_true_in standing.now.plain.now standing.now.proc.now standing.now.locals.now expr.now then does.Goes standing.now.locals.now next else does.Fails)) }
 {
     if !holds_in(standing, expr) {
         return Ok(Change::Stays(Stepped::Failing));
@@ -320,7 +322,7 @@ fn calling(
     args: &List<Expr>,
     results: &List<Name>,
 ) -> Result<Change, Memory>
-    ensures { IfOk result (λ c. c ≡ call_change standing.now.plain.now store.now chosen.now (names_in_proc standing.now.proc.now) standing.now.locals.now results.now at next (called standing.now.plain.now name.now) (values_of (frame_values standing.now.plain.now.program.globals standing.now.proc.now standing.now.locals.now) args.now)) }
+    ensures { IfOk result (λ c. c ≡ done_by standing.now.plain.now store.now chosen.now (call_doing (names_in_proc standing.now.proc.now) standing.now.locals.now results.now at next (called standing.now.plain.now name.now) (values_of (frame_values standing.now.plain.now.program.globals standing.now.proc.now standing.now.locals.now) args.now))) }
 {
     let args = values_in(alloc, standing, args)?;
     let callee = of_name(standing.plain, name);
@@ -351,13 +353,13 @@ pub fn statement(
     found: &Found<'_>,
 ) -> Result<Change, Memory>
     requires { Fits (Some found.now) }
-    ensures { IfOk result (λ c. c ≡ layer_change standing.now.plain.now store.now chosen.now standing.now.proc.now standing.now.locals.now found.now.number found.now.next (out-Stmt found.now.stmt.now)) }
+    ensures { IfOk result (λ c. c ≡ done_by standing.now.plain.now store.now chosen.now (statement_doing standing.now.plain.now standing.now.proc.now standing.now.locals.now found.now.number found.now.next (out-Stmt found.now.stmt.now))) }
 {
     let at = found.number;
     let next = found.next;
     match found.stmt {
         Stmt::Assign(name, expr) => assigned(alloc, standing, next, name, expr),
-        Stmt::Assert(expr) => asserted(alloc, standing, next, expr),
+        Stmt::Assert(expr) => asserted(alloc, standing, store, chosen, next, expr),
         Stmt::If(test, a, b) => {
             let place = branch(standing, at, next, test, a, b, found.second);
             goes(alloc, standing.locals, place)

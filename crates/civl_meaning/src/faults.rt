@@ -1,10 +1,12 @@
 // Failing threads.
-ghost use Rattle.std.specs.Prelude.{◌≡◌, ◌<◌, ◌^◌, length, slice_get};
+ghost use Rattle.std.specs.Prelude.{ℕ, ◌≡◌, ◌<◌, ◌^◌, List, [], length, Option, slice_get};
+ghost use Rattle.civl_tree.specs.declared.name.Name.{Name};
 ghost use Rattle.civl_tree.specs.declared.stmt.Stmt.{out-Stmt};
 ghost use Rattle.civl_firing.specs.Eval.{values_of};
 ghost use Rattle.civl_firing.specs.Scope.{frame_values};
-ghost use Rattle.civl_meaning.specs.Callees.{meaning};
-ghost use Rattle.civl_meaning.specs.Failing.{call_fails, layer_fails, proc_fails, thread_fails, failing_thread};
+ghost use Rattle.civl_meaning.specs.inner.Callees.{meaning};
+ghost use Rattle.civl_meaning.specs.Change.{call_doing, statement_doing, proc_doing};
+ghost use Rattle.civl_meaning.specs.Failing.{fails_at, thread_fails, failing_thread};
 
 use crate::change::{Standing, holds_in};
 use crate::config::{Activation, Config, Plain, Running, State};
@@ -17,7 +19,7 @@ use civl_tree::{Expr, Stmt};
 
 /// Whether the call with which a thread begins fails.
 fn first_call_fails(plain: &Plain, store: &Store, callee: Callee<'_>, args: &[Value]) -> bool
-    ensures { result ≡ call_fails plain.now store.now (meaning callee.entry) args.now }
+    ensures { result ≡ fails_at plain.now store.now (call_doing [] [] [] 0 0 (meaning callee.entry) args.now) }
 {
     match callee {
         Callee::Does(action) => !gate(plain.program.globals.as_slice(), store, action, args),
@@ -26,9 +28,9 @@ fn first_call_fails(plain: &Plain, store: &Store, callee: Callee<'_>, args: &[Va
     }
 }
 
-/// Whether a call in a procedure fails.
+/// Whether a call in a procedure fails, wherever it stands.
 fn call_fails(standing: &Standing<'_>, store: &Store, callee: Callee<'_>, args: &[Expr]) -> bool
-    ensures { result ≡ call_fails standing.now.plain.now store.now (meaning callee.entry) (values_of (frame_values standing.now.plain.now.program.globals standing.now.proc.now standing.now.locals.now) args.now) }
+    ensures { (names : List Name) (results : List Name) (at next : ℕ) → result ≡ fails_at standing.now.plain.now store.now (call_doing names standing.now.locals.now results at next (meaning callee.entry) (values_of (frame_values standing.now.plain.now.program.globals standing.now.proc.now standing.now.locals.now) args.now)) }
 {
     let globals = standing.plain.program.globals.as_slice();
     match callee {
@@ -40,9 +42,10 @@ fn call_fails(standing: &Standing<'_>, store: &Store, callee: Callee<'_>, args: 
     }
 }
 
-/// Whether a statement fails.
+/// Whether a statement fails, wherever it stands.
+#[tactic(auto, using(crate::proofs::Firsts::fails_assert))]
 fn statement_fails(standing: &Standing<'_>, store: &Store, stmt: &Stmt) -> bool
-    ensures { result ≡ layer_fails standing.now.plain.now store.now standing.now.proc.now standing.now.locals.now (out-Stmt stmt.now) }
+    ensures { (at next : ℕ) → result ≡ fails_at standing.now.plain.now store.now (statement_doing standing.now.plain.now standing.now.proc.now standing.now.locals.now at next (out-Stmt stmt.now)) }
 {
     match stmt {
         Stmt::Assert(expr) => !holds_in(standing, expr),
@@ -54,10 +57,9 @@ fn statement_fails(standing: &Standing<'_>, store: &Store, stmt: &Stmt) -> bool
     }
 }
 
-/// Whether a frame stands before a statement that fails.
-#[tactic(auto, using(crate::proofs::Firsts::by_stmt))]
+/// Whether a frame stands before a statement that fails, whatever frame is below it.
 fn frame_fails(plain: &Plain, store: &Store, frame: &Activation) -> bool
-    ensures { result ≡ proc_fails plain.now store.now frame.now (slice_get plain.now.program.procs frame.now.procedure) }
+    ensures { (caller : Option Activation) → result ≡ fails_at plain.now store.now (proc_doing plain.now caller frame.now (slice_get plain.now.program.procs frame.now.procedure)) }
 {
     let procs = plain.program.procs.as_slice();
     if frame.procedure >= procs.len() {

@@ -4,7 +4,7 @@ ghost use Rattle.civl_tree.specs.Numbering.{size_of, sizes_of};
 ghost use Rattle.civl_meaning.specs.Places.{spot_among, inside_of, spot_at};
 ghost use Rattle.civl_meaning.specs.Found.{spot, Fits};
 ghost use Rattle.civl_meaning.specs.Table.{IsFound, entry, ArePlacesOf, ArePlaces};
-ghost use Rattle.civl_meaning.specs.Filled.{Filled, here_spot};
+ghost use Rattle.civl_meaning.specs.inner.Filled.{Filled, here_spot};
 
 use crate::config::Plain;
 use crate::found::{Found, itself, skipped};

@@ -1,9 +1,9 @@
 // What a step does at the exit of a procedure, and what it does by the place of a thread.
-ghost use Rattle.std.specs.Prelude.{◌≡◌, slice_get, IfOk};
+ghost use Rattle.std.specs.Prelude.{◌≡◌, slice_get, option_map, IfOk};
 ghost use Rattle.civl_tree.specs.declared.stmt.Stmt.{out-Stmt};
 ghost use Rattle.civl_meaning.specs.Found.{spot, Fits};
 ghost use Rattle.civl_meaning.specs.Table.{ArePlaces};
-ghost use Rattle.civl_meaning.specs.Change.{returned_layer, returned_at, returned, leaves, outs_in, spot_change, proc_change, caller_of, change_of};
+ghost use Rattle.civl_meaning.specs.Change.{returned_layer, returned_at, returned, done_by, outs_in, spot_doing, proc_doing, caller_of, change_of};
 
 use crate::change::{Standing, first_call, frame_targets, statement, write_results};
 use crate::config::{Activation, Change, Plain, Running, State, Stepped};
@@ -110,7 +110,7 @@ fn leave(
     below: &[Activation],
 ) -> Result<Change, Memory>
     requires { ArePlaces plain.now places.now }
-    ensures { IfOk result (λ c. c ≡ leaves plain.now outs.now (caller_of below.now)) }
+    ensures { IfOk result (λ c. c ≡ Change.Leaves (option_map (returned plain.now outs.now) (caller_of below.now))) }
 {
     if below.is_empty() {
         return Ok(Change::Leaves(None));
@@ -140,7 +140,7 @@ fn found_change(
     requires places { ArePlaces standing.now.plain.now places.now }
     requires frame { standing.now.locals.now ≡ frame.now.locals }
     requires found { Fits found }
-    ensures { IfOk result (λ c. c ≡ spot_change standing.now.plain.now store.now chosen.now (caller_of below.now) frame.now standing.now.proc.now (spot found.entry)) }
+    ensures { IfOk result (λ c. c ≡ done_by standing.now.plain.now store.now chosen.now (spot_doing standing.now.plain.now (caller_of below.now) frame.now standing.now.proc.now (spot found.entry))) }
 {
     match found {
         None => {
@@ -162,7 +162,7 @@ fn top_change(
     frame: &Activation,
 ) -> Result<Change, Memory>
     requires { ArePlaces plain.now places.now }
-    ensures { IfOk result (λ c. c ≡ proc_change plain.now store.now chosen.now (caller_of below.now) frame.now (slice_get plain.now.program.procs frame.now.procedure)) }
+    ensures { IfOk result (λ c. c ≡ done_by plain.now store.now chosen.now (proc_doing plain.now (caller_of below.now) frame.now (slice_get plain.now.program.procs frame.now.procedure))) }
 {
     let procs = plain.program.procs.as_slice();
     if frame.procedure >= procs.len() {

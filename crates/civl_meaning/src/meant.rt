@@ -1,7 +1,7 @@
 // What a name that is called means.
 ghost use Rattle.std.specs.Prelude.{◌≡◌};
 ghost use Rattle.civl_meaning.specs.Meaning.{meaning_of, called, refined};
-ghost use Rattle.civl_meaning.specs.Callees.{meaning};
+ghost use Rattle.civl_meaning.specs.inner.Callees.{meaning};
 
 use crate::config::Plain;
 use civl_firing::names::{action, proc};

@@ -2,7 +2,7 @@
 ghost use Rattle.std.specs.Prelude.{◌≡◌, ◌<◌, ◌≤◌, MatchOption, option_copied};
 ghost use Rattle.civl_meaning.specs.Places.{spot_at};
 ghost use Rattle.civl_tree.specs.Numbering.{size_of, sizes_of};
-ghost use Rattle.civl_meaning.specs.Left.{stmt_of, first_left, among_left, inside_left};
+ghost use Rattle.civl_meaning.specs.inner.Left.{stmt_of, first_left, among_left, inside_left};
 
 use crate::found::skipped;
 use civl_tree::{List, Stmt};

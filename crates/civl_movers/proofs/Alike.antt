@@ -17,7 +17,7 @@ use Rattle.civl_states.specs.formula_parts.Said.{Env, IsTest}
 use Rattle.civl_states.specs.formula_parts.Lists.{AreSaid}
 use Rattle.civl_states.proofs.formula_parts.Saying.{IsBool, test_where}
 use Rattle.civl_states.specs.Runs.{out_sorts}
-use Rattle.civl_movers.specs.Ends.{end_alike}
+use Rattle.civl_movers.specs.inner.Ends.{end_alike}
 
 -- lists of five and six bools
 pub five_bools : (ns : List Node) (a b c d e : ℕ) → IsBool ns a → IsBool ns b → IsBool ns c → IsBool ns d → IsBool ns e → All (IsBool ns) (a ∷ b ∷ c ∷ d ∷ e ∷ [])

@@ -11,7 +11,7 @@ use Rattle.civl_conditions.specs.Values.{same_values, same_stores}
 use Rattle.civl_conditions.specs.footprints.Agreement.{exists_at}
 use Rattle.civl_states.proofs.Firing.{fires_is}
 use Rattle.civl_movers.specs.Runs.{invoke}
-use Rattle.civl_movers.specs.Ends.{end_alike}
+use Rattle.civl_movers.specs.inner.Ends.{end_alike}
 
 pub spoils_is : (program : Program) (g : Store) (a b : Action) (i c j d : List Value)
     → (gate_holds program.globals g a i && (gate_holds program.globals g b j && (guard_holds program.globals g a i c && (not (gate_holds program.globals (store_after program.globals g a i c) b j) && true))))

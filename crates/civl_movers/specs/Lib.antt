@@ -1,5 +1,5 @@
 pub mod Runs
-pub mod Ends
 pub mod Items
 pub mod Settings
 pub mod interfere
+pub mod inner

@@ -8,7 +8,7 @@ ghost use Rattle.civl_states.specs.formula_parts.Lists.{AreAlike, bits_at};
 ghost use Rattle.civl_states.specs.Stores.{AreGlobals};
 ghost use Rattle.civl_states.specs.Same.{layer_sorts, same_weight};
 ghost use Rattle.civl_movers.specs.Runs.{AreTested};
-ghost use Rattle.civl_movers.specs.Ends.{TellsAlike};
+ghost use Rattle.civl_movers.specs.inner.Ends.{TellsAlike};
 
 use crate::sequence::Sequence;
 use civl_states::formula_parts::{all_of, all_same};

@@ -15,7 +15,7 @@ use Rattle.civl_tree.proofs.First.{first_is_answer, in_order}
 use Rattle.civl_tree.proofs.Ordered.{where_in_order}
 use Rattle.civl_names.proofs.walks.Walking.{or_first, first_append}
 use Rattle.civl_names.proofs.walks.Placing.{no_invariants, no_threads}
-use Rattle.civl_names.specs.NameSets.{first_twice}
+use Rattle.civl_names.specs.inner.NameSets.{first_twice}
 
 -- E10 asks nothing of the header, `init`, the invariants and the threads
 twice_places : (program : Program) → places_of twice_rule program ≡ each_place (global_places twice_rule program) 0 program.globals ++ (each_place (action_places twice_rule program) 0 program.actions ++ each_place (proc_places twice_rule program) 0 program.procs)

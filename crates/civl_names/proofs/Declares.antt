@@ -15,7 +15,7 @@ use Rattle.civl_tree.specs.rules.Names.{has_name, global_names, action_names, pr
 use Rattle.civl_tree.specs.rules.Codes.{E10}
 use Rattle.civl_tree.specs.rules.Rules.{item_place, statement_places, global_places, action_places, proc_places, refusal_at, first_of}
 use Rattle.civl_tree.specs.rules.Typing.{twice_rule}
-use Rattle.civl_names.specs.NameSets.{with_name}
+use Rattle.civl_names.specs.inner.NameSets.{with_name}
 use Rattle.civl_names.proofs.Repeats.{with_new, names_more}
 
 -- a place among items, and among the same under another name

@@ -6,7 +6,7 @@ use Rattle.std.specs.List.{list_any}
 use Rattle.std.specs.Str.{bytes_eq}
 use Rattle.civl_tree.specs.declared.name.Name.{Name}
 use Rattle.civl_tree.specs.rules.Names.{has_name, same_name}
-use Rattle.civl_names.specs.NameSets.{with_name}
+use Rattle.civl_names.specs.inner.NameSets.{with_name}
 use Rattle.civl_names.proofs.Lists.{any_map}
 
 abbrev pub name_of : Bor (List ℕ) → Name

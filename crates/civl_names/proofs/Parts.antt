@@ -14,7 +14,7 @@ use Rattle.std.specs.Option.{option_or}
 use Rattle.civl_tree.specs.declared.name.Name.{Name}
 use Rattle.civl_tree.specs.rules.Names.{global_names, action_names, proc_names}
 use Rattle.civl_names.proofs.walks.Placing.{no_globals}
-use Rattle.civl_names.specs.Strange.{Declared, declared_by, inner_names, global_strange, stmt_strange, strange_rule, first_strange}
+use Rattle.civl_names.specs.inner.Strange.{Declared, declared_by, inner_names, global_strange, stmt_strange, strange_rule, first_strange}
 use Rattle.civl_names.proofs.Same.{numbers_same, each_same}
 use Rattle.civl_names.proofs.Strangers.{init_is, invariant_is, action_is, refines_is, stmt_is, thread_is}
 

@@ -7,7 +7,7 @@ use Rattle.std.proofs.lemmas.Bool.{or_parts, or_from, or_right, or_left}
 use Rattle.civl_tree.specs.declared.name.Name.{Name}
 use Rattle.civl_tree.specs.rules.Names.{has_name, same_name, any_twice}
 use Rattle.civl_tree.proofs.Naming.{same_name_sym}
-use Rattle.civl_names.specs.NameSets.{with_name}
+use Rattle.civl_names.specs.inner.NameSets.{with_name}
 
 -- ---- names
 

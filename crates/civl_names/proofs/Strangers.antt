@@ -28,9 +28,9 @@ use Rattle.civl_tree.specs.rules.Names.{names_in_proc, targets_of, action_names,
 use Rattle.civl_tree.specs.rules.Uses.{Use, truth_use, target_use, argument_uses, taken_sorts, chosen_sorts, init_uses, invariant_uses, update_sort, with_uses, form_uses}
 use Rattle.civl_tree.specs.rules.Unknown.{any_unknown, target_unknown, action_unknown, refined_unknown, place_unknown, form_unknown, stmt_unknown, thread_unknown}
 use Rattle.civl_tree.proofs.Naming.{same_name_sym, same_is}
-use Rattle.civl_names.specs.Strange.{Declared, declared_by, Inner, inner_names, own_names, global_strange, invariant_strange, targets_strange, guard_strange, action_strange, refines_strange, body_strange, note_strange, arguments_strange, results_strange, call_strange, form_strange, stmt_strange, thread_strange}
-use Rattle.civl_names.specs.NameSets.{with_name, with_names, set_of}
-use Rattle.civl_names.specs.InScope.{known_step, all_known, any_strange}
+use Rattle.civl_names.specs.inner.Strange.{Declared, declared_by, Inner, inner_names, own_names, global_strange, invariant_strange, targets_strange, guard_strange, action_strange, refines_strange, body_strange, note_strange, arguments_strange, results_strange, call_strange, form_strange, stmt_strange, thread_strange}
+use Rattle.civl_names.specs.inner.NameSets.{with_name, with_names, set_of}
+use Rattle.civl_names.specs.inner.InScope.{known_step, all_known, any_strange}
 use Rattle.std.proofs.lemmas.List.Folds.{list_any-append}
 use Rattle.std.proofs.Math.Bool.{or_assoc, or-false}
 use Rattle.civl_names.proofs.Lists.{any_map}

@@ -9,8 +9,8 @@ use Rattle.civl_tree.specs.declared.refusal.Refusal.{Refusal}
 use Rattle.civl_tree.specs.rules.Names.{param_names}
 use Rattle.civl_tree.specs.rules.Codes.{E11}
 use Rattle.civl_tree.specs.rules.Rules.{each_place, refusal_at, first_of}
-use Rattle.civl_names.specs.NameSets.{with_names, set_of}
-use Rattle.civl_names.specs.Strange.{Declared, targets_strange, gate_strange, guard_strange, action_strange, broken_items}
+use Rattle.civl_names.specs.inner.NameSets.{with_names, set_of}
+use Rattle.civl_names.specs.inner.Strange.{Declared, targets_strange, gate_strange, guard_strange, action_strange, broken_items}
 
 -- ---- an action, by lists that are the names in its scopes
 

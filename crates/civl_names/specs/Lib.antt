@@ -1,4 +1,2 @@
-pub mod NameSets
-pub mod InScope
-pub mod Strange
 pub mod walks
+pub mod inner

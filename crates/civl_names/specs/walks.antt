@@ -1,4 +1,3 @@
 pub mod Walks
 pub mod First
-pub mod Walked
 pub mod Judged

@@ -6,7 +6,7 @@ ghost use Rattle.civl_tree.specs.rules.Codes.{E10};
 ghost use Rattle.civl_tree.specs.rules.Rules.{global_places, action_places, proc_places, refusal_at, first_of};
 ghost use Rattle.civl_tree.specs.rules.Typing.{twice_rule};
 ghost use Rattle.civl_tree.specs.Numbered.{IsNumbered};
-ghost use Rattle.civl_names.specs.NameSets.{names_in, first_twice, Declares};
+ghost use Rattle.civl_names.specs.inner.NameSets.{names_in, first_twice, Declares};
 
 use crate::name_set::NameSet;
 use crate::twice::{action_twice, first_doubled, proc_twice};

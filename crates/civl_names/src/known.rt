@@ -1,7 +1,7 @@
 // The names in scope at the places of expressions.
 ghost use Rattle.std.specs.Prelude.{◌≡◌};
 ghost use Rattle.civl_tree.specs.rules.Names.{has_name};
-ghost use Rattle.civl_names.specs.InScope.{names_of, olds_of, all_known, any_strange};
+ghost use Rattle.civl_names.specs.inner.InScope.{names_of, olds_of, all_known, any_strange};
 
 use crate::name_set::NameSet;
 use civl_tree::{Expr, Name};

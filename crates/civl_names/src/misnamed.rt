@@ -5,8 +5,8 @@ ghost use Rattle.civl_tree.specs.rules.Broken.{IsRefusal};
 ghost use Rattle.civl_tree.specs.rules.Names.{global_names, action_names, proc_names};
 ghost use Rattle.civl_tree.specs.rules.Rules.{refusals_of, refusal_by, first_of};
 ghost use Rattle.civl_tree.specs.rules.Typing.{twice_rule, unknown_rule};
-ghost use Rattle.civl_names.specs.NameSets.{names_in};
-ghost use Rattle.civl_names.specs.Strange.{declared_in, first_strange};
+ghost use Rattle.civl_names.specs.inner.NameSets.{names_in};
+ghost use Rattle.civl_names.specs.inner.Strange.{declared_in, first_strange};
 
 use crate::declare::{declare_actions, declare_globals, declare_procs};
 use crate::known::{Scope, all_known};

@@ -1,7 +1,7 @@
 // Sets of names.
 ghost use Rattle.std.specs.Prelude.{◌≡◌, [], IfOk, OnOk};
 ghost use Rattle.civl_tree.specs.rules.Names.{has_name};
-ghost use Rattle.civl_names.specs.NameSets.{names_in, with_name};
+ghost use Rattle.civl_names.specs.inner.NameSets.{names_in, with_name};
 
 use civl_tree::{Memory, Name};
 use indexmap::IndexSet;

@@ -3,7 +3,7 @@ ghost use Rattle.std.specs.Prelude.{◌≡◌, [], ◌++◌, map, true, false, I
 ghost use Rattle.std.specs.List.{list_any};
 ghost use Rattle.civl_tree.specs.declared.name.Name.{Name};
 ghost use Rattle.civl_tree.specs.rules.Names.{has_name, any_twice};
-ghost use Rattle.civl_names.specs.NameSets.{names_in, with_names, set_of, IsAdded};
+ghost use Rattle.civl_names.specs.inner.NameSets.{names_in, with_names, set_of, IsAdded};
 
 use crate::name_set::NameSet;
 use civl_tree::{Choice, Local, Memory, Name, Param, Update};

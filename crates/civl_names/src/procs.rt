@@ -3,8 +3,8 @@ ghost use Rattle.std.specs.Prelude.{◌≡◌, ◌<◌, ◌^◌, Some, IfOk, if�
 ghost use Rattle.civl_tree.specs.Numbering.{no_statement, sizes_of};
 ghost use Rattle.civl_tree.specs.rules.Names.{param_names};
 ghost use Rattle.civl_tree.specs.rules.Rules.{statements_where, first_of};
-ghost use Rattle.civl_names.specs.NameSets.{names_in, set_of};
-ghost use Rattle.civl_names.specs.Strange.{declared_in, own_names, inner_names, inner_in, refines_strange, body_strange, note_strange, arguments_strange, results_strange, call_strange, stmt_strange, strange_rule};
+ghost use Rattle.civl_names.specs.inner.NameSets.{names_in, set_of};
+ghost use Rattle.civl_names.specs.inner.Strange.{declared_in, own_names, inner_names, inner_in, refines_strange, body_strange, note_strange, arguments_strange, results_strange, call_strange, stmt_strange, strange_rule};
 
 use crate::known::{Own, Scope, all_known, any_strange};
 use crate::name_set::NameSet;

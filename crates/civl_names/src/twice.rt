@@ -5,7 +5,7 @@ ghost use Rattle.civl_tree.specs.Numbering.{statements_of};
 ghost use Rattle.civl_tree.specs.rules.Names.{has_name, any_twice, names_in_action, names_in_proc, targets_of};
 ghost use Rattle.civl_tree.specs.rules.Twice.{stmt_twice};
 ghost use Rattle.civl_tree.specs.rules.Rules.{numbers_where, first_of};
-ghost use Rattle.civl_names.specs.NameSets.{names_in, declared_in};
+ghost use Rattle.civl_names.specs.inner.NameSets.{names_in, declared_in};
 
 use crate::name_set::NameSet;
 use crate::named::{any_in, any_twice, any_twice_in};

@@ -4,9 +4,9 @@ ghost use Rattle.std.specs.List.{list_any};
 ghost use Rattle.civl_tree.specs.rules.Names.{has_name, param_names};
 ghost use Rattle.civl_tree.specs.rules.Codes.{E11};
 ghost use Rattle.civl_tree.specs.rules.Rules.{each_place, refusal_at, first_of};
-ghost use Rattle.civl_names.specs.NameSets.{names_in, set_of};
-ghost use Rattle.civl_names.specs.InScope.{names_of, olds_of, all_known};
-ghost use Rattle.civl_names.specs.Strange.{Declared, declared_in, broken_items, invariant_strange, gate_strange, guard_strange, action_strange, thread_strange};
+ghost use Rattle.civl_names.specs.inner.NameSets.{names_in, set_of};
+ghost use Rattle.civl_names.specs.inner.InScope.{names_of, olds_of, all_known};
+ghost use Rattle.civl_names.specs.inner.Strange.{Declared, declared_in, broken_items, invariant_strange, gate_strange, guard_strange, action_strange, thread_strange};
 
 use crate::known::{Own, Scope, all_known, any_strange};
 use crate::name_set::NameSet;

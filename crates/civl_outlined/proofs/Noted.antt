@@ -24,7 +24,7 @@ use Rattle.civl_weighing.proofs.Capping.{weighs_same}
 use Rattle.civl_goals.specs.declared.spots.Spot.{Spot}
 use Rattle.civl_goals.specs.Spots.{spot_of}
 use Rattle.civl_outlined.specs.declared.notes.Notes.{Notes}
-use Rattle.civl_outlined.specs.Notes.{item_proc, weight_in, IsPut, IsMaybe, IsBefore, first_weight, AreNotes, IsNoted, IsAdded}
+use Rattle.civl_outlined.specs.inner.Notes.{item_proc, weight_in, IsPut, IsMaybe, IsBefore, first_weight, AreNotes, IsNoted, IsAdded}
 
 -- ---- items
 

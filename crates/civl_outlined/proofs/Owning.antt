@@ -18,7 +18,7 @@ use Rattle.civl_meaning.proofs.Finding.{among_here, among_inside}
 use Rattle.civl_meaning.proofs.Spots.{among_past}
 use Rattle.civl_meaning.proofs.Tables.{inside_by}
 use Rattle.civl_outlined.specs.declared.places.Place.{Place}
-use Rattle.civl_outlined.specs.Places.{spot_of, Own, ArePlaces}
+use Rattle.civl_outlined.specs.inner.Places.{spot_of, Own, ArePlaces}
 
 -- ---- lists
 

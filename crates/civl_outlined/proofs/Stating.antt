@@ -25,8 +25,8 @@ use Rattle.civl_outlined.proofs.Owning.{get_before, get_last}
 use Rattle.civl_outlined.specs.declared.places.Place.{Place}
 use Rattle.civl_outlined.specs.declared.statements.StatementSums.{StatementSums}
 use Rattle.civl_outlined.specs.declared.roots.ProcSums.{ProcSums}
-use Rattle.civl_outlined.specs.Places.{spot_of, ArePlaces}
-use Rattle.civl_outlined.specs.Sums.{OfStatement, IsThere, AreThere, OfProc, HasProc, AreProcs}
+use Rattle.civl_outlined.specs.inner.Places.{spot_of, ArePlaces}
+use Rattle.civl_outlined.specs.inner.Sums.{OfStatement, IsThere, AreThere, OfProc, HasProc, AreProcs}
 
 -- a number of a statement by its form
 pub of_form : (f : Stmt-F Stmt → ℕ) (s : Stmt) (l : Stmt-F Stmt) {w : Weight} → out-Stmt s ≡ l → Weighs w (f l) → Weighs w (f (out-Stmt s))

@@ -31,8 +31,8 @@ use Rattle.civl_weights.proofs.Groups.{instances}
 use Rattle.civl_outlined.specs.declared.statements.StatementSums.{StatementSums}
 use Rattle.civl_outlined.specs.declared.roots.ProcSums.{ProcSums}
 use Rattle.civl_outlined.specs.declared.weights.Sums.{Sums}
-use Rattle.civl_outlined.specs.Said.{IsSaid}
-use Rattle.civl_outlined.specs.Sums.{OfSums, HasProc, IsThere, AreProcs, IsOfRoot, OfFound}
+use Rattle.civl_outlined.specs.inner.Said.{IsSaid}
+use Rattle.civl_outlined.specs.inner.Sums.{OfSums, HasProc, IsThere, AreProcs, IsOfRoot, OfFound}
 
 module _ (program : Program) (outline : Outline) where
   -- ---- beginnings

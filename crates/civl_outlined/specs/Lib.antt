@@ -1,5 +1,2 @@
 pub mod Outlined
-pub mod Places
-pub mod Notes
-pub mod Said
-pub mod Sums
+pub mod inner

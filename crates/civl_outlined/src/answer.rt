@@ -7,7 +7,7 @@ ghost use Rattle.civl_conditions.specs.Weights.{weight_limit};
 ghost use Rattle.civl_goals.specs.Listed.{goals};
 ghost use Rattle.civl_goals.specs.Weights.{weight, heavy};
 ghost use Rattle.civl_outlined.specs.Outlined.{Fits, IsFault, IsMisfit};
-ghost use Rattle.civl_outlined.specs.Sums.{OfSums, NamesRoots};
+ghost use Rattle.civl_outlined.specs.inner.Sums.{OfSums, NamesRoots};
 
 use crate::weights::{Sums, weigh, work_out};
 use civl_goals::{Goal, first_descending, first_unfit, goals};

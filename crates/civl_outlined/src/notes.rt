@@ -4,7 +4,7 @@ ghost use Rattle.std.specs.Option.{option_copied};
 ghost use Rattle.civl_tree.specs.Numbered.{IsNumbered};
 ghost use Rattle.civl_tree.specs.Numbering.{proc_item};
 ghost use Rattle.civl_goals.specs.declared.spots.Spot.{Spot as Place};
-ghost use Rattle.civl_outlined.specs.Notes.{item_proc, weight_in, IsPut, IsNoted, IsAdded, AreNotes, IsBefore};
+ghost use Rattle.civl_outlined.specs.inner.Notes.{item_proc, weight_in, IsPut, IsNoted, IsAdded, AreNotes, IsBefore};
 
 use civl_goals::{Spot, spot_of};
 use civl_outlines::Note;

@@ -2,7 +2,7 @@
 ghost use Rattle.std.specs.Prelude.{◌≡◌, ◌+◌, ◌<◌, ◌^◌, ◌++◌, map, length, nat_lt, if◌then◌else◌, IfOk, OnOk};
 ghost use Rattle.civl_tree.specs.Numbering.{size_of, sizes_of, inner_of, statements_of};
 ghost use Rattle.civl_meaning.specs.Places.{spot_among, inside_of};
-ghost use Rattle.civl_outlined.specs.Places.{Own, ArePlaces};
+ghost use Rattle.civl_outlined.specs.inner.Places.{Own, ArePlaces};
 
 use crate::sizes::{size, sizes};
 use civl_tree::{List, Memory, Stmt};

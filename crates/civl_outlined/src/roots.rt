@@ -12,9 +12,9 @@ ghost use Rattle.civl_goals.specs.Listed.{is_root};
 ghost use Rattle.civl_goals.specs.Variables.{of_names};
 ghost use Rattle.civl_weighing.specs.Weighing.{Weighs};
 ghost use Rattle.civl_weights.specs.sums.Sums.{OfAction};
-ghost use Rattle.civl_outlined.specs.Places.{ArePlaces};
-ghost use Rattle.civl_outlined.specs.Said.{IsSaid, IsOf};
-ghost use Rattle.civl_outlined.specs.Sums.{AreThere, OfProc, AreProcs};
+ghost use Rattle.civl_outlined.specs.inner.Places.{ArePlaces};
+ghost use Rattle.civl_outlined.specs.inner.Said.{IsSaid, IsOf};
+ghost use Rattle.civl_outlined.specs.inner.Sums.{AreThere, OfProc, AreProcs};
 
 use crate::places::{Place, places_of};
 use crate::said::Said;

@@ -5,7 +5,7 @@ ghost use Rattle.civl_tree.specs.Numbering.{proc_item};
 ghost use Rattle.civl_meaning.specs.Meaning.{proc_number};
 ghost use Rattle.civl_goals.specs.Weights.{note_before_weight, first_note_weight};
 ghost use Rattle.civl_weighing.specs.Weighing.{Weighs};
-ghost use Rattle.civl_outlined.specs.Said.{IsSaid, IsOf};
+ghost use Rattle.civl_outlined.specs.inner.Said.{IsSaid, IsOf};
 
 use crate::notes::{Notes, first_item, notes_of};
 use civl_goals::Spot;

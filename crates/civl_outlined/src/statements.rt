@@ -8,8 +8,8 @@ ghost use Rattle.civl_goals.specs.Failed.{held_before};
 ghost use Rattle.civl_goals.specs.Weights.{form_weight, form_begins, form_reaches, once, summed_at, note_before_weight};
 ghost use Rattle.civl_weighing.specs.Weighing.{Weighs};
 ghost use Rattle.civl_weights.specs.sums.Sums.{OfAction};
-ghost use Rattle.civl_outlined.specs.Said.{IsSaid};
-ghost use Rattle.civl_outlined.specs.Sums.{OfStatement};
+ghost use Rattle.civl_outlined.specs.inner.Said.{IsSaid};
+ghost use Rattle.civl_outlined.specs.inner.Sums.{OfStatement};
 
 use crate::said::{Said, first_note, note_before};
 use crate::sizes::sizes;

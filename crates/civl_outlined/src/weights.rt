@@ -12,8 +12,8 @@ ghost use Rattle.civl_goals.specs.Weights.{weight, first_note_weight};
 ghost use Rattle.civl_weighing.specs.Weighing.{Weighs};
 ghost use Rattle.civl_weights.specs.sums.Sums.{OfAction};
 ghost use Rattle.civl_weights.specs.Kinds.{instance_bits};
-ghost use Rattle.civl_outlined.specs.Said.{IsSaid, IsOf};
-ghost use Rattle.civl_outlined.specs.Sums.{OfSums, IsOfRoot, NamesRoots, IsFound, AreTogether, IsVariables, IsStatementGoal, IsOther};
+ghost use Rattle.civl_outlined.specs.inner.Said.{IsSaid, IsOf};
+ghost use Rattle.civl_outlined.specs.inner.Sums.{OfSums, IsOfRoot, NamesRoots, IsFound, AreTogether, IsVariables, IsStatementGoal, IsOther};
 
 use crate::roots::{ProcSums, all_procs};
 use crate::said::{Said, first_note, weighed_outline};

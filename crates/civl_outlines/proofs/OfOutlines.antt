@@ -26,7 +26,7 @@ use Rattle.civl_outlines.specs.declared.outline.Note.{Note}
 use Rattle.civl_outlines.specs.declared.outline.Outline.{Outline}
 use Rattle.civl_outlines.specs.declared.reading.Saying.{Saying}
 use Rattle.civl_outlines.specs.SpellingOutline.{spell_hold, spell_note, spell_outline, OutlineHasSpelling}
-use Rattle.civl_outlines.specs.readers.Outlines.{hold_word, hold_at, note_word, make_note, note_at, make_saying, saying_at, make_outline, outline_text_at}
+use Rattle.civl_outlines.specs.inner.readers.Outlines.{hold_word, hold_at, note_word, make_note, note_at, make_saying, saying_at, make_outline, outline_text_at}
 
 -- ---- holds and notes
 

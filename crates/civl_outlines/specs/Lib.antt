@@ -1,3 +1,4 @@
 pub mod SpellingOutline
 pub mod Reading
 pub mod readers
+pub mod inner

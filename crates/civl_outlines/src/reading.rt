@@ -2,7 +2,7 @@
 ghost use Rattle.std.specs.Prelude.{[]};
 ghost use Rattle.civl_lex.specs.Spelled.{spelled};
 ghost use Rattle.civl_phrases.specs.Reader.{Gives, begins};
-ghost use Rattle.civl_outlines.specs.readers.Outlines.{hold_word, hold_at, note_word, note_at, saying_at, outline_text_at};
+ghost use Rattle.civl_outlines.specs.inner.readers.Outlines.{hold_word, hold_at, note_word, note_at, saying_at, outline_text_at};
 ghost use Rattle.civl_outlines.specs.Reading.{OutlineParses, OutlineIsOnly};
 
 use crate::outline::{Note, Outline};
@@ -15,7 +15,7 @@ use std::alloc::Global;
 
 // ---- holds
 
-#[tactic(auto, unfolding(crate::specs::readers::Outlines::hold_at, civl_phrases::specs::Reader::after))]
+#[tactic(auto, unfolding(crate::specs::inner::readers::Outlines::hold_at, civl_phrases::specs::Reader::after))]
 fn hold<'t, 'a>(
     alloc: Global,
     new: bool,
@@ -59,7 +59,7 @@ impl Headed for HoldPhrase {
 
 // ---- notes
 
-#[tactic(auto, unfolding(crate::specs::readers::Outlines::note_at, civl_phrases::specs::Reader::mapped, civl_phrases::specs::Reader::both, civl_phrases::specs::Reader::after))]
+#[tactic(auto, unfolding(crate::specs::inner::readers::Outlines::note_at, civl_phrases::specs::Reader::mapped, civl_phrases::specs::Reader::both, civl_phrases::specs::Reader::after))]
 fn note<'t, 'a>(
     alloc: Global,
     new: bool,
@@ -118,7 +118,7 @@ pub struct Saying {
     pub notes: List<Note>,
 }
 
-#[tactic(auto, unfolding(crate::specs::readers::Outlines::saying_at, civl_phrases::specs::Reader::mapped, civl_phrases::specs::Reader::both, civl_phrases::specs::Reader::after))]
+#[tactic(auto, unfolding(crate::specs::inner::readers::Outlines::saying_at, civl_phrases::specs::Reader::mapped, civl_phrases::specs::Reader::both, civl_phrases::specs::Reader::after))]
 fn read_saying(alloc: Global, new: bool, most: usize, tokens: &[Token<'_>]) -> Result<Saying, Halt>
     ensures { Gives (λ x. (x, [])) result (saying_at new most (spelled tokens.now)) }
 {
@@ -135,7 +135,7 @@ fn read_saying(alloc: Global, new: bool, most: usize, tokens: &[Token<'_>]) -> R
 ///
 /// - `NotHere` at the first token with which no outline goes on.
 /// - `Deep` at a bracket that may stand there and may not be opened.
-#[tactic(auto, unfolding(crate::specs::readers::Outlines::outline_text_at, civl_phrases::specs::Reader::mapped, civl_phrases::specs::Reader::both))]
+#[tactic(auto, unfolding(crate::specs::inner::readers::Outlines::outline_text_at, civl_phrases::specs::Reader::mapped, civl_phrases::specs::Reader::both))]
 fn outline_text(alloc: Global, most: usize, tokens: &[Token<'_>]) -> Result<Outline, Halt>
     ensures { Gives (λ x. (x, [])) result (outline_text_at most (spelled tokens.now)) }
 {

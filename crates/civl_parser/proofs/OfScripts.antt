@@ -22,7 +22,7 @@ use Rattle.civl_declarations.specs.readers.Actions.{action_word}
 use Rattle.civl_statements.specs.readers.Procs.{proc_word}
 use Rattle.civl_declarations.specs.readers.Declarations.{invariant_word, thread_word}
 use Rattle.civl_declarations.specs.readers.Steps.{move_word}
-use Rattle.civl_parser.specs.readers.Scripts.{make_schedule, schedule_at, make_script, script_text_at}
+use Rattle.civl_parser.specs.inner.readers.Scripts.{make_schedule, schedule_at, make_script, script_text_at}
 use Rattle.civl_expressions.proofs.Lists.{all_from, all_to}
 use Rattle.civl_parser.proofs.OfPrograms.{BeginsNone, program_then_is}
 use Rattle.civl_declarations.proofs.OfSteps.{FitsEntry, entry_is, FitsTold, step_is}

@@ -2,7 +2,7 @@
 ghost use Rattle.std.specs.Prelude.{[]};
 ghost use Rattle.civl_lex.specs.Spelled.{spelled};
 ghost use Rattle.civl_phrases.specs.Reader.{Gives};
-ghost use Rattle.civl_parser.specs.readers.Scripts.{schedule_at, script_text_at};
+ghost use Rattle.civl_parser.specs.inner.readers.Scripts.{schedule_at, script_text_at};
 ghost use Rattle.civl_parser.specs.Parsing.{ScriptParses, ScriptIsOnly};
 
 use crate::fault::ParseFault;
@@ -20,7 +20,7 @@ pub struct Schedule {
     pub moves: List<Told>,
 }
 
-#[tactic(auto, unfolding(crate::specs::readers::Scripts::schedule_at, civl_phrases::specs::Reader::mapped, civl_phrases::specs::Reader::both, civl_phrases::specs::Reader::after))]
+#[tactic(auto, unfolding(crate::specs::inner::readers::Scripts::schedule_at, civl_phrases::specs::Reader::mapped, civl_phrases::specs::Reader::both, civl_phrases::specs::Reader::after))]
 fn read_schedule(alloc: Global, most: usize, tokens: &[Token<'_>]) -> Result<Schedule, Halt>
     ensures { Gives (λ x. (x, [])) result (schedule_at most (spelled tokens.now)) }
 {
@@ -37,7 +37,7 @@ fn read_schedule(alloc: Global, most: usize, tokens: &[Token<'_>]) -> Result<Sch
 ///
 /// - `NotHere` at the first token with which no script goes on.
 /// - `Deep` at a bracket that may stand there and may not be opened.
-#[tactic(auto, unfolding(crate::specs::readers::Scripts::script_text_at, civl_phrases::specs::Reader::mapped, civl_phrases::specs::Reader::both))]
+#[tactic(auto, unfolding(crate::specs::inner::readers::Scripts::script_text_at, civl_phrases::specs::Reader::mapped, civl_phrases::specs::Reader::both))]
 pub fn script_text(alloc: Global, most: usize, tokens: &[Token<'_>]) -> Result<Script, Halt>
     ensures { Gives (λ x. (x, [])) result (script_text_at most (spelled tokens.now)) }
 {

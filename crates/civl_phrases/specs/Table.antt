@@ -1,4 +1,4 @@
--- Serves private functions, here and in parsers: tables of words and signs, and the forms that they tell.
+-- Tables of words and signs, and the forms that they tell, here and in parsers.
 use Rattle.std.specs.Prelude.{Bool, true, false, if◌then◌else◌, List, [], ◌∷◌, Option, Some, None}
 use Rattle.civl_tree.specs.Token.{Token}
 use Rattle.civl_phrases.specs.Reader.{is_same}

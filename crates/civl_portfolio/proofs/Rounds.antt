@@ -12,7 +12,7 @@ use Rattle.civl_portfolio.specs.Attempt.{IsCertificate, IsRefused}
 use Rattle.civl_portfolio.specs.Prover.{Meanings}
 use Rattle.civl_portfolio.specs.Fate.{Fate, asked_of, staying_of, gone_of}
 use Rattle.civl_portfolio.specs.Asked.{AnswersSo, IsRound, IsCutShort}
-use Rattle.civl_portfolio.specs.Heard.{WasAsked, IsPassed, IsLiar, IsCertified}
+use Rattle.civl_portfolio.specs.inner.Heard.{WasAsked, IsPassed, IsLiar, IsCertified}
 use Rattle.civl_portfolio.proofs.Fates.{asked_push, staying_push, gone_push, some_left}
 use Rattle.civl_portfolio.proofs.Rules.{FateSays, neither, all_once, all_honest, all_lacks, all_gone, all_stay, all_stay_but, asked_but, gone_but}
 

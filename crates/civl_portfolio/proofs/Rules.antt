@@ -13,7 +13,7 @@ use Rattle.civl_portfolio.specs.Attempt.{IsCertificate, IsRefused}
 use Rattle.civl_portfolio.specs.Prover.{Meanings}
 use Rattle.civl_portfolio.specs.Fate.{Fate}
 use Rattle.civl_portfolio.specs.Asked.{IsOutcome, AnswersSo, WhoIsAsked, WhoIsGone, WhoStays}
-use Rattle.civl_portfolio.specs.Heard.{WasAsked, IsPassed, IsLiar, IsProved, IsCertified}
+use Rattle.civl_portfolio.specs.inner.Heard.{WasAsked, IsPassed, IsLiar, IsProved, IsCertified}
 
 -- what was heard of a prover that was passed over, or that is gone
 abbrev pub AfterSays : {B : Type 0} → Option B → B → ClauseSet → ℕ → Meanings B → Type 0

@@ -11,7 +11,7 @@ use Rattle.civl_portfolio.specs.Attempt.{MakesTrue, IsCertificate, IsRefused}
 use Rattle.civl_portfolio.specs.Fate.{Fate, asked_of, in_front, staying_of}
 use Rattle.civl_outside.specs.Count.{count_up}
 use Rattle.civl_portfolio.specs.Asked.{IsOutcome, AnswersSo, IsRound}
-use Rattle.civl_portfolio.specs.Heard.{WasAsked, IsPassed, IsLiar, IsCertified}
+use Rattle.civl_portfolio.specs.inner.Heard.{WasAsked, IsPassed, IsLiar, IsCertified}
 use Rattle.civl_portfolio.specs.Laws.{CertificatesStandOrNot, Sample, idle, liar, right, samples, found, RoundsOverSamples}
 use Rattle.civl_portfolio.proofs.Fates.{some_left}
 use Rattle.civl_portfolio.proofs.Rules.{FateSays, all_stay_but, asked_but, gone_but}

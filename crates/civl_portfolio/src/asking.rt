@@ -4,7 +4,7 @@ ghost use Rattle.civl_cnf.specs.Literal.{Literal};
 ghost use Rattle.civl_rup.specs.Rup.{Refutes, Spends};
 ghost use Rattle.civl_portfolio.specs.Attempt.{MakesTrue};
 ghost use Rattle.civl_portfolio.specs.Asked.{IsRound, IsCutShort};
-ghost use Rattle.civl_portfolio.specs.Heard.{IsProved};
+ghost use Rattle.civl_portfolio.specs.inner.Heard.{IsProved};
 
 use crate::hearing::{Heard, ask_one};
 use crate::{Memory, Prover};

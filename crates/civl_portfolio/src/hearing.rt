@@ -1,6 +1,6 @@
 // Asking one prover.
 ghost use Rattle.std.specs.Prelude.{IfOk, OnErr};
-ghost use Rattle.civl_portfolio.specs.Heard.{HeardSays, WasAsked};
+ghost use Rattle.civl_portfolio.specs.inner.Heard.{HeardSays, WasAsked};
 
 use crate::{Attempt, Memory, Prover};
 use civl_cdcl::Outcome;

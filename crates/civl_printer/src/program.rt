@@ -4,7 +4,7 @@ ghost use Rattle.civl_tree.specs.Raised.{raised, raised_version};
 ghost use Rattle.civl_tree.specs.SpellingProgram.{spell_program};
 ghost use Rattle.civl_tree.specs.SpellingText.{canonical_text};
 ghost use Rattle.civl_printing.specs.Written.{written};
-ghost use Rattle.civl_printer.specs.Parts.{header_number, header_of, declarations_of};
+ghost use Rattle.civl_printer.specs.inner.Parts.{header_number, header_of, declarations_of};
 
 use civl_printing::declarations::put_init;
 use civl_printing::phrases::put_each;
@@ -20,7 +20,7 @@ fn printed_version(version: u32) -> u32
 }
 
 /// A word of the header, and then `number ;`
-#[tactic(auto, using(civl_printing::proofs::Writing::joins), unfolding(crate::specs::Parts::header_number))]
+#[tactic(auto, using(civl_printing::proofs::Writing::joins), unfolding(crate::specs::inner::Parts::header_number))]
 fn put_header_number(out: &mut Vec<u8>, word: &[u8], number: u32) -> Result<(), Memory>
     ensures { OnOk result (out.new.items ≡ out.old.items ++ written (header_number word.now number)) }
 {
@@ -30,7 +30,7 @@ fn put_header_number(out: &mut Vec<u8>, word: &[u8], number: u32) -> Result<(), 
 }
 
 /// `civl number ; layers number ; permissions number ;`
-#[tactic(auto, using(civl_printing::proofs::Writing::joins), unfolding(crate::specs::Parts::header_of))]
+#[tactic(auto, using(civl_printing::proofs::Writing::joins), unfolding(crate::specs::inner::Parts::header_of))]
 fn put_header(out: &mut Vec<u8>, program: &Program) -> Result<(), Memory>
     ensures { OnOk result (out.new.items ≡ out.old.items ++ written (header_of program.now)) }
 {
@@ -40,7 +40,7 @@ fn put_header(out: &mut Vec<u8>, program: &Program) -> Result<(), Memory>
 }
 
 /// `global* init invariant* action* proc* thread*`
-#[tactic(auto, using(civl_printing::proofs::Writing::joins), unfolding(crate::specs::Parts::declarations_of))]
+#[tactic(auto, using(civl_printing::proofs::Writing::joins), unfolding(crate::specs::inner::Parts::declarations_of))]
 fn put_declarations(out: &mut Vec<u8>, program: &Program) -> Result<(), Memory>
     ensures { OnOk result (out.new.items ≡ out.old.items ++ written (declarations_of program.now)) }
 {

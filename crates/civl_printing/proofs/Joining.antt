@@ -7,7 +7,7 @@ use Rattle.civl_tree.specs.declared.program.Proc.{Proc}
 use Rattle.civl_tree.specs.Token.{Token, Reserved}
 use Rattle.civl_tree.specs.Spelling.{semicolon, colon, arrow, name_token, enclosed, spell_sort, spell_expr}
 use Rattle.civl_tree.specs.SpellingProgram.{mover_token, spell_param, spell_out, spell_rank_of, spell_global, spell_action, spell_proc}
-use Rattle.civl_printing.specs.Parts.{signature, choices_of, layers_of, conditions, updates_of, body_of, linear_of}
+use Rattle.civl_printing.specs.inner.Parts.{signature, choices_of, layers_of, conditions, updates_of, body_of, linear_of}
 
 -- two phrases with a token between them, and what follows
 between : (xs ys zs : List Token) (token : Token) → (xs ++ (token ∷ ys)) ++ zs ≡ xs ++ (token ∷ (ys ++ zs))

@@ -1,4 +1,4 @@
--- Serves private functions: what is written of tokens, their canonical text, in words that stay folded in clauses.
+-- What is written of tokens, their canonical text, in words that stay folded in clauses.
 use Rattle.std.specs.Prelude.{ℕ, List}
 use Rattle.civl_tree.specs.Token.{Token}
 use Rattle.civl_tree.specs.SpellingText.{canonical_token, canonical_text}

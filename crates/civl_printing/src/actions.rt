@@ -3,7 +3,7 @@ ghost use Rattle.std.specs.Prelude.{◌≡◌, ◌∷◌, ◌++◌, OnOk};
 ghost use Rattle.civl_tree.specs.Spelling.{colon, name_token, spell_sort};
 ghost use Rattle.civl_tree.specs.SpellingProgram.{mode_token, mover_token, spell_param, spell_choice, spell_update, spell_action};
 ghost use Rattle.civl_printing.specs.Written.{written, written_token};
-ghost use Rattle.civl_printing.specs.Parts.{signature, choices_of, layers_of, conditions, updates_of};
+ghost use Rattle.civl_printing.specs.inner.Parts.{signature, choices_of, layers_of, conditions, updates_of};
 
 use crate::expressions::{put_expr, put_sort};
 use crate::phrases::{Phrase, put_each, put_list};
@@ -78,7 +78,7 @@ impl Phrase for Update {
 }
 
 /// `name ( list(param) ) -> ( list(out) )`
-#[tactic(auto, using(crate::proofs::Writing::joins), unfolding(crate::specs::Parts::signature))]
+#[tactic(auto, using(crate::proofs::Writing::joins), unfolding(crate::specs::inner::Parts::signature))]
 pub(crate) fn put_signature(
     out: &mut Vec<u8>,
     name: &Name,
@@ -94,7 +94,7 @@ pub(crate) fn put_signature(
 }
 
 /// `layers number to number`
-#[tactic(auto, using(crate::proofs::Writing::joins), unfolding(crate::specs::Parts::layers_of))]
+#[tactic(auto, using(crate::proofs::Writing::joins), unfolding(crate::specs::inner::Parts::layers_of))]
 pub(crate) fn put_layers(out: &mut Vec<u8>, first: u32, last: u32) -> Result<(), Memory>
     ensures { OnOk result (out.new.items ≡ out.old.items ++ written (layers_of first last)) }
 {
@@ -105,7 +105,7 @@ pub(crate) fn put_layers(out: &mut Vec<u8>, first: u32, last: u32) -> Result<(),
 }
 
 /// `gate expr guard expr`
-#[tactic(auto, using(crate::proofs::Writing::joins), unfolding(crate::specs::Parts::conditions))]
+#[tactic(auto, using(crate::proofs::Writing::joins), unfolding(crate::specs::inner::Parts::conditions))]
 fn put_conditions(out: &mut Vec<u8>, gate: &Expr, guard: &Expr) -> Result<(), Memory>
     ensures { OnOk result (out.new.items ≡ out.old.items ++ written (conditions gate.now guard.now)) }
 {
@@ -116,7 +116,7 @@ fn put_conditions(out: &mut Vec<u8>, gate: &Expr, guard: &Expr) -> Result<(), Me
 }
 
 /// `choose ( list(choice) )`
-#[tactic(auto, using(crate::proofs::Writing::joins), unfolding(crate::specs::Parts::choices_of))]
+#[tactic(auto, using(crate::proofs::Writing::joins), unfolding(crate::specs::inner::Parts::choices_of))]
 fn put_choices(out: &mut Vec<u8>, choices: &List<Choice>) -> Result<(), Memory>
     ensures { OnOk result (out.new.items ≡ out.old.items ++ written (choices_of choices.now)) }
 {
@@ -125,7 +125,7 @@ fn put_choices(out: &mut Vec<u8>, choices: &List<Choice>) -> Result<(), Memory>
 }
 
 /// `{ update* }`
-#[tactic(auto, using(crate::proofs::Writing::joins), unfolding(crate::specs::Parts::updates_of))]
+#[tactic(auto, using(crate::proofs::Writing::joins), unfolding(crate::specs::inner::Parts::updates_of))]
 fn put_updates(out: &mut Vec<u8>, updates: &List<Update>) -> Result<(), Memory>
     ensures { OnOk result (out.new.items ≡ out.old.items ++ written (updates_of updates.now)) }
 {

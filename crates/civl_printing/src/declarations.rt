@@ -2,7 +2,7 @@
 ghost use Rattle.std.specs.Prelude.{◌≡◌, ◌++◌, OnOk};
 ghost use Rattle.civl_tree.specs.SpellingProgram.{spell_global, spell_init, spell_invariant, spell_thread};
 ghost use Rattle.civl_printing.specs.Written.{written};
-ghost use Rattle.civl_printing.specs.Parts.{linear_of};
+ghost use Rattle.civl_printing.specs.inner.Parts.{linear_of};
 
 use crate::actions::{put_layers, put_typed};
 use crate::expressions::put_expr;

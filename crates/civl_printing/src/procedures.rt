@@ -2,7 +2,7 @@
 ghost use Rattle.std.specs.Prelude.{◌≡◌, ◌++◌, OnOk, Some};
 ghost use Rattle.civl_tree.specs.SpellingProgram.{local_token, spell_rank_of, spell_local, spell_proc};
 ghost use Rattle.civl_printing.specs.Written.{written, written_token};
-ghost use Rattle.civl_printing.specs.Parts.{body_of};
+ghost use Rattle.civl_printing.specs.inner.Parts.{body_of};
 
 use crate::actions::{put_signature, put_typed};
 use crate::phrases::{Phrase, put_each, put_list};
@@ -58,7 +58,7 @@ impl Phrase for Local {
 }
 
 /// `{ local* stmt* }`
-#[tactic(auto, using(crate::proofs::Writing::joins), unfolding(crate::specs::Parts::body_of))]
+#[tactic(auto, using(crate::proofs::Writing::joins), unfolding(crate::specs::inner::Parts::body_of))]
 fn put_body(out: &mut Vec<u8>, locals: &List<Local>, body: &List<Stmt>) -> Result<(), Memory>
     ensures { OnOk result (out.new.items ≡ out.old.items ++ written (body_of locals.now body.now)) }
 {

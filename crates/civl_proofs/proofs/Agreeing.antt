@@ -11,7 +11,7 @@ use Rattle.civl_cnf.specs.Literal.{Literal}
 use Rattle.civl_cnf.specs.ClauseSet.{ClauseSet}
 use Rattle.civl_proofs.specs.declared.reading.Spot.TheVariants.{First}
 use Rattle.civl_proofs.specs.Text.{is_blank, IsHeader, most_variables, most_clauses}
-use Rattle.civl_proofs.specs.Reading.{IsWithin, no_draft, counted, State, Opening, Remark, Title, Variables, Count, Setting, parts_words, meets, after_title, in_title, in_variables, in_count, step}
+use Rattle.civl_proofs.specs.inner.Reading.{IsWithin, no_draft, counted, State, Opening, Remark, Title, Variables, Count, Setting, parts_words, meets, after_title, in_title, in_variables, in_count, step}
 use Rattle.civl_proofs.proofs.Words.{is_dense}
 use Rattle.civl_proofs.proofs.Numbers.{digits_of, counted_some, counted_none, counted_digit, no_blank, decimal_dense, has_first}
 use Rattle.civl_proofs.proofs.Decoding.{cons_once, cons_some, later_some}

@@ -6,7 +6,7 @@ use Rattle.civl_cnf.specs.ClauseSet.{ClauseSet}
 use Rattle.civl_proofs.specs.declared.fault.CertificateFault.{CertificateFault}
 use Rattle.civl_proofs.specs.declared.fault.CertificateFault.TheVariants.{At, Memory}
 use Rattle.civl_proofs.specs.Text.{IsCertificate, IsFirstFault}
-use Rattle.civl_proofs.specs.Reading.{Opening, Certificate, outcome, IsReadAs, IsStuck}
+use Rattle.civl_proofs.specs.inner.Reading.{Opening, Certificate, outcome, IsReadAs, IsStuck}
 use Rattle.civl_proofs.proofs.Outcomes.{certificate_read, read_certificate, read_fault, one_answer, ok_once, made}
 
 -- it stops just where it says

@@ -12,7 +12,7 @@ use Rattle.civl_cnf.specs.ClauseSet.{IsBelow, AreBelow}
 use Rattle.civl_proofs.specs.declared.word.Word.{Word}
 use Rattle.civl_proofs.specs.declared.word.Word.TheVariants.{Empty, Minus, Zero, Number}
 use Rattle.civl_proofs.specs.Text.{is_blank, sign_of, literal_word, clause_words, all_words, words_of}
-use Rattle.civl_proofs.specs.Reading.{IsSoundWord, Draft, no_draft, literal, typed, ended, ended_as, extended}
+use Rattle.civl_proofs.specs.inner.Reading.{IsSoundWord, Draft, no_draft, literal, typed, ended, ended_as, extended}
 use Rattle.civl_proofs.proofs.Words.{is_dense, words_blank, words_whole, words_ended}
 use Rattle.civl_proofs.proofs.Numbers.{HasFirst, has_first, decimal_dense}
 use Rattle.civl_proofs.proofs.Decoding.{spelled, word_is}

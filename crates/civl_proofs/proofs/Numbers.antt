@@ -13,7 +13,7 @@ use Rattle.std.proofs.lemmas.List.{take_at, get_or_at, length-append}
 use Rattle.std.proofs.lemmas.List.Sums.{AllPass-from_list_all}
 use Rattle.std.proofs.lemmas.Str.Parse.{IsNumeralModel, IsDigitsTest, numerals_by_value, digits_value-take-le}
 use Rattle.civl_proofs.specs.Text.{is_blank}
-use Rattle.civl_proofs.specs.Reading.{with_digit, counted, IsWithin}
+use Rattle.civl_proofs.specs.inner.Reading.{with_digit, counted, IsWithin}
 use Rattle.civl_proofs.proofs.Words.{is_dense}
 
 abbrev pub AreDigits : List ℕ → Type 0

@@ -6,7 +6,7 @@ use Rattle.civl_cnf.specs.Literal.{Literal}
 use Rattle.civl_cnf.specs.ClauseSet.{ClauseSet}
 use Rattle.civl_proofs.specs.Text.{MayBeHeld, IsCertificate, IsWhole, BeginsWhole, IsFirstFault}
 use Rattle.civl_proofs.specs.Laws.{OneReading, OneAnswer}
-use Rattle.civl_proofs.specs.Reading.{State, Opening, step, end, Certificate, at_end, on_state, outcome}
+use Rattle.civl_proofs.specs.inner.Reading.{State, Opening, step, end, Certificate, at_end, on_state, outcome}
 use Rattle.civl_proofs.proofs.Words.{parted}
 use Rattle.civl_proofs.proofs.Resting.{IsRest, IsSound, IsOpeningRest, certificate_rest, rest_certificate}
 use Rattle.civl_proofs.proofs.Agreeing.{Agrees}

@@ -11,7 +11,7 @@ use Rattle.civl_proofs.specs.declared.word.Word.TheVariants.{Empty}
 use Rattle.civl_proofs.specs.declared.reading.Spot.{Spot}
 use Rattle.civl_proofs.specs.declared.reading.Spot.TheVariants.{First, Inside, Comment}
 use Rattle.civl_proofs.specs.Text.{is_blank, is_comment, words_of, lines_of, all_words, IsHeader, MayBeHeld, IsCertificate, most_variables, most_clauses}
-use Rattle.civl_proofs.specs.Reading.{IsWithin, Draft, State, Opening, Remark, Title, Variables, Count, Setting, Keyword, Logging}
+use Rattle.civl_proofs.specs.inner.Reading.{IsWithin, Draft, State, Opening, Remark, Title, Variables, Count, Setting, Keyword, Logging}
 use Rattle.civl_proofs.proofs.Numbers.{digits_of}
 use Rattle.civl_proofs.proofs.Decoding.{cons_once}
 use Rattle.civl_proofs.proofs.Typing.{text_of}

@@ -12,7 +12,7 @@ use Rattle.civl_proofs.specs.declared.word.Word.TheVariants.{Empty}
 use Rattle.civl_proofs.specs.declared.reading.Spot.{Spot}
 use Rattle.civl_proofs.specs.declared.reading.Spot.TheVariants.{First, Inside, Comment}
 use Rattle.civl_proofs.specs.Text.{is_blank, words_of, all_words, MayBeHeld, most_variables}
-use Rattle.civl_proofs.specs.Reading.{Draft, no_draft, ended, extended, Setting, Keyword, Logging, spot_after, in_line, in_set, in_keyword, in_log}
+use Rattle.civl_proofs.specs.inner.Reading.{Draft, no_draft, ended, extended, Setting, Keyword, Logging, spot_after, in_line, in_set, in_keyword, in_log}
 use Rattle.civl_proofs.proofs.Words.{words_begun}
 use Rattle.civl_proofs.proofs.Numbers.{no_blank}
 use Rattle.civl_proofs.proofs.Decoding.{cons_once, cons_some, small_clause, small_clauses, word_left, all_there, word_is}

@@ -1,7 +1,7 @@
 -- A text that is read: one byte more, or its end.
 use Rattle.std.proofs.Common.{◌≡◌, ℕ, ◌+◌, ◌<◌, ◌≤◌, List, length, get_or, drop, Some, None, Option, refl, ap, subst, ◌∙◌, arith}
 use Rattle.std.proofs.lemmas.List.{drop_more, drop_all}
-use Rattle.civl_proofs.specs.Reading.{State, Opening, step, end, Certificate, at_end, on_state, outcome, IsReadTo, IsReadAs, IsStuck}
+use Rattle.civl_proofs.specs.inner.Reading.{State, Opening, step, end, Certificate, at_end, on_state, outcome, IsReadTo, IsReadAs, IsStuck}
 
 pub from_start : (text : List ℕ) → IsReadTo text 0 Opening
 from_start text = record { within = omega arith; is = refl }

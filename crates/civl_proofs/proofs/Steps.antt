@@ -11,7 +11,7 @@ use Rattle.civl_cnf.specs.ClauseSet.{ClauseSet, IsBelow, AreBelow}
 use Rattle.civl_proofs.specs.declared.reading.Spot.{Spot}
 use Rattle.civl_proofs.specs.declared.reading.Spot.TheVariants.{First, Inside, Comment}
 use Rattle.civl_proofs.specs.Text.{words_of, lines_of, all_words, MayBeHeld}
-use Rattle.civl_proofs.specs.Reading.{Draft, ended, State, Opening, Remark, Title, Variables, Count, Setting, Keyword, Logging, step, end, Certificate, whole_of, closed_some, at_keyword_end}
+use Rattle.civl_proofs.specs.inner.Reading.{Draft, ended, State, Opening, Remark, Title, Variables, Count, Setting, Keyword, Logging, step, end, Certificate, whole_of, closed_some, at_keyword_end}
 use Rattle.civl_proofs.proofs.Words.{parted}
 use Rattle.civl_proofs.proofs.Decoding.{cons_once, cons_some, later_some}
 use Rattle.civl_proofs.proofs.Typing.{text_of}

@@ -7,7 +7,7 @@ use Rattle.std.proofs.lemmas.Bool.{false≢true, eqb-true, eqb-false, ltb-true, 
 use Rattle.civl_proofs.specs.declared.word.Word.{Word}
 use Rattle.civl_proofs.specs.declared.word.Word.TheVariants.{Empty, Minus, Zero, Number}
 use Rattle.civl_proofs.specs.Text.{sign_of}
-use Rattle.civl_proofs.specs.Reading.{with_digit, begun, typed, IsSoundWord}
+use Rattle.civl_proofs.specs.inner.Reading.{with_digit, begun, typed, IsSoundWord}
 use Rattle.civl_proofs.proofs.Words.{is_dense}
 use Rattle.civl_proofs.proofs.Numbers.{one_more, more_text, first_text, digit_fits, first_fits, cond_split, has_first, decimal_dense}
 use Rattle.civl_proofs.proofs.Decoding.{IsWord, cons_once, cons_some, later_some, no_minus}

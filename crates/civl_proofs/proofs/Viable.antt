@@ -11,7 +11,7 @@ use Rattle.civl_proofs.specs.declared.word.Word.TheVariants.{Empty, Minus, Zero,
 use Rattle.civl_proofs.specs.declared.reading.Spot.{Spot}
 use Rattle.civl_proofs.specs.declared.reading.Spot.TheVariants.{First, Inside, Comment}
 use Rattle.civl_proofs.specs.Text.{MayBeHeld}
-use Rattle.civl_proofs.specs.Reading.{Draft, no_draft, literal, State, Opening, Remark, Title, Variables, Count, Setting, Keyword, Logging, parts_words, meets, in_line, step, end, Certificate, whole_of}
+use Rattle.civl_proofs.specs.inner.Reading.{Draft, no_draft, literal, State, Opening, Remark, Title, Variables, Count, Setting, Keyword, Logging, parts_words, meets, in_line, step, end, Certificate, whole_of}
 use Rattle.civl_proofs.proofs.Drafting.{HasRoom}
 use Rattle.civl_proofs.proofs.Decoding.{cons_some}
 use Rattle.civl_proofs.proofs.Resting.{IsRest, IsSound}

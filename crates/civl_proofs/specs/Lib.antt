@@ -1,5 +1,5 @@
 pub mod Text
-pub mod Reading
 pub mod Lean
 pub mod Laws
-pub mod Examples
+pub mod examples
+pub mod inner

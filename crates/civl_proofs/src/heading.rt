@@ -1,7 +1,7 @@
 // The header of a certificate, and the comments before it.
 ghost use Rattle.std.specs.Prelude.{◌≡◌, ℕ, ◌<◌, ◌≤◌, codes, cond, Some, None, IfOk, IsErrOf};
 ghost use Rattle.civl_proofs.specs.Text.{most_variables, most_clauses};
-ghost use Rattle.civl_proofs.specs.Reading.{meets, parts_words, counted, IsWithin, State, Title, Variables, Count, Setting, no_draft, step, end, IsReadTo, IsStuck};
+ghost use Rattle.civl_proofs.specs.inner.Reading.{meets, parts_words, counted, IsWithin, State, Title, Variables, Count, Setting, no_draft, step, end, IsReadTo, IsStuck};
 ghost use Rattle.civl_proofs.specs.declared.reading.Spot.TheVariants.{First};
 
 use crate::CertificateFault;

@@ -1,6 +1,6 @@
 // Laws of certificates. Each function does nothing, and its contract is the law.
 ghost use Rattle.civl_proofs.specs.Laws.{OneReading, OneAnswer, CanonicalIsRead};
-ghost use Rattle.civl_proofs.specs.Examples.{Examples};
+ghost use Rattle.civl_proofs.specs.examples.Certificates.{Examples};
 
 /// A text is a certificate of one clause set and one log at most.
 pub fn one_reading()

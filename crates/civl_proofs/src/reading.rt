@@ -3,7 +3,7 @@ ghost use Rattle.std.specs.Prelude.{◌≡◌, ◌⊎◌, ℕ, ◌<◌, ◌≤�
 ghost use Rattle.civl_cnf.specs.Literal.{Literal};
 ghost use Rattle.civl_cnf.specs.ClauseSet.{ClauseSet, IsBelow};
 ghost use Rattle.civl_proofs.specs.Text.{IsCertificate, IsFirstFault, most_variables};
-ghost use Rattle.civl_proofs.specs.Reading.{no_draft, ended, extended, in_set, in_line, next_state, step, whole_of, IsSoundWord, Setting, Keyword, Logging, IsReadTo, IsReadAs, IsStuck};
+ghost use Rattle.civl_proofs.specs.inner.Reading.{no_draft, ended, extended, in_set, in_line, next_state, step, whole_of, IsSoundWord, Setting, Keyword, Logging, IsReadTo, IsReadAs, IsStuck};
 
 use crate::CertificateFault;
 use crate::heading::{pass, read_heading};

@@ -1,7 +1,7 @@
 // Words of clauses, byte by byte.
 ghost use Rattle.std.specs.Prelude.{◌≡◌, ◌<◌, ◌≤◌, IfSome};
 ghost use Rattle.civl_proofs.specs.Text.{is_blank};
-ghost use Rattle.civl_proofs.specs.Reading.{with_digit, begun, typed, ending_of, IsSoundWord};
+ghost use Rattle.civl_proofs.specs.inner.Reading.{with_digit, begun, typed, ending_of, IsSoundWord};
 
 use civl_cnf::Lit;
 

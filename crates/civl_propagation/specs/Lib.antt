@@ -3,4 +3,4 @@ pub mod Propagation
 pub mod Clauses
 pub mod Engine
 pub mod Watches
-pub mod Pairs
+pub mod inner

@@ -1,6 +1,6 @@
 // Two watched literals in eight bytes.
 ghost use Rattle.std.specs.Prelude.{◌≡◌, ◌≢◌, None, Some};
-ghost use Rattle.civl_propagation.specs.Pairs.{code_of, literal_of};
+ghost use Rattle.civl_propagation.specs.inner.Pairs.{code_of, literal_of};
 ghost use Rattle.civl_propagation.specs.Watches.{OtherSays};
 
 use civl_cnf::Lit;
@@ -33,7 +33,7 @@ pub struct Watched {
 
 impl Model for Watched {
     ghost use Rattle.std.specs.Prelude.{Option};
-    ghost use Rattle.civl_propagation.specs.Pairs.{pair_of};
+    ghost use Rattle.civl_propagation.specs.inner.Pairs.{pair_of};
     ghost use Rattle.civl_propagation.specs.declared.watches.Pair.{Pair};
 
     ghost Value = { Option Pair };

@@ -87,7 +87,7 @@ fn prove_goals(
 /// # Errors
 ///
 /// `Note`, `Roots` and `Heavy` come exactly as from [`outlined`]; no prover is asked then. `Memory` comes where memory is wanting.
-/// The provers that were dropped until then are gone.
+/// Nothing is said of the provers then.
 pub fn prove(
     alloc: Global,
     src: &Layered,

@@ -10,11 +10,11 @@ use Rattle.civl_units.specs.Propagation.{Holds, IsClosed}
 use Rattle.civl_units.specs.Marks.{is_marked, marked, IsQuiet}
 use Rattle.civl_units.proofs.MarkLemmas.{mark_absent}
 use Rattle.civl_cdcl.specs.Turn.{AreBits}
-use Rattle.civl_cdcl.specs.Propagation.{ChoiceSays}
+use Rattle.civl_cdcl.specs.inner.Propagation.{ChoiceSays}
 use Rattle.civl_cdcl.proofs.Outcomes.{satisfied}
 use Rattle.civl_cdcl.proofs.Analysing.{quiet_unfalsified}
 use Rattle.civl_portfolio.specs.Attempt.{MakesTrue}
-use Rattle.civl_provers.specs.Node.{IsPropagated, JudgeSays, NodeSays}
+use Rattle.civl_provers.specs.inner.Node.{IsPropagated, JudgeSays, NodeSays}
 use Rattle.civl_provers.specs.declared.looking.Node.{Node}
 use Rattle.civl_provers.specs.declared.looking.Node.TheVariants.{True, Open, Stuck}
 

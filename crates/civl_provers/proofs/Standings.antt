@@ -15,8 +15,8 @@ use Rattle.civl_propagation.proofs.Engines.{least_by, decided_hold, conflict_by}
 use Rattle.civl_rup.proofs.Standings.{conflict_more}
 use Rattle.civl_provers.specs.Branch.{IsLeftOpen, IsBranch}
 use Rattle.civl_provers.specs.Splitter.{IsSplit}
-use Rattle.civl_provers.specs.Node.{IsPropagated, HaveValuesFrom, EndSays}
-use Rattle.civl_provers.specs.Standing.{AreLast, IsAtBranch, LookSays, Turns, IsTurning}
+use Rattle.civl_provers.specs.inner.Node.{IsPropagated, HaveValuesFrom, EndSays}
+use Rattle.civl_provers.specs.inner.Standing.{AreLast, IsAtBranch, LookSays, Turns, IsTurning}
 use Rattle.civl_provers.proofs.Branches.{IsChoice, choices_last}
 
 -- literals that fail have opposites that hold, and the other way round

@@ -1,6 +1,5 @@
 pub mod Probe
 pub mod Branch
 pub mod Splitter
-pub mod Node
-pub mod Standing
 pub mod Laws
+pub mod inner

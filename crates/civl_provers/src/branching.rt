@@ -5,8 +5,8 @@ ghost use Rattle.civl_cnf.specs.ClauseSet.{ClauseSet};
 ghost use Rattle.civl_units.specs.Trail.{IsOpen};
 ghost use Rattle.civl_propagation.specs.Trail.{AreDecided};
 ghost use Rattle.civl_propagation.specs.Engine.{IsAtRest};
-ghost use Rattle.civl_provers.specs.Node.{HaveValuesFrom, EndSays};
-ghost use Rattle.civl_provers.specs.Standing.{IsAtBranch, LookSays, IsTurning};
+ghost use Rattle.civl_provers.specs.inner.Node.{HaveValuesFrom, EndSays};
+ghost use Rattle.civl_provers.specs.inner.Standing.{IsAtBranch, LookSays, IsTurning};
 
 use crate::memory::Memory;
 use civl_cnf::{Cnf, Lit};

@@ -3,7 +3,7 @@ ghost use Rattle.std.specs.Prelude.{◌≡◌, ◌≤◌, ◌^◌, All, length, 
 ghost use Rattle.std.specs.List.{list_any, list_all};
 ghost use Rattle.civl_cnf.specs.ClauseSet.{IsBelow, AreBelow};
 ghost use Rattle.civl_units.specs.Marks.{marked, IsQuiet};
-ghost use Rattle.civl_provers.specs.Node.{HaveValuesFrom, LastOpen, JudgeSays};
+ghost use Rattle.civl_provers.specs.inner.Node.{HaveValuesFrom, LastOpen, JudgeSays};
 
 use crate::memory::Memory;
 use civl_cdcl::bits_of;

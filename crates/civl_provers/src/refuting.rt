@@ -2,7 +2,7 @@
 ghost use Rattle.std.specs.Prelude.{◌≡◌, ◌++◌, ◌∷◌, [], IfOk, OnOk, IsFalse};
 ghost use Rattle.civl_cnf.specs.ClauseSet.{ClauseSet};
 ghost use Rattle.civl_provers.specs.Splitter.{IsRefuted, AfterRefuted, FewerLeft};
-ghost use Rattle.civl_provers.specs.Standing.{Turns};
+ghost use Rattle.civl_provers.specs.inner.Standing.{Turns};
 
 use crate::memory::Memory;
 use civl_cnf::{Clause, Lit, Log};

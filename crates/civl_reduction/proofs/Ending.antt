@@ -13,7 +13,7 @@ use Rattle.civl_meaning.specs.Step.{step_of}
 use Rattle.civl_meaning.specs.Run.{RunsTo, has_moved, run_of}
 use Rattle.civl_meaning.specs.Failing.{thread_fails, is_failing, failing_thread}
 use Rattle.civl_meaning.proofs.Runs.{run_more}
-use Rattle.civl_reduction.specs.Ends.{end_by, end_of}
+use Rattle.civl_reduction.specs.inner.Ends.{end_by, end_of}
 use Rattle.civl_reduction.specs.Swap.{RunAlike, RunsFailing}
 
 -- a run that has an end runs to it

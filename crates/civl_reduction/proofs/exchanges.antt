@@ -1,4 +1,3 @@
-pub mod Changes
 pub mod Agreeing
 pub mod Exchanging
 pub mod Reducing

@@ -1,4 +1,3 @@
-pub mod Ends
 pub mod Front
 pub mod Fronted
 pub mod Never
@@ -14,3 +13,4 @@ pub mod blocks
 pub mod staged
 pub mod gathered
 pub mod simulation
+pub mod inner

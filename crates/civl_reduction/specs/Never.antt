@@ -12,7 +12,7 @@ use Rattle.civl_meaning.specs.Run.{RunsTo}
 use Rattle.civl_meaning.specs.Failing.{IsMove}
 use Rattle.civl_meaning.specs.Layers.{program_at}
 use Rattle.civl_layers.specs.Movers.{is_left, is_right}
-use Rattle.civl_reduction.specs.exchanges.Doing.{doing}
+use Rattle.civl_meaning.specs.Change.{doing}
 use Rattle.civl_reduction.specs.exchanges.Exchange.{Exchanged}
 use Rattle.civl_reduction.specs.mover_laws.Neighbours.{MovesAs, IsSound}
 use Rattle.civl_reduction.specs.declared.swapped.Swapped.{Swapped}

@@ -1,3 +1,2 @@
-pub mod Doing
 pub mod Interleavings
 pub mod Exchange

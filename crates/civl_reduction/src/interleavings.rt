@@ -7,6 +7,7 @@
 //! (`Systems`, `Runs`), what the reduction asks (`Reduction`) and the simulation (`Simulation`), and threads over a shared
 //! store with gated atomic actions (`Threads`). The theorems speak of all types of configurations and moves, so they are
 //! lemmas: `reduced` of proofs/Reducing, `simulated` of proofs/Simulating, `layer_is_sound` of proofs/Layering, and
-//! `threads_are_reducible` of proofs/Threading. [`laws`] has an example to which they are applied.
+//! `threads_are_reducible` of proofs/Threading. [`laws`] has a worked system of two locks, to which the theorems
+//! aren't applied.
 
 pub mod laws;

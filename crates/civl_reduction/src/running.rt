@@ -1,6 +1,6 @@
 // Runs of lists of moves.
 ghost use Rattle.std.specs.Prelude.{◌≡◌, ◌+◌, ◌<◌, ◌≤◌, ◌^◌, ◌↔◌, length, IfOk, IfSome, IsTrue};
-ghost use Rattle.civl_reduction.specs.Ends.{end_of};
+ghost use Rattle.civl_reduction.specs.inner.Ends.{end_of};
 ghost use Rattle.civl_reduction.specs.Swap.{RunAlike, RunsFailing};
 
 use civl_meaning::{Config, Move, Plain, Stepped, copy_config, failing, places_of, same, step};

@@ -5,3 +5,4 @@ pub mod Failing
 pub mod Kinds
 pub mod Walked
 pub mod steadiness
+pub mod inner

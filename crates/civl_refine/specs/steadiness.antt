@@ -1,5 +1,1 @@
-pub mod Others
-pub mod Kept
-pub mod Losing
 pub mod Kinds
-pub mod Making

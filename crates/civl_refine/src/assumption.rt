@@ -104,7 +104,8 @@ fn owned_and_gated(
 
 /// What is assumed at a cut: the invariants of the step hold of the old globals; the cut's invariant holds; the refined action's
 /// gate holds of the old globals, where old `done` is false; where it is true, so is `done`; and what the linear globals and the
-/// held locals carry is pairwise disjoint.
+/// held locals carry is pairwise disjoint. It is said of beginnings with `BeginsAt`: old `done` is `done` but at a rank loop, and both are
+/// false at the entry.
 ///
 /// The graph's weight rises by at most four times what a condition's weight counts for this; and, but for a rank loop, by 2 less.
 ///

@@ -52,7 +52,8 @@ fn kept_before(terms: &mut Terms, part: Part, walk: &Walk) -> Result<Id, Memory>
 }
 
 /// Whether what is assumed at a cut holds, and a part of the condition on paths fails on the walk from there. The graph's weight
-/// rises by at most four times what a condition's weight counts for both; and, from a rank loop, by 2 more.
+/// rises by at most four times what a condition's weight counts for both; and, from a rank loop, by 2 more. It is said of
+/// beginnings with `BeginsAt`: old `done` is `done` but at a rank loop, and both are false at the entry.
 ///
 /// # Errors
 ///

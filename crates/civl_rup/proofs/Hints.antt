@@ -14,7 +14,7 @@ use Rattle.civl_propagation.specs.Trail.{TrailState, before, IsDecided, IsCut}
 use Rattle.civl_propagation.proofs.Trails.{before_all}
 use Rattle.civl_propagation.proofs.Serving.{trail_decides}
 use Rattle.civl_propagation.proofs.Engines.{before_decide}
-use Rattle.civl_rup.specs.Following.{IsLoose, IsForced, IsRoot, Follows, Heeds}
+use Rattle.civl_rup.specs.inner.Following.{IsLoose, IsForced, IsRoot, Follows, Heeds}
 
 -- one literal more
 pub loose_decides : (old new : TrailState) (l : Literal) → IsLoose old → l.variable < length old.marks → IsOpen old.marks l → IsDecided old new l → IsLoose new

@@ -9,7 +9,7 @@ use Rattle.civl_cnf.specs.ClauseSet.{ClauseSet, IsBelow, AreBelow, SatisfiesClau
 use Rattle.civl_units.specs.Propagation.{Fails, HasConflict}
 use Rattle.civl_rup.specs.Rup.{HasRup, HasEachOnce, HaveRup, Refutes, HasRupAndNoEmpty, IsFirstWithoutRup, IsUnsatisfiable}
 use Rattle.civl_units.specs.Marks.{marked, EndsBy, AreAssumed, IsQuiet, Propagates}
-use Rattle.civl_rup.specs.Standing.{ScanSays}
+use Rattle.civl_rup.specs.inner.Standing.{ScanSays}
 use Rattle.civl_rup.specs.declared.answer.Replay.{Replay}
 use Rattle.civl_rup.specs.declared.answer.Replay.TheVariants.{Refutes as Refuting, NotRup, NoEmpty}
 use Rattle.civl_units.proofs.MarkLemmas.{lt_or_eq}

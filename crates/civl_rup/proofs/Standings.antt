@@ -19,7 +19,7 @@ use Rattle.civl_propagation.proofs.Trails.{some_lit, some_step, before_marked}
 use Rattle.civl_propagation.proofs.Serving.{mark_is}
 use Rattle.civl_propagation.proofs.Engines.{least_by, decided_hold, conflict_by}
 use Rattle.civl_rup.specs.Rup.{HasEachOnce}
-use Rattle.civl_rup.specs.Standing.{IsAtRoot, IsAbove}
+use Rattle.civl_rup.specs.inner.Standing.{IsAtRoot, IsAbove}
 
 -- a conflict by some clauses is one by more
 pub conflict_more : (clauses more : List (List Literal)) (falses : List Literal) → GivesConflict clauses falses → GivesConflict (clauses ++ more) falses

@@ -1,4 +1,3 @@
 pub mod Rup
 pub mod Laws
-pub mod Standing
-pub mod Following
+pub mod inner

@@ -5,7 +5,7 @@ ghost use Rattle.civl_units.specs.Propagation.{GivesConflict};
 ghost use Rattle.civl_propagation.specs.Trail.{AreDecided};
 ghost use Rattle.civl_propagation.specs.Engine.{IsAtRest};
 ghost use Rattle.civl_rup.specs.Rup.{HasEachOnce};
-ghost use Rattle.civl_rup.specs.Standing.{IsAtRoot, Stands, IsAbove};
+ghost use Rattle.civl_rup.specs.inner.Standing.{IsAtRoot, Stands, IsAbove};
 
 use crate::Memory;
 use civl_cnf::{Cnf, Lit};

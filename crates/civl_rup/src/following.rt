@@ -3,7 +3,7 @@ ghost use Rattle.std.specs.Prelude.{◌≡◌, ◌++◌, ◌≤◌, List, length
 ghost use Rattle.civl_cnf.specs.Literal.{Literal};
 ghost use Rattle.civl_cnf.specs.ClauseSet.{IsBelow, AreBelow};
 ghost use Rattle.civl_rup.specs.Rup.{HasRup, HaveRup};
-ghost use Rattle.civl_rup.specs.Following.{IsLoose, IsForced, IsRoot, Heeds, HintSays, AssumptionSays, MeetingSays};
+ghost use Rattle.civl_rup.specs.inner.Following.{IsLoose, IsForced, IsRoot, Heeds, HintSays, AssumptionSays, MeetingSays};
 
 use crate::Memory;
 use crate::taking::is_fit;

@@ -2,7 +2,7 @@
 ghost use Rattle.std.specs.Prelude.{◌≡◌, ◌↔◌, ◌≤◌, ◌++◌, [], None, Some, ℕ, List, length, IfOk, IsTrue, Contains};
 ghost use Rattle.civl_cnf.specs.Literal.{Literal};
 ghost use Rattle.civl_cnf.specs.ClauseSet.{AreBelow};
-ghost use Rattle.civl_rup.specs.Standing.{Stands, ScanSays};
+ghost use Rattle.civl_rup.specs.inner.Standing.{Stands, ScanSays};
 ghost use Rattle.civl_rup.specs.Rup.{HaveRup, HasRupAndNoEmpty, IsFirstWithoutRup, IsUnsatisfiable, Refutes};
 
 use crate::conflicts::{add, load};

@@ -3,7 +3,7 @@ ghost use Rattle.std.specs.Prelude.{◌≡◌, ◌++◌, ◌∷◌, [], ◌↔�
 ghost use Rattle.civl_cnf.specs.Literal.{Literal};
 ghost use Rattle.civl_cnf.specs.ClauseSet.{IsBelow};
 ghost use Rattle.civl_rup.specs.Rup.{HasEachOnce};
-ghost use Rattle.civl_rup.specs.Standing.{Stands, TakeSays};
+ghost use Rattle.civl_rup.specs.inner.Standing.{Stands, TakeSays};
 
 use crate::Memory;
 use crate::conflicts::{add, gives_conflict};

@@ -1,5 +1,5 @@
 -- What the goals on a statement conclude of a state in which what they assume holds.
-use Rattle.std.proofs.Common.{◌≡◌, ℕ, Bool, true, false, not, ◌&&◌, List, [], ◌++◌, map, Some, None, refl, sym, ap, ◌∙◌, subst, inl, arith, append-nil}
+use Rattle.std.proofs.Common.{◌≡◌, ℕ, Bool, true, false, not, ◌&&◌, List, [], ◌++◌, map, Option, Some, None, refl, sym, ap, ◌∙◌, subst, inl, arith, append-nil}
 use Rattle.std.specs.Prelude.{slice_get, nat_le}
 use Rattle.std.proofs.lemmas.Bool.{and_from, not-false, le-leb}
 use Rattle.civl_bits.specs.declared.value.Value.{Value}
@@ -23,7 +23,7 @@ use Rattle.civl_meaning.specs.Permissions.{pairwise_disjoint}
 use Rattle.civl_meaning.specs.Places.{Spot, spot_at}
 use Rattle.civl_meaning.specs.Meaning.{Meaning, Does, Runs, Missing, called}
 use Rattle.civl_meaning.specs.Layers.{topmost}
-use Rattle.civl_meaning.specs.Change.{spot_change, proc_change, layer_change}
+use Rattle.civl_meaning.specs.Change.{done_by, spot_doing, proc_doing, statement_doing}
 use Rattle.civl_meaning.specs.Config.{frame_sorts}
 use Rattle.civl_layers.specs.Ranges.{exists_through}
 use Rattle.civl_layers.specs.Names.{global_range}
@@ -65,8 +65,8 @@ module _ (program : Program) (layered : IsLayered program) (outline : Outline) (
   frame = record { procedure = r; place = s; locals = locals }
 
   -- what it does, by its statement
-  pub does_is : (h : Store) (chosen : List Value) → does program h frame chosen ≡ layer_change plain h chosen proc locals spot.number spot.next (out-Stmt spot.stmt)
-  does_is h chosen = ap (proc_change plain h chosen None frame) at ∙ ap (spot_change plain h chosen None frame proc) found
+  pub does_is : (h : Store) (chosen : List Value) → does program h frame chosen ≡ done_by plain h chosen (statement_doing plain proc locals spot.number spot.next (out-Stmt spot.stmt))
+  does_is h chosen = ap (λ (x : Option Proc). done_by plain h chosen (proc_doing plain None frame x)) at ∙ ap (λ (x : Option Spot). done_by plain h chosen (spot_doing plain None frame proc x)) found
 
   means_seen : (m : Meaning) (f : Name) (es : List Expr) (rs : List Name) → out-Stmt spot.stmt ≡ Call f es rs → called plain f ≡ m → MeansSeen (exists_on_top program) plain m
   means_seen (Does action) f es rs q e =
@@ -84,7 +84,7 @@ module _ (program : Program) (layered : IsLayered program) (outline : Outline) (
   pub does_alike : (h k : Store) → StoresAgree (exists_on_top program) program.globals h k → (chosen : List Value) → ChangesAgree (exists_on_top program) program.globals (does program h frame chosen) (does program k frame chosen)
   does_alike h k agree chosen =
       subst (λ (c : Change). ChangesAgree (exists_on_top program) program.globals c (does program k frame chosen)) (sym (does_is h chosen))
-      (subst (λ (c : Change). ChangesAgree (exists_on_top program) program.globals (layer_change plain h chosen proc locals spot.number spot.next (out-Stmt spot.stmt)) c) (sym (does_is k chosen))
+      (subst (λ (c : Change). ChangesAgree (exists_on_top program) program.globals (done_by plain h chosen (statement_doing plain proc locals spot.number spot.next (out-Stmt spot.stmt))) c) (sym (does_is k chosen))
       (step_alike (exists_on_top program) plain h k agree chosen proc locals spot.number spot.next (out-Stmt spot.stmt) (call_seen (out-Stmt spot.stmt) refl)))
 
   -- what is assumed of the state

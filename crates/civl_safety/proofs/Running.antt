@@ -39,10 +39,10 @@ use Rattle.civl_meaning.specs.Permissions.{pairwise_disjoint}
 use Rattle.civl_meaning.specs.Places.{Spot, spot_at}
 use Rattle.civl_meaning.specs.Meaning.{Meaning, Runs, proc_number, meaning_of}
 use Rattle.civl_meaning.specs.Layers.{topmost}
-use Rattle.civl_meaning.specs.Change.{new_frame, call_change, spot_change, proc_change, state_change, change_of}
+use Rattle.civl_meaning.specs.Change.{new_frame, done_by, call_doing, spot_doing, proc_doing, state_doing, change_of}
 use Rattle.civl_meaning.specs.Step.{begun, start, goes_on, enters, left, moves_on, thread_after, step_with, step_in, step_of}
 use Rattle.civl_meaning.specs.Run.{RunsTo}
-use Rattle.civl_meaning.specs.Failing.{IsMove, CanFail, call_fails, spot_fails, proc_fails, state_fails, thread_fails, is_failing}
+use Rattle.civl_meaning.specs.Failing.{IsMove, CanFail, fails_at, thread_fails, is_failing}
 use Rattle.civl_meaning.specs.Config.{IsPlain, IsBegun, HasLocals, IsPlaced, IsBodyOf, StateIsSorted, StateIsStacked, ThreadIsSorted, IsStacked, frame_sorts}
 use Rattle.civl_meaning.proofs.Begun.{proc_is}
 use Rattle.civl_layers.specs.Layered.{IsLayered}
@@ -50,7 +50,7 @@ use Rattle.civl_layers.proofs.PlainPrograms.{layered_is_plain}
 use Rattle.civl_linear.specs.LinearRules.{linear_rules}
 use Rattle.civl_yields.specs.YieldRules.{yield_rules}
 use Rattle.civl_conditions.specs.Permissions.{in_store}
-use Rattle.civl_conditions.specs.Invariants.{is_initial}
+use Rattle.civl_conditions.specs.Invariants.{meets_init}
 use Rattle.civl_conditions.specs.Movers.{on_some}
 use Rattle.civl_condition_laws.proofs.Gathering.{fit_named}
 use Rattle.civl_soundness.proofs.Fitting.{all_at}
@@ -116,7 +116,7 @@ module _ (program : Program) (outline : Outline) (layered : IsLayered program) (
       let same : b.proc ≡ proc = same_Some b.proc proc (sym b.there ∙ at) in
       let sorts = new_locals program layered.rules thread.callee proc at thread.args (subst (λ (q : Proc). HaveSorts thread.args (param_sorts q.params)) same b.args) in
       let less = owned_less program (new_frame thread.callee proc thread.args) proc at sorts p in
-      let enters = subst (λ (m : Meaning). Kept program store waiting Before (call_change plain store [] [] [] [] 0 0 m thread.args)) (begins_body thread b ∙ ap (Runs thread.callee) same)
+      let enters = subst (λ (m : Meaning). Kept program store waiting Before (done_by plain store [] (call_doing [] [] [] 0 0 m thread.args))) (begins_body thread b ∙ ap (Runs thread.callee) same)
       (thread_kept plain ok linear writable keeps store fit [] (All-nil IsValue) waiting (record { proc = b.proc; there = b.there; args = b.args; begins = b.begins }) tt tt) in
       let more = enters.0 p in
       omega (arith, less, more)
@@ -205,7 +205,7 @@ module _ (program : Program) (outline : Outline) (layered : IsLayered program) (
                 subst (Facts (Inside [] frame)) (sym c.1)
                 (by_led c.0.0 c.0.1 (does program store frame c.0.0) (led program layered outline o frame.procedure has.proc has.there root frame.place spot found stood store fit frame.locals has.locals is o.flat c.0.0 c.0.1))
 
-        spot_safe : proc_fails plain store frame (slice_get program.procs frame.procedure) ≡ false
+        spot_safe : fails_at plain store (proc_doing plain None frame (slice_get program.procs frame.procedure)) ≡ false
         spot_safe = safe program layered outline o frame.procedure has.proc has.there root frame.place spot found stood store fit frame.locals has.locals is
 
       frame_facts : Facts (Inside [] frame) (does program store frame chosen)
@@ -214,17 +214,17 @@ module _ (program : Program) (outline : Outline) (layered : IsLayered program) (
           by_spot : (q : Option Spot) → spot_at has.proc.body frame.place ≡ q → Facts (Inside [] frame) (does program store frame chosen)
           by_spot (Some spot) e = step_facts spot e
           by_spot None e =
-              subst (Facts (Inside [] frame)) (sym (ap (proc_change plain store chosen None frame) has.there ∙ ap (spot_change plain store chosen None frame has.proc) e)) tt
+              subst (Facts (Inside [] frame)) (sym (ap (λ (x : Option Proc). done_by plain store chosen (proc_doing plain None frame x)) has.there ∙ ap (λ (x : Option Spot). done_by plain store chosen (spot_doing plain None frame has.proc x)) e)) tt
 
-      frame_safe : proc_fails plain store frame (slice_get program.procs frame.procedure) ≡ false
+      frame_safe : fails_at plain store (proc_doing plain None frame (slice_get program.procs frame.procedure)) ≡ false
       frame_safe = by_spot (spot_at has.proc.body frame.place) refl
         where
-          by_spot : (q : Option Spot) → spot_at has.proc.body frame.place ≡ q → proc_fails plain store frame (slice_get program.procs frame.procedure) ≡ false
+          by_spot : (q : Option Spot) → spot_at has.proc.body frame.place ≡ q → fails_at plain store (proc_doing plain None frame (slice_get program.procs frame.procedure)) ≡ false
           by_spot (Some spot) e = spot_safe spot e
-          by_spot None e = ap (proc_fails plain store frame) has.there ∙ ap (spot_fails plain store frame has.proc) e
+          by_spot None e = ap (λ (x : Option Proc). fails_at plain store (proc_doing plain None frame x)) has.there ∙ ap (λ (x : Option Spot). fails_at plain store (spot_doing plain None frame has.proc x)) e
 
-    facts : (state : State) → ((p : ℕ) → owns program thread state p ≤ owns program thread thread.state p) → StateIsSorted plain thread state → StateIsStacked plain thread.callee state → StateStands program outline store thread state → Facts state (state_change plain store chosen thread state)
-    facts Before own b s h = subst (λ (m : Meaning). Facts Before (call_change plain store chosen [] [] [] 0 0 m thread.args)) (sym (begins_body thread b)) (refl, h b.proc b.there)
+    facts : (state : State) → ((p : ℕ) → owns program thread state p ≤ owns program thread thread.state p) → StateIsSorted plain thread state → StateIsStacked plain thread.callee state → StateStands program outline store thread state → Facts state (done_by plain store chosen (state_doing plain thread state))
+    facts Before own b s h = subst (λ (m : Meaning). Facts Before (done_by plain store chosen (call_doing [] [] [] 0 0 m thread.args))) (sym (begins_body thread b)) (refl, h b.proc b.there)
     facts (Inside [] frame) own b s h = frame_facts frame own b.0 b.2 s.topmost s.first h.1
     facts (Inside (x ∷ xs) frame) own b s h = absurd (let e = h.0 in cc)
     facts After own b s h = tt
@@ -232,8 +232,8 @@ module _ (program : Program) (outline : Outline) (layered : IsLayered program) (
     thread_facts : Facts thread.state (change_of plain store chosen thread)
     thread_facts = facts thread.state (λ p. omega arith) (all_at (ThreadIsSorted plain) threads t thread at sorted) (all_at (IsStacked plain) threads t thread at stacked) (all_at (ThreadStands program outline store) threads t thread at stand)
 
-    safe_state : (state : State) → ((p : ℕ) → owns program thread state p ≤ owns program thread thread.state p) → StateIsSorted plain thread state → StateIsStacked plain thread.callee state → StateStands program outline store thread state → state_fails plain store thread state ≡ false
-    safe_state Before own b s h = ap (λ (m : Meaning). call_fails plain store m thread.args) (begins_body thread b)
+    safe_state : (state : State) → ((p : ℕ) → owns program thread state p ≤ owns program thread thread.state p) → StateIsSorted plain thread state → StateIsStacked plain thread.callee state → StateStands program outline store thread state → fails_at plain store (state_doing plain thread state) ≡ false
+    safe_state Before own b s h = ap (λ (m : Meaning). fails_at plain store (call_doing [] [] [] 0 0 m thread.args)) (begins_body thread b)
     safe_state (Inside [] frame) own b s h = frame_safe frame own b.0 b.2 s.topmost s.first h.1
     safe_state (Inside (x ∷ xs) frame) own b s h = absurd (let e = h.0 in cc)
     safe_state After own b s h = refl
@@ -298,20 +298,20 @@ module _ (program : Program) (outline : Outline) (layered : IsLayered program) (
   -- ---- the start
 
   module _ (store : Store) (initial : IsInitial program store) where
-    starts : is_initial program store ≡ true
+    starts : meets_init program store ≡ true
     starts = and_from _ _ initial.init_holds initial.disjoint
 
     start_invariant : invariant_holds program outline store ≡ true
     unfolding failed variables
     start_invariant =
         not-false (invariant_holds program outline store)
-        (not_second (is_initial program store) _ starts (o.hold goal.Invariant (invariant_listed program outline) store.values (fit_named (λ x. x.name) (λ x. x.sort) [] program.globals store.values initial.store_fits)))
+        (not_second (meets_init program store) _ starts (o.hold goal.Invariant (invariant_listed program outline) store.values (fit_named (λ x. x.name) (λ x. x.sort) [] program.globals store.values initial.store_fits)))
 
     thread_goal : (i : ℕ) (thread : Thread) → slice_get program.threads i ≡ Some thread → begins program thread.callee ≡ true → failing.thread_fails program outline store thread ≡ false
     unfolding failed variables
     thread_goal i thread at b =
         sym (ap (λ (q : Option Thread). option_map_or (failing.thread_fails program outline store) q false) at)
-        ∙ not_second (is_initial program store) _ starts
+        ∙ not_second (meets_init program store) _ starts
         (o.hold (goal.Thread i) (thread_listed program outline i thread at b) store.values (fit_named (λ x. x.name) (λ x. x.sort) [] program.globals store.values initial.store_fits))
 
     begun_stands : (i : ℕ) (thread : Thread) → slice_get program.threads i ≡ Some thread → ThreadStands program outline store (begun program store thread)

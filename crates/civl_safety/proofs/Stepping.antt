@@ -41,7 +41,7 @@ use Rattle.civl_firing.proofs.SortLimits.{limits}
 use Rattle.civl_meaning.specs.declared.config.Plain.{Plain}
 use Rattle.civl_meaning.specs.declared.config.Activation.{Activation}
 use Rattle.civl_meaning.specs.declared.config.Running.{Running}
-use Rattle.civl_meaning.specs.declared.config.State.TheVariants.{Before, Inside}
+use Rattle.civl_meaning.specs.declared.config.State.TheVariants.{Before}
 use Rattle.civl_meaning.specs.declared.config.Stepped.TheVariants as answer
 use Rattle.civl_meaning.specs.declared.config.Change.{Change}
 use Rattle.civl_meaning.specs.declared.config.Change.TheVariants.{Stays, Goes, Acts, Enters, Leaves, Spawns}
@@ -49,11 +49,12 @@ use Rattle.civl_meaning.specs.Permissions.{pairwise_disjoint}
 use Rattle.civl_meaning.specs.Places.{Spot, spot_at, start_of}
 use Rattle.civl_meaning.specs.Meaning.{Meaning, Does, Runs, Missing, called, proc_number}
 use Rattle.civl_meaning.specs.Layers.{topmost}
-use Rattle.civl_meaning.specs.Change.{new_frame, acted, call_change, layer_change}
-use Rattle.civl_meaning.specs.Failing.{answers_failing, layer_fails, spot_fails, proc_fails}
+use Rattle.civl_meaning.specs.Change.{new_frame, acted, done_by, call_doing, statement_doing, spot_doing, proc_doing}
+use Rattle.civl_meaning.specs.Change as next
+use Rattle.civl_meaning.specs.Failing.{answers_failing, fails_at}
 use Rattle.civl_meaning.specs.Config.{frame_sorts, moved_frame}
 use Rattle.civl_meaning.proofs.Begun.{proc_is}
-use Rattle.civl_meaning.proofs.Failures.{failing_is_answered}
+use Rattle.civl_meaning.proofs.Failures.{failing_is_done}
 use Rattle.civl_layers.specs.Layered.{IsLayered}
 use Rattle.civl_conditions.specs.footprints.Agreement.{StoresAgree}
 use Rattle.civl_conditions.specs.paths.Seen.{ChangesAgree}
@@ -121,7 +122,7 @@ acted_shape names locals results next fire.GateFalse = tt
 acted_shape names locals results next fire.Blocked = tt
 acted_shape names locals results next (fire.Moved store outs) = tt
 
-call_shape : (plain : Plain) (g : Store) (chosen : List Value) (names : List Name) (locals : List Value) (results : List Name) (at next : ℕ) (m : Meaning) (args : List Value) → ((n : ℕ) (p : Proc) → m ≡ Runs n p → ⊥) → CallShape (call_change plain g chosen names locals results at next m args)
+call_shape : (plain : Plain) (g : Store) (chosen : List Value) (names : List Name) (locals : List Value) (results : List Name) (at next : ℕ) (m : Meaning) (args : List Value) → ((n : ℕ) (p : Proc) → m ≡ Runs n p → ⊥) → CallShape (done_by plain g chosen (call_doing names locals results at next m args))
 call_shape plain g chosen names locals results at next (Does action) args h = by_tests (gate_holds plain.program.globals g action args) (choices_fit action chosen)
   where
     by_tests : (b c : Bool) → CallShape (if b then (if c then acted names locals results next (fired plain.program.globals g action args chosen) else Stays answer.BadChoices) else Stays answer.Failing)
@@ -169,8 +170,8 @@ module _ (program : Program) (layered : IsLayered program) (outline : Outline) (
   form = out-Stmt spot.stmt
 
   -- what the frame's statement does, by its form
-  does_form : (chosen : List Value) (d : Stmt-F Stmt) → out-Stmt spot.stmt ≡ d → does program g frame chosen ≡ layer_change plain g chosen proc locals spot.number spot.next d
-  does_form chosen d q = does_is program layered outline o r proc at root s spot found stood g fit locals sorted g chosen ∙ ap (layer_change plain g chosen proc locals spot.number spot.next) q
+  does_form : (chosen : List Value) (d : Stmt-F Stmt) → out-Stmt spot.stmt ≡ d → does program g frame chosen ≡ done_by plain g chosen (statement_doing plain proc locals spot.number spot.next d)
+  does_form chosen d q = does_is program layered outline o r proc at root s spot found stood g fit locals sorted g chosen ∙ ap (λ (x : Stmt-F Stmt). done_by plain g chosen (statement_doing plain proc locals spot.number spot.next x)) q
 
   choices_are : choices_at program r s ≡ layer_choices plain (out-Stmt spot.stmt)
   choices_are =
@@ -219,24 +220,29 @@ module _ (program : Program) (layered : IsLayered program) (outline : Outline) (
           by_fit : (b : Bool) → choices_fit action chosen ≡ b → Here chosen
           by_fit true h = inr ((chosen, chosen_form (Call f es rs) q chosen (subst (λ (m : Meaning). HaveSorts chosen (map (λ c. c.sort) (choices_of m))) (sym e) (record { fit = fits; are = h }))), refl)
           by_fit false h =
-              inl (ap stays (does_form chosen (Call f es rs) q ∙ ap (λ (m : Meaning). call_change plain g chosen (names_in_proc proc) locals rs spot.number spot.next m (values_of (frame_values program.globals proc locals) es)) e)
+              inl (ap stays (does_form chosen (Call f es rs) q ∙ ap (λ (m : Meaning). done_by plain g chosen (call_doing (names_in_proc proc) locals rs spot.number spot.next m (values_of (frame_values program.globals proc locals) es))) e)
               ∙ (ap (λ (b : Bool). stays (if gate_holds program.globals g action (values_of (frame_values program.globals proc locals) es) then (if b then acted (names_in_proc proc) locals rs spot.next (fired program.globals g action (values_of (frame_values program.globals proc locals) es) chosen) else Stays answer.BadChoices) else Stays answer.Failing)) h
               ∙ bad (gate_holds program.globals g action (values_of (frame_values program.globals proc locals) es)) (acted (names_in_proc proc) locals rs spot.next (fired program.globals g action (values_of (frame_values program.globals proc locals) es) chosen))))
       by_call f es rs q (Runs n p) e =
           inr (
             ([], chosen_form (Call f es rs) q [] (subst (λ (m : Meaning). HaveSorts [] (map (λ c. c.sort) (choices_of m))) (sym e) no_sorts)),
-            does_form chosen (Call f es rs) q ∙ (ap (λ (m : Meaning). call_change plain g chosen (names_in_proc proc) locals rs spot.number spot.next m (values_of (frame_values program.globals proc locals) es)) e
-                ∙ (sym (ap (λ (m : Meaning). call_change plain g [] (names_in_proc proc) locals rs spot.number spot.next m (values_of (frame_values program.globals proc locals) es)) e) ∙ sym (does_form [] (Call f es rs) q))),
+            does_form chosen (Call f es rs) q ∙ (ap (λ (m : Meaning). done_by plain g chosen (call_doing (names_in_proc proc) locals rs spot.number spot.next m (values_of (frame_values program.globals proc locals) es))) e
+                ∙ (sym (ap (λ (m : Meaning). done_by plain g [] (call_doing (names_in_proc proc) locals rs spot.number spot.next m (values_of (frame_values program.globals proc locals) es))) e) ∙ sym (does_form [] (Call f es rs) q))),
           )
       by_call f es rs q Missing e =
           inr (
             ([], chosen_form (Call f es rs) q [] (subst (λ (m : Meaning). HaveSorts [] (map (λ c. c.sort) (choices_of m))) (sym e) no_sorts)),
-            does_form chosen (Call f es rs) q ∙ (ap (λ (m : Meaning). call_change plain g chosen (names_in_proc proc) locals rs spot.number spot.next m (values_of (frame_values program.globals proc locals) es)) e
-                ∙ (sym (ap (λ (m : Meaning). call_change plain g [] (names_in_proc proc) locals rs spot.number spot.next m (values_of (frame_values program.globals proc locals) es)) e) ∙ sym (does_form [] (Call f es rs) q))),
+            does_form chosen (Call f es rs) q ∙ (ap (λ (m : Meaning). done_by plain g chosen (call_doing (names_in_proc proc) locals rs spot.number spot.next m (values_of (frame_values program.globals proc locals) es))) e
+                ∙ (sym (ap (λ (m : Meaning). done_by plain g [] (call_doing (names_in_proc proc) locals rs spot.number spot.next m (values_of (frame_values program.globals proc locals) es))) e) ∙ sym (does_form [] (Call f es rs) q))),
           )
 
       by_form : (d : Stmt-F Stmt) → out-Stmt spot.stmt ≡ d → Here chosen
       by_form (Call f es rs) q = by_call f es rs q (called plain f) refl
+      by_form (Assert e) q = inr (([], chosen_form (Assert e) q [] no_sorts), does_form chosen (Assert e) q ∙ (by_truth (is_true (value_of (frame_values program.globals proc locals) e)) ∙ sym (does_form [] (Assert e) q)))
+        where
+          by_truth : (b : Bool) → done_by plain g chosen (if b then next.Goes locals spot.next else next.Fails) ≡ done_by plain g [] (if b then next.Goes locals spot.next else next.Fails)
+          by_truth true = refl
+          by_truth false = refl
       by_form _ q = inr (([], chosen_form _ q [] no_sorts), does_form chosen _ q ∙ sym (does_form [] _ q))
 
   -- ---- with choices that fit
@@ -376,7 +382,7 @@ module _ (program : Program) (layered : IsLayered program) (outline : Outline) (
     )
     call_led f es rs q _ h e = absurd h
 
-    assert_led : (b : Bool) → does program g frame chosen ≡ (if b then Goes locals spot.next else Stays answer.Failing) → LedTo (if b then Goes locals spot.next else Stays answer.Failing)
+    assert_led : (b : Bool) → does program g frame chosen ≡ done_by plain g chosen (if b then next.Goes locals spot.next else next.Fails) → LedTo (done_by plain g chosen (if b then next.Goes locals spot.next else next.Fails))
     assert_led true e = goes_led locals spot.next e
     assert_led false e = tt
 
@@ -386,9 +392,9 @@ module _ (program : Program) (layered : IsLayered program) (outline : Outline) (
     abbrev spawned : Name → List Expr → Running
     spawned f es = record { callee = proc_number program f; args = values_of (frame_values program.globals proc locals) es; state = Before }
 
-    form_led : (d : Stmt-F Stmt) → out-Stmt spot.stmt ≡ d → LedTo (layer_change plain g chosen proc locals spot.number spot.next d)
+    form_led : (d : Stmt-F Stmt) → out-Stmt spot.stmt ≡ d → LedTo (done_by plain g chosen (statement_doing plain proc locals spot.number spot.next d))
     form_led (Call f es rs) q =
-        call_led f es rs q (layer_change plain g chosen proc locals spot.number spot.next (Call f es rs))
+        call_led f es rs q (done_by plain g chosen (statement_doing plain proc locals spot.number spot.next (Call f es rs)))
         (call_shape plain g chosen (names_in_proc proc) locals rs spot.number spot.next (called plain f) (values_of (frame_values program.globals proc locals) es)
         (call_acts program layered flat f (subst (λ (d : Stmt-F Stmt). form_descends program d ≡ false) q (statement_descends program layered flat r proc at root s spot.stmt stood))))
         (does_form chosen (Call f es rs) q)
@@ -413,36 +419,39 @@ module _ (program : Program) (layered : IsLayered program) (outline : Outline) (
   -- ---- it doesn't fail
 
   module _ (chosen : List Value) (choices : HaveSorts chosen (map (λ c. c.sort) (choices_at program r s))) where
-    fails_is : (h : Store) → answers_failing (does program h frame chosen) ≡ proc_fails plain h frame (slice_get program.procs r)
-    fails_is h = failing_is_answered plain h chosen (record { callee = 0; args = []; state = Inside [] frame })
+    fails_is : (h : Store) → answers_failing (does program h frame chosen) ≡ fails_at plain h (proc_doing plain None frame (slice_get program.procs r))
+    fails_is h = failing_is_done plain h chosen (proc_doing plain None frame (slice_get program.procs r))
 
     abbrev store_so : Store
     store_so = store_given program layered outline o r proc at root s spot found stood g fit locals sorted is chosen choices []
 
-    by_safe : proc_fails plain store_so frame (slice_get program.procs r) ≡ false → proc_fails plain g frame (slice_get program.procs r) ≡ false
+    by_safe : fails_at plain store_so (proc_doing plain None frame (slice_get program.procs r)) ≡ false → fails_at plain g (proc_doing plain None frame (slice_get program.procs r)) ≡ false
     by_safe h =
         sym (fails_is g)
         ∙ (fails_also program (does program g frame chosen) (does program store_so frame chosen)
         (does_alike program layered outline o r proc at root s spot found stood g fit locals sorted g store_so (agrees program layered outline o r proc at root s spot found stood g fit locals sorted is chosen choices []) chosen)
         ∙ (fails_is store_so ∙ h))
 
-    safe_there : Contains (goals program outline) (goal.Safe r s) → proc_fails plain g frame (slice_get program.procs r) ≡ false
+    safe_there : Contains (goals program outline) (goal.Safe r s) → fails_at plain g (proc_doing plain None frame (slice_get program.procs r)) ≡ false
     unfolding failed variables
     safe_there listed =
         by_safe
-        (concluded program layered outline o r proc at root s spot found stood g fit locals sorted is chosen choices [] (λ h f change. proc_fails plain h f (slice_get program.procs r))
+        (concluded program layered outline o r proc at root s spot found stood g fit locals sorted is chosen choices [] (λ h f change. fails_at plain h (proc_doing plain None f (slice_get program.procs r)))
         (o.hold (goal.Safe r s) listed (given program layered outline o r proc at root s spot found stood g fit locals sorted is chosen choices []) (given_fit program layered outline o r proc at root s spot found stood g fit locals sorted is chosen choices)))
 
-    pub safe_so : proc_fails plain g frame (slice_get program.procs r) ≡ false
+    pub safe_so : fails_at plain g (proc_doing plain None frame (slice_get program.procs r)) ≡ false
     safe_so = by_form (out-Stmt spot.stmt) refl
       where
-        fails_form : (d : Stmt-F Stmt) → out-Stmt spot.stmt ≡ d → proc_fails plain g frame (slice_get program.procs r) ≡ layer_fails plain g proc locals d
-        fails_form d q = ap (proc_fails plain g frame) at ∙ (ap (spot_fails plain g frame proc) found ∙ ap (layer_fails plain g proc locals) q)
+        fails_form : (d : Stmt-F Stmt) → out-Stmt spot.stmt ≡ d → fails_at plain g (proc_doing plain None frame (slice_get program.procs r)) ≡ fails_at plain g (statement_doing plain proc locals spot.number spot.next d)
+        fails_form d q =
+            ap (λ (x : Option Proc). fails_at plain g (proc_doing plain None frame x)) at
+            ∙ (ap (λ (x : Option Spot). fails_at plain g (spot_doing plain None frame proc x)) found
+            ∙ ap (λ (x : Stmt-F Stmt). fails_at plain g (statement_doing plain proc locals spot.number spot.next x)) q)
 
-        by_form : (d : Stmt-F Stmt) → out-Stmt spot.stmt ≡ d → proc_fails plain g frame (slice_get program.procs r) ≡ false
+        by_form : (d : Stmt-F Stmt) → out-Stmt spot.stmt ≡ d → fails_at plain g (proc_doing plain None frame (slice_get program.procs r)) ≡ false
         by_form (Call f es rs) q = safe_there (safe_listed program outline r proc at root s spot.stmt stood f es rs q)
         by_form (Assert e) q = safe_there (assert_listed program outline r proc at root s spot.stmt stood e q)
         by_form _ q = fails_form _ q
 
-  pub safe : proc_fails plain g frame (slice_get program.procs r) ≡ false
+  pub safe : fails_at plain g (proc_doing plain None frame (slice_get program.procs r)) ≡ false
   safe = safe_so some_chosen.0 some_chosen.1

@@ -14,7 +14,7 @@ use Rattle.civl_tree.specs.declared.expr.Sort.TheVariants as sort
 use Rattle.civl_firing.specs.values.Values.{is_of}
 use Rattle.civl_script.specs.Values.{cells_of, IsValueOf}
 use Rattle.civl_script.specs.Schedules.{IsEntryOf, AreEntriesOf, AreMovesOf, IsMoveOf}
-use Rattle.civl_script.specs.Examples.{name_x, one_of, row_of, WritesNone, Written, x_global, y_global, x_is, y_is, told, move_of, Said}
+use Rattle.civl_script.specs.examples.Entries.{name_x, one_of, row_of, WritesNone, Written, x_global, y_global, x_is, y_is, told, move_of, Said}
 use Rattle.civl_script.proofs.Powers.{is_size}
 use Rattle.civl_script.proofs.Matching.{entries_count, value_at, moves_last}
 use Rattle.civl_script.proofs.One.{is_flag, number_in, width_in, numbers_in, numbers_of, one_value}

@@ -1,5 +1,5 @@
 pub mod Values
 pub mod Schedules
-pub mod Examples
 pub mod Laws
 pub mod replays
+pub mod examples

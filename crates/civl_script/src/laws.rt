@@ -1,6 +1,6 @@
 // Laws of the definitions, each the contract of a function that does nothing.
 ghost use Rattle.civl_script.specs.Laws.{OneValue, OneSchedule, SchedulesExist, TextsAreNumbered, ScriptsAreNumbered, ScriptsAreCounted};
-ghost use Rattle.civl_script.specs.Examples.{Written, Said};
+ghost use Rattle.civl_script.specs.examples.Entries.{Written, Said};
 
 /// An entry writes at most one value.
 pub fn one_value()

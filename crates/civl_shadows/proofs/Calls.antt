@@ -10,14 +10,13 @@ use Rattle.civl_firing.specs.declared.store.Store.{Store}
 use Rattle.civl_meaning.specs.declared.config.Activation.{Activation}
 use Rattle.civl_meaning.specs.declared.config.Plain.{Plain}
 use Rattle.civl_tree.specs.declared.stmt.Stmt.{Stmt, out-Stmt}
-use Rattle.civl_meaning.specs.Change.{new_frame, outs_in}
+use Rattle.civl_meaning.specs.Change.{new_frame, outs_in, call_doing, statement_doing, leaving, spot_doing, proc_doing}
 use Rattle.civl_meaning.specs.Places.{Spot, spot_at}
 use Rattle.civl_meaning.specs.Meaning.{Meaning, Runs, meaning_by, meaning_of, meaning_else, called, proc_number}
 use Rattle.civl_conditions.specs.Steps.{has_layer}
-use Rattle.civl_reduction.specs.exchanges.Doing.{call_doing, layer_doing, leaving, spot_doing, proc_doing}
 use Rattle.civl_reduction.specs.blocks.Blocks.{framed_in}
 use Rattle.civl_reduction.specs.blocks.Challenged.{allows, refuses, call_challenged}
-use Rattle.civl_meaning.specs.Left.{stmt_of}
+use Rattle.civl_meaning.specs.inner.Left.{stmt_of}
 use Rattle.std.proofs.lemmas.Option.{none-some, same_Some}
 
 -- of what is called, whatever stands around the call
@@ -72,12 +71,12 @@ module _ (plain : Plain) (layer : ℕ) (store : Store) (frame : Activation) (pro
       go (Some s) e h = absurd (none-some s.stmt (sym h))
 
   pub frame_some : (caller : Option Activation) (st : Stmt) (b : Bool) → stmt_of (spot_at proc.body frame.place) ≡ Some st
-      → ((at next : ℕ) → b ≡ call_challenged plain.program layer store (layer_doing plain proc frame.locals at next (out-Stmt st))) → b ≡ Does caller
+      → ((at next : ℕ) → b ≡ call_challenged plain.program layer store (statement_doing plain proc frame.locals at next (out-Stmt st))) → b ≡ Does caller
   frame_some caller st b h says = go (spot_at proc.body frame.place) refl h
     where
       go : (o : Option Spot) → spot_at proc.body frame.place ≡ o → stmt_of o ≡ Some st → b ≡ Does caller
       go None e q = absurd (none-some st q)
       go (Some s) e q =
           says s.number s.next
-          ∙ (ap (λ (x : Stmt). call_challenged plain.program layer store (layer_doing plain proc frame.locals s.number s.next (out-Stmt x))) (sym (same_Some s.stmt st q))
+          ∙ (ap (λ (x : Stmt). call_challenged plain.program layer store (statement_doing plain proc frame.locals s.number s.next (out-Stmt x))) (sym (same_Some s.stmt st q))
           ∙ sym (at_spot caller (Some s) e))

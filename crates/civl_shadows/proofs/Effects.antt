@@ -28,7 +28,7 @@ use Rattle.civl_shadows.specs.declared.frames.Framed.{Framed}
 use Rattle.civl_shadows.specs.Frames.{framed_of}
 use Rattle.civl_shadows.specs.Notes.{noted, progress_of}
 use Rattle.civl_shadows.specs.Shadows.{IsShadow, IsLayerOf, Shows}
-use Rattle.civl_shadows.specs.Stepping.{with_effect, begun_by, IsProgressIn}
+use Rattle.civl_shadows.specs.inner.Stepping.{with_effect, begun_by, IsProgressIn}
 
 -- ---- what takes effect
 

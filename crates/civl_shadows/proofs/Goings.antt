@@ -12,7 +12,7 @@ use Rattle.civl_conditions.specs.paths.Runs.{layer_led, led}
 use Rattle.civl_reduction.specs.blocks.Blocks.{layer_at_yield, at_yield}
 use Rattle.civl_reduction.specs.blocks.Cuts.{settled_layer, settled}
 use Rattle.civl_reduction.specs.blocks.Shadow.{glided_layer, glided}
-use Rattle.civl_meaning.specs.Left.{stmt_of}
+use Rattle.civl_meaning.specs.inner.Left.{stmt_of}
 use Rattle.civl_shadows.specs.declared.notes.Noting.{Noting}
 use Rattle.civl_meaning.specs.declared.remaining.Numbered.{Numbered}
 use Rattle.civl_shadows.specs.Notes.{noted}

@@ -6,7 +6,7 @@ use Rattle.civl_bits.specs.declared.value.Value.{Value}
 use Rattle.civl_tree.specs.declared.program.Global.{Global}
 use Rattle.civl_tree.proofs.Lists.{drop_is}
 use Rattle.civl_reduction.specs.blocks.Shadow.{merged_values}
-use Rattle.civl_shadows.specs.Merging.{picked}
+use Rattle.civl_shadows.specs.inner.Merging.{picked}
 use Rattle.civl_shadows.proofs.Dropping.{tail, drop_tail}
 
 merged_none : (first : ℕ) (gs : List Global) (vs : List Value) → merged_values first gs vs [] ≡ vs

@@ -1,5 +1,4 @@
 pub mod Frames
 pub mod Notes
-pub mod Merging
 pub mod Shadows
-pub mod Stepping
+pub mod inner

@@ -3,18 +3,17 @@ ghost use Rattle.std.specs.Prelude.{ℕ, ◌≡◌, ◌+◌, ◌<◌, ◌^◌, L
 ghost use Rattle.civl_bits.specs.declared.value.Value.{Value as Given};
 ghost use Rattle.civl_tree.specs.declared.name.Name.{Name as Called};
 ghost use Rattle.civl_meaning.specs.declared.config.Activation.{Activation as Waiting};
-ghost use Rattle.civl_meaning.specs.Change.{new_frame, caller_of};
+ghost use Rattle.civl_meaning.specs.Change.{new_frame, caller_of, doing, call_doing, statement_doing, proc_doing};
 ghost use Rattle.civl_firing.specs.Eval.{values_of};
 ghost use Rattle.civl_firing.specs.Scope.{frame_values};
 ghost use Rattle.civl_tree.specs.rules.Names.{names_in_proc};
 ghost use Rattle.civl_meaning.specs.Meaning.{meaning_of, called};
 ghost use Rattle.civl_meaning.specs.Rest.{head_of};
 ghost use Rattle.civl_conditions.specs.Assumed.{refined_action};
-ghost use Rattle.civl_reduction.specs.exchanges.Doing.{doing, call_doing, layer_doing, proc_doing};
 ghost use Rattle.civl_tree.specs.declared.stmt.Stmt.{out-Stmt};
 ghost use Rattle.civl_reduction.specs.blocks.Challenged.{allows, call_challenged, frame_challenged, thread_challenged, some_challenged, is_challenged};
 ghost use Rattle.civl_reduction.specs.blocks.Shadow.{Shadowed as Beside};
-ghost use Rattle.civl_meaning.specs.Left.{stmt_of};
+ghost use Rattle.civl_meaning.specs.inner.Left.{stmt_of};
 ghost use Rattle.civl_shadows.specs.Frames.{framed_of};
 ghost use Rattle.civl_meaning.specs.Remaining.{rest_of};
 ghost use Rattle.civl_shadows.specs.Shadows.{IsLayerOf, Shows, done_in};
@@ -165,7 +164,7 @@ fn statement_challenged(
     locals: &[Value],
     stmt: &Stmt,
 ) -> Result<bool, Memory>
-    ensures { IfOk result (λ b. (at next : ℕ) → b ≡ call_challenged plain.now.program layer store.now (layer_doing plain.now proc.now locals.now at next (out-Stmt stmt.now))) }
+    ensures { IfOk result (λ b. (at next : ℕ) → b ≡ call_challenged plain.now.program layer store.now (statement_doing plain.now proc.now locals.now at next (out-Stmt stmt.now))) }
 {
     match stmt {
         Stmt::Call(name, args, results) => {

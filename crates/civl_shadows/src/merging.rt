@@ -1,7 +1,7 @@
 // The store with the shadow's values.
 ghost use Rattle.std.specs.Prelude.{◌≡◌, ◌+◌, ◌<◌, ◌^◌, IfOk, drop};
 ghost use Rattle.civl_reduction.specs.blocks.Shadow.{merged_values};
-ghost use Rattle.civl_shadows.specs.Merging.{picked};
+ghost use Rattle.civl_shadows.specs.inner.Merging.{picked};
 
 use civl_bits::Value;
 use civl_firing::Store;

@@ -6,7 +6,7 @@ ghost use Rattle.civl_meaning.specs.Table.{ArePlaces};
 ghost use Rattle.civl_reduction.specs.blocks.Cuts.{frame_at};
 ghost use Rattle.civl_reduction.specs.blocks.Shadow.{Shadow as Kept, Shadowed as Beside, before_frame, after_frame, shadowed_start, shadowed_step};
 ghost use Rattle.civl_shadows.specs.Frames.{framed_of};
-ghost use Rattle.civl_shadows.specs.Stepping.{with_effect, begun_by, IsProgressIn};
+ghost use Rattle.civl_shadows.specs.inner.Stepping.{with_effect, begun_by, IsProgressIn};
 ghost use Rattle.civl_shadows.specs.Shadows.{IsShadow, IsLayerOf, Shows};
 
 use crate::frames::{Framed, frame_at};

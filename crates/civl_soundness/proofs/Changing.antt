@@ -1,6 +1,6 @@
 -- What a step of a thread does has its sorts.
 use Rattle.std.proofs.Common.{◌≡◌, ℕ, ◌-◌, Bool, true, false, not, List, [], ◌∷◌, ◌++◌, map, length, drop, refl, sym, ap, ◌∙◌, subst, Option, None, Some, slice_get, slice_set}
-use Rattle.std.specs.Prelude.{All, is_none, nat_eq, IsTrue, if◌then◌else◌}
+use Rattle.std.specs.Prelude.{option_map, All, is_none, nat_eq, IsTrue, if◌then◌else◌}
 use Rattle.std.specs.List.{list_any}
 use Rattle.std.proofs.lemmas.Bool.{false≢true, not-false, or_parts, eqb-true, eq-eqb, or_right}
 use Rattle.std.proofs.lemmas.List.{length-map}
@@ -39,7 +39,7 @@ use Rattle.civl_meaning.specs.declared.config.Running.{Running}
 use Rattle.civl_meaning.specs.declared.config.Stepped.TheVariants as answer
 use Rattle.civl_firing.specs.declared.firing.Fired.{Fired}
 use Rattle.civl_firing.specs.declared.firing.Fired.TheVariants as fire
-use Rattle.civl_meaning.specs.declared.config.Change.TheVariants.{Stays, Goes}
+use Rattle.civl_meaning.specs.declared.config.Change.TheVariants.{Stays, Goes, Leaves}
 use Rattle.civl_firing.specs.declared.scope.Scope.{Scope}
 use Rattle.civl_firing.specs.Truth.{place_of}
 use Rattle.civl_firing.specs.Eval.{value_of, values_of}
@@ -49,7 +49,8 @@ use Rattle.civl_firing.specs.Scope.{frame_values}
 use Rattle.civl_firing.specs.Fired.{gate_holds, choices_fit, fired}
 use Rattle.civl_meaning.specs.Places.{Spot, spot_at}
 use Rattle.civl_meaning.specs.Meaning.{Meaning, Does, Runs, Missing, called, meaning_of, proc_number}
-use Rattle.civl_meaning.specs.Change.{with_results, new_frame, acted, action_change, call_change, layer_change, returned_layer, returned_at, returned_in, returned, leaves, outs_in, spot_change, proc_change, caller_of, state_change, change_of}
+use Rattle.civl_meaning.specs.Change.{with_results, new_frame, acted, action_change, done_by, call_doing, statement_doing, returned_layer, returned_at, returned_in, returned, outs_in, spot_doing, proc_doing, caller_of, state_doing, change_of}
+use Rattle.civl_meaning.specs.Change as does
 use Rattle.civl_meaning.specs.Config.{IsPlain, layer_spawns, spawns, begins_threads, frame_sorts, HasLocals, IsBodyOf, LayerCalls, SpotCalls, ProcCalls, Waits, AreWaiting, StateIsStacked, StateIsSorted, ThreadIsSorted, IsStacked}
 use Rattle.civl_firing.proofs.Having.{first_sort, rest_sorts, args_have_sorts}
 use Rattle.civl_firing.proofs.Serving.{served_only}
@@ -172,7 +173,7 @@ module _ (plain : Plain) (ok : IsPlain plain) where
 
     -- a call of what takes and gives values of these sorts
     call_fits : (state : State) (names : List Name) (locals : List Value) (results : List Name) (number next : ℕ) (taken given : List Sort) (m : Meaning) (args : List Value) → Serves program taken given m → HaveSorts args taken →
-        ((outs : List Value) → HaveSorts outs given → LocalsFit plain state (with_results names locals results outs)) → Fits plain state (call_change plain store chosen names locals results number next m args)
+        ((outs : List Value) → HaveSorts outs given → LocalsFit plain state (with_results names locals results outs)) → Fits plain state (done_by plain store chosen (call_doing names locals results number next m args))
     call_fits state names locals results number next taken given (Does action) args s h g =
         action_fits state names locals results next s.0 action args s.1 (subst (HaveSorts args) (sym s.2) h) (λ outs k. g outs (subst (HaveSorts outs) s.3 k))
     call_fits state names locals results number next taken given (Runs n p) args s h g = new_fits n p args s.0 (subst (HaveSorts args) (sym s.1) h)
@@ -191,7 +192,7 @@ module _ (plain : Plain) (ok : IsPlain plain) where
       stays = (proc, at, h)
 
       call_in_frame : (f : Name) (es : List Expr) (rs : List Name) (number next : ℕ) → Keeps program proc (Call f es rs) →
-          Fits plain (Inside below top) (call_change plain store chosen (names_in_proc proc) top.locals rs number next (called plain f) (values_of scope es))
+          Fits plain (Inside below top) (done_by plain store chosen (call_doing (names_in_proc proc) top.locals rs number next (called plain f) (values_of scope es)))
       call_in_frame f es rs number next k =
           let found = some_of (callee_signature program f) (or_parts (is_none (callee_signature program f)) (list_any (place_unknown proc) rs) k.known).0 in
           let signature = found.0 in
@@ -210,12 +211,12 @@ module _ (plain : Plain) (ok : IsPlain plain) where
             begins = b;
           }
 
-      layer_fits : (number next : ℕ) (d : Stmt-F Stmt) → Keeps program proc d → ((n : ℕ) → IsTrue (layer_spawns program n d) → IsTrue (begins_threads program n)) → Fits plain (Inside below top) (layer_change plain store chosen proc top.locals number next d)
+      layer_fits : (number next : ℕ) (d : Stmt-F Stmt) → Keeps program proc d → ((n : ℕ) → IsTrue (layer_spawns program n d) → IsTrue (begins_threads program n)) → Fits plain (Inside below top) (done_by plain store chosen (statement_doing plain proc top.locals number next d))
       layer_fits number next (Assign x e) k b =
           (proc, at, local_set proc top.locals x (value_of scope e) h (λ s q. first_fits scope (body_scope program proc) fit e (place_sort proc x) [] k.sorted k.narrow k.low s q))
       layer_fits number next (Assert e) k b = by_truth (is_true (value_of scope e))
         where
-          by_truth : (t : Bool) → Fits plain (Inside below top) (if t then Goes top.locals next else Stays answer.Failing)
+          by_truth : (t : Bool) → Fits plain (Inside below top) (done_by plain store chosen (if t then does.Goes top.locals next else does.Fails))
           by_truth true = stays
           by_truth false = tt
       layer_fits number next (If e xs ys) k b = stays
@@ -261,7 +262,7 @@ module _ (plain : Plain) (ok : IsPlain plain) where
           record { proc = h.proc; there = h.there; locals = layer_returned n proc at outs ho h.proc frame.locals h.locals (out-Stmt s.stmt) keeps c.1 }
 
   leaves_fit : (below : List Activation) (top : Activation) (proc : Proc) → slice_get program.procs top.procedure ≡ Some proc → HaveSorts top.locals (frame_sorts proc) → All (HasLocals plain) below → AreWaiting plain below top → (o : Option Activation) → caller_of below ≡ o →
-      Fits plain (Inside below top) (leaves plain (outs_in proc top.locals) o)
+      Fits plain (Inside below top) (Leaves (option_map (returned plain (outs_in proc top.locals)) o))
   leaves_fit below top proc at h all w None e = tt
   leaves_fit below top proc at h all w (Some frame) e =
       returned_has top.procedure proc at (outs_in proc top.locals) (outs_have proc top.locals h) frame (all_at (HasLocals plain) below (length below - 1) frame e all) (last_waits plain below top frame e w)
@@ -269,11 +270,11 @@ module _ (plain : Plain) (ok : IsPlain plain) where
   -- ---- a thread
 
   frame_fits : (store : Store) → IsStore program.globals store → (chosen : List Value) → All IsValue chosen → (below : List Activation) (top : Activation) → All (HasLocals plain) below → HasLocals plain top → AreWaiting plain below top →
-      Fits plain (Inside below top) (proc_change plain store chosen (caller_of below) top (slice_get program.procs top.procedure))
+      Fits plain (Inside below top) (done_by plain store chosen (proc_doing plain (caller_of below) top (slice_get program.procs top.procedure)))
   frame_fits store hs chosen hv below top all h w =
-      subst (λ (o : Option Proc). Fits plain (Inside below top) (proc_change plain store chosen (caller_of below) top o)) (sym h.there) (by_spot (spot_at h.proc.body top.place) refl)
+      subst (λ (o : Option Proc). Fits plain (Inside below top) (done_by plain store chosen (proc_doing plain (caller_of below) top o))) (sym h.there) (by_spot (spot_at h.proc.body top.place) refl)
     where
-      by_spot : (o : Option Spot) → spot_at h.proc.body top.place ≡ o → Fits plain (Inside below top) (spot_change plain store chosen (caller_of below) top h.proc o)
+      by_spot : (o : Option Spot) → spot_at h.proc.body top.place ≡ o → Fits plain (Inside below top) (done_by plain store chosen (spot_doing plain (caller_of below) top h.proc o))
       by_spot None e = leaves_fit below top h.proc h.there h.locals all w (caller_of below) refl
       by_spot (Some s) e =
           let a = spot_is_among h.proc.body top.place s e in
@@ -282,7 +283,7 @@ module _ (plain : Plain) (ok : IsPlain plain) where
   pub change_fits : (store : Store) → IsStore program.globals store → (chosen : List Value) → All IsValue chosen → (thread : Running) → ThreadIsSorted plain thread → IsStacked plain thread → Fits plain thread.state (change_of plain store chosen thread)
   change_fits store hs chosen hv thread h k = by_state thread.state h k
     where
-      by_state : (state : State) → StateIsSorted plain thread state → StateIsStacked plain thread.callee state → Fits plain state (state_change plain store chosen thread state)
+      by_state : (state : State) → StateIsSorted plain thread state → StateIsStacked plain thread.callee state → Fits plain state (done_by plain store chosen (state_doing plain thread state))
       by_state Before b s =
           call_fits store hs chosen hv Before [] [] [] 0 0 (param_sorts b.proc.params) (param_sorts b.proc.outs) (meaning_of plain thread.callee) thread.args (number_serves plain ok thread.callee b.proc b.there) b.args (λ outs g. tt)
       by_state (Inside below top) b s = frame_fits store hs chosen hv below top b.1 b.2 s.waiting

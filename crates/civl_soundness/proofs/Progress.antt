@@ -31,16 +31,22 @@ use Rattle.civl_firing.specs.Scope.{frame_values}
 use Rattle.civl_firing.specs.Fired.{gate_holds, guard_holds, choices_fit, fires, fired_by, fired}
 use Rattle.civl_meaning.specs.Places.{Spot, skip_layer, spot_at}
 use Rattle.civl_meaning.specs.Meaning.{Meaning, Does, Runs, Missing, called, meaning_of}
-use Rattle.civl_meaning.specs.Change.{acted, action_change, call_change, layer_change, leaves, outs_in, spot_change, proc_change, caller_of, state_change, change_of}
+use Rattle.civl_meaning.specs.Change.{acted, action_change, done_by, call_doing, statement_doing, spot_doing, proc_doing, caller_of, state_doing, Doing, doing, change_of}
+use Rattle.civl_meaning.specs.Change as does
 use Rattle.civl_meaning.specs.Failing.{thread_fails, answers_failing}
 use Rattle.civl_meaning.specs.Step.{step_with, step_in}
 use Rattle.civl_meaning.specs.Config.{IsPlain, IsOf, StateIsSorted, ThreadIsSorted, HasLocals}
 use Rattle.civl_meaning.proofs.Failures.{failing_is_answered}
-use Rattle.civl_soundness.specs.Stepped.{action_with, layer_action, spot_action, proc_action, state_action, next_action, IsBefore, Cause, AnswersHaveCauses, CausesAreAnswered}
+use Rattle.civl_soundness.specs.Stepped.{called_in, next_action, IsBefore, Cause, AnswersHaveCauses, CausesAreAnswered}
 use Rattle.civl_soundness.proofs.Among.{spot_is_among, spot_is_plain}
 use Rattle.civl_soundness.proofs.Declared.{IsDeclared, number_declared, called_declared}
 use Rattle.civl_soundness.proofs.Changing.{Keeps, statement_keeps}
 use Rattle.civl_soundness.proofs.Fitting.{all_at}
+
+-- an assert calls nothing
+pub asserts_call_nothing : (locals : List Value) (next : ℕ) (b : Bool) → called_in (if b then does.Goes locals next else does.Fails) ≡ None
+asserts_call_nothing locals next true = refl
+asserts_call_nothing locals next false = refl
 
 module _ (plain : Plain) (store : Store) (chosen : List Value) where
   -- a thread stands before this call of an action, whose gate holds; the choices fit or don't, and this is so of the guard
@@ -92,17 +98,21 @@ module _ (plain : Plain) (store : Store) (chosen : List Value) where
       by_tests true g true c fire.Blocked e = record { action = action; args = args; is = refl; gate = g; choices = c; guard = fired_blocked action args e }
       by_tests true g true c (fire.Moved after outs) e = tt
 
-  call_why : (state : State) (names : List Name) (locals : List Value) (results : List Name) (number next : ℕ) (m : Meaning) (args : List Value) → IsDeclared m → Why (action_with m args) state (call_change plain store chosen names locals results number next m args)
+  -- the same of what a thread does next
+  abbrev WhyDoing : State → Doing → Type 0
+  WhyDoing state next = Why (called_in next) state (done_by plain store chosen next)
+
+  call_why : (state : State) (names : List Name) (locals : List Value) (results : List Name) (number next : ℕ) (m : Meaning) (args : List Value) → IsDeclared m → WhyDoing state (call_doing names locals results number next m args)
   call_why state names locals results number next (Does action) args d = action_why state names locals results next action args
   call_why state names locals results number next (Runs n p) args d = tt
   call_why state names locals results number next Missing args d = absurd d
 
   module _ (ok : IsPlain plain) (below : List Activation) (top : Activation) where
-    layer_why : (proc : Proc) (number next : ℕ) (d : Stmt-F Stmt) → Keeps plain.program proc d → skip_layer d ≡ false → Why (layer_action plain proc top.locals d) (Inside below top) (layer_change plain store chosen proc top.locals number next d)
+    layer_why : (proc : Proc) (number next : ℕ) (d : Stmt-F Stmt) → Keeps plain.program proc d → skip_layer d ≡ false → WhyDoing (Inside below top) (statement_doing plain proc top.locals number next d)
     layer_why proc number next (Assign x e) k s = tt
     layer_why proc number next (Assert e) k s = by_truth (is_true (value_of (frame_values plain.program.globals proc top.locals) e))
       where
-        by_truth : (t : Bool) → Why None (Inside below top) (if t then Goes top.locals next else Stays answer.Failing)
+        by_truth : (t : Bool) → WhyDoing (Inside below top) (if t then does.Goes top.locals next else does.Fails)
         by_truth true = tt
         by_truth false = tt
     layer_why proc number next (If e xs ys) k s = tt
@@ -117,20 +127,16 @@ module _ (plain : Plain) (store : Store) (chosen : List Value) where
     layer_why proc number next Commit k s = absurd (false≢true (sym s))
     layer_why proc number next (Intro x e) k s = absurd (false≢true (sym s))
 
-    leaves_why : (outs : List Value) (o : Option Activation) → Why None (Inside below top) (leaves plain outs o)
-    leaves_why outs None = tt
-    leaves_why outs (Some frame) = tt
-
-    frame_why : HasLocals plain top → Why (proc_action plain top (slice_get plain.program.procs top.procedure)) (Inside below top) (proc_change plain store chosen (caller_of below) top (slice_get plain.program.procs top.procedure))
+    frame_why : HasLocals plain top → WhyDoing (Inside below top) (proc_doing plain (caller_of below) top (slice_get plain.program.procs top.procedure))
     frame_why h =
-        subst (λ (o : Option Proc). Why (proc_action plain top o) (Inside below top) (proc_change plain store chosen (caller_of below) top o)) (sym h.there) (by_spot (spot_at h.proc.body top.place) refl)
+        subst (λ (o : Option Proc). WhyDoing (Inside below top) (proc_doing plain (caller_of below) top o)) (sym h.there) (by_spot (spot_at h.proc.body top.place) refl)
       where
-        by_spot : (o : Option Spot) → spot_at h.proc.body top.place ≡ o → Why (spot_action plain h.proc top.locals o) (Inside below top) (spot_change plain store chosen (caller_of below) top h.proc o)
-        by_spot None e = leaves_why (outs_in h.proc top.locals) (caller_of below)
+        by_spot : (o : Option Spot) → spot_at h.proc.body top.place ≡ o → WhyDoing (Inside below top) (spot_doing plain (caller_of below) top h.proc o)
+        by_spot None e = tt
         by_spot (Some s) e =
             layer_why h.proc s.number s.next (out-Stmt s.stmt) (statement_keeps plain ok top.procedure h.proc h.there s.stmt (spot_is_among h.proc.body top.place s e)) (spot_is_plain h.proc.body top.place s e)
 
-  state_why : IsPlain plain → (thread : Running) (state : State) → StateIsSorted plain thread state → Why (state_action plain thread state) state (state_change plain store chosen thread state)
+  state_why : IsPlain plain → (thread : Running) (state : State) → StateIsSorted plain thread state → WhyDoing state (state_doing plain thread state)
   state_why ok thread Before h = call_why Before [] [] [] 0 0 (meaning_of plain thread.callee) thread.args (number_declared plain ok thread.callee h.proc h.there)
   state_why ok thread (Inside below top) h = frame_why ok below top h.2
   state_why ok thread After h = refl
@@ -200,8 +206,8 @@ module _ (plain : Plain) (store : Store) (chosen : List Value) (action : Action)
   called_args None = args
   called_args (Some p) = p.1
 
-  with_is : (m : Meaning) (given : List Value) → action_with m given ≡ Some (action, args) → (names : List Name) (locals : List Value) (results : List Name) (number next : ℕ) → IsCall (call_change plain store chosen names locals results number next m given)
-  with_is (Does other) given e names locals results number next =
+  done_is : (next : Doing) → called_in next ≡ Some (action, args) → IsCall (done_by plain store chosen next)
+  done_is (does.Calls names locals results next other given) e =
       let p = ap (λ (o : Option (Action × List Value)). called_action o) e in
       let q = ap (λ (o : Option (Action × List Value)). called_args o) e in
       record {
@@ -211,34 +217,7 @@ module _ (plain : Plain) (store : Store) (chosen : List Value) (action : Action)
         next = next;
         is = ap (λ (x : Action). action_change plain store chosen names locals results next x given) p ∙ ap (action_change plain store chosen names locals results next action) q;
       }
-  with_is (Runs n p) given e names locals results number next = absurd (cc)
-  with_is Missing given e names locals results number next = absurd (cc)
-
-  layer_is : (proc : Proc) (locals : List Value) (number next : ℕ) (d : Stmt-F Stmt) → layer_action plain proc locals d ≡ Some (action, args) → IsCall (layer_change plain store chosen proc locals number next d)
-  layer_is proc locals number next (Call f es rs) e = with_is (called plain f) (values_of (frame_values plain.program.globals proc locals) es) e (names_in_proc proc) locals rs number next
-  layer_is proc locals number next (Assign x v) e = absurd (cc)
-  layer_is proc locals number next (Assert v) e = absurd (cc)
-  layer_is proc locals number next (If v xs ys) e = absurd (cc)
-  layer_is proc locals number next (While v xs) e = absurd (cc)
-  layer_is proc locals number next (YieldLoop v i xs) e = absurd (cc)
-  layer_is proc locals number next (RankLoop v r i xs) e = absurd (cc)
-  layer_is proc locals number next (Spawn f es) e = absurd (cc)
-  layer_is proc locals number next (Yield v) e = absurd (cc)
-  layer_is proc locals number next Commit e = absurd (cc)
-  layer_is proc locals number next (Intro x v) e = absurd (cc)
-
-  spot_is : (caller : Option Activation) (top : Activation) (proc : Proc) (o : Option Spot) → spot_action plain proc top.locals o ≡ Some (action, args) → IsCall (spot_change plain store chosen caller top proc o)
-  spot_is caller top proc None e = absurd (cc)
-  spot_is caller top proc (Some s) e = layer_is proc top.locals s.number s.next (out-Stmt s.stmt) e
-
-  frame_is : (caller : Option Activation) (top : Activation) (o : Option Proc) → proc_action plain top o ≡ Some (action, args) → IsCall (proc_change plain store chosen caller top o)
-  frame_is caller top None e = absurd (cc)
-  frame_is caller top (Some proc) e = spot_is caller top proc (spot_at proc.body top.place) e
-
-  state_is : (thread : Running) (state : State) → state_action plain thread state ≡ Some (action, args) → IsCall (state_change plain store chosen thread state)
-  state_is thread Before e = with_is (meaning_of plain thread.callee) thread.args e [] [] [] 0 0
-  state_is thread (Inside below top) e = frame_is (caller_of below) top (slice_get plain.program.procs top.procedure) e
-  state_is thread After e = absurd (cc)
+  done_is _ e = absurd (cc)
 
   misfit : (names : List Name) (locals : List Value) (results : List Name) (next : ℕ) → gate_holds plain.program.globals store action args ≡ true → choices_fit action chosen ≡ false → action_change plain store chosen names locals results next action args ≡ Stays answer.BadChoices
   misfit names locals results next g c = rw (g, c) refl
@@ -251,12 +230,12 @@ module _ (plain : Plain) (store : Store) (chosen : List Value) (action : Action)
 pub causes_are_answered : CausesAreAnswered
 causes_are_answered plain config move answer.Moved n h = absurd (n refl)
 causes_are_answered plain config move answer.NoThread n h = ap (λ (o : Option Running). (step_in plain config move o).0) h
-causes_are_answered plain config move answer.Ended n h = step_there plain config move h.0 h.1 answer.Ended (ap (state_change plain config.store move.choices h.0) h.2)
+causes_are_answered plain config move answer.Ended n h = step_there plain config move h.0 h.1 answer.Ended (ap (λ (x : State). done_by plain config.store move.choices (state_doing plain h.0 x)) h.2)
 causes_are_answered plain config move answer.Failing n h =
     step_there plain config move h.0 h.1 answer.Failing (stays_failing (change_of plain config.store move.choices h.0) (failing_is_answered plain config.store move.choices h.0 ∙ h.2))
 causes_are_answered plain config move answer.BadChoices n h =
-    let c = state_is plain config.store move.choices h.0 h.1 h.2.thread h.2.thread.state h.2.next in
+    let c = done_is plain config.store move.choices h.0 h.1 (doing plain h.2.thread) h.2.next in
     step_there plain config move h.2.thread h.2.there answer.BadChoices (c.is ∙ misfit plain config.store move.choices h.0 h.1 c.names c.locals c.results c.next h.2.gate h.3)
 causes_are_answered plain config move answer.Blocked n h =
-    let c = state_is plain config.store move.choices h.0 h.1 h.2.thread h.2.thread.state h.2.next in
+    let c = done_is plain config.store move.choices h.0 h.1 (doing plain h.2.thread) h.2.next in
     step_there plain config move h.2.thread h.2.there answer.Blocked (c.is ∙ shut plain config.store move.choices h.0 h.1 c.names c.locals c.results c.next h.2.gate h.3 h.4)

@@ -5,53 +5,27 @@
 use Rattle.std.specs.Prelude.{◌≡◌, ◌≢◌, false, List, Option, None, Some, slice_get, IsTrue, ⊤}
 use Rattle.civl_bits.specs.declared.value.Value.{Value}
 use Rattle.civl_tree.specs.declared.action.Action.{Action}
-use Rattle.civl_tree.specs.declared.program.Proc.{Proc}
-use Rattle.civl_tree.specs.declared.stmt.Stmt.{Stmt, out-Stmt}
-use Rattle.civl_tree.specs.declared.stmt.Stmt.TheOpen.{Stmt-F, Call}
 use Rattle.civl_meaning.specs.declared.config.Move.{Move}
 use Rattle.civl_meaning.specs.declared.config.Plain.{Plain}
-use Rattle.civl_meaning.specs.declared.config.Activation.{Activation}
-use Rattle.civl_meaning.specs.declared.config.State.{State}
-use Rattle.civl_meaning.specs.declared.config.State.TheVariants.{Before, Inside, After}
+use Rattle.civl_meaning.specs.declared.config.State.TheVariants.{After}
 use Rattle.civl_meaning.specs.declared.config.Running.{Running}
 use Rattle.civl_meaning.specs.declared.config.Config.{Config}
 use Rattle.civl_meaning.specs.declared.config.Stepped.{Stepped}
 use Rattle.civl_meaning.specs.declared.config.Stepped.TheVariants as answer
-use Rattle.civl_firing.specs.Eval.{values_of}
-use Rattle.civl_firing.specs.Scope.{frame_values}
 use Rattle.civl_firing.specs.Fired.{gate_holds, guard_holds, choices_fit}
-use Rattle.civl_meaning.specs.Places.{Spot, spot_at}
-use Rattle.civl_meaning.specs.Meaning.{Meaning, Does, Runs, Missing, called, meaning_of}
+use Rattle.civl_meaning.specs.Change.{Doing, Calls, doing}
 use Rattle.civl_meaning.specs.Failing.{thread_fails}
 use Rattle.civl_meaning.specs.Step.{step_of}
 use Rattle.civl_meaning.specs.Config.{IsPlain, IsOf}
 
 -- ---- the action before whose call a thread stands, with the values of the call's arguments
 
-abbrev pub action_with : Meaning → List Value → Option (Action × List Value)
-action_with (Does action) args = Some (action, args)
-action_with (Runs number proc) args = None
-action_with Missing args = None
-
-abbrev pub layer_action : Plain → Proc → List Value → Stmt-F Stmt → Option (Action × List Value)
-layer_action plain proc locals (Call f es rs) = action_with (called plain f) (values_of (frame_values plain.program.globals proc locals) es)
-layer_action plain proc locals _ = None
-
-abbrev pub spot_action : Plain → Proc → List Value → Option Spot → Option (Action × List Value)
-spot_action plain proc locals None = None
-spot_action plain proc locals (Some s) = layer_action plain proc locals (out-Stmt s.stmt)
-
-abbrev pub proc_action : Plain → Activation → Option Proc → Option (Action × List Value)
-proc_action plain frame None = None
-proc_action plain frame (Some proc) = spot_action plain proc frame.locals (spot_at proc.body frame.place)
-
-abbrev pub state_action : Plain → Running → State → Option (Action × List Value)
-state_action plain thread Before = action_with (meaning_of plain thread.callee) thread.args
-state_action plain thread (Inside below top) = proc_action plain top (slice_get plain.program.procs top.procedure)
-state_action plain thread After = None
+abbrev pub called_in : Doing → Option (Action × List Value)
+called_in (Calls names locals results next action args) = Some (action, args)
+called_in _ = None
 
 abbrev pub next_action : Plain → Running → Option (Action × List Value)
-next_action plain thread = state_action plain thread thread.state
+next_action plain thread = called_in (doing plain thread)
 
 -- ---- causes
 

@@ -22,7 +22,7 @@ use Rattle.civl_conditions.specs.Variables.{variables, of_params, of_locals, of_
 use Rattle.civl_conditions.specs.Steps.{of_action, of_cut}
 use Rattle.civl_states.specs.Formulas.{sorts_of}
 use Rattle.civl_states.specs.Runs.{instance_sorts}
-use Rattle.civl_states.specs.Sorted.{cut_sorts, grouped_sorts, lower_sorts, other_sorts, thread_sorts}
+use Rattle.civl_states.specs.inner.Sorted.{cut_sorts, grouped_sorts, lower_sorts, other_sorts, thread_sorts}
 use Rattle.civl_states.proofs.Starting.{join, globals_sorts, params_sorts, locals_sorts, path_sorts_are}
 use Rattle.civl_states.proofs.Variables.{instance_named, params_named}
 

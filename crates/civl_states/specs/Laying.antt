@@ -1,4 +1,4 @@
--- For private functions alone: the variables of a path's beginning group by group, and the terms for each.
+-- The variables of a path's beginning group by group, and the terms for each; `inner_sorts` is cited in civl_goal_terms too.
 use Rattle.std.specs.Prelude.{◌≡◌, ℕ, ◌+◌, Bool, true, false, not, if◌then◌else◌, List, [], ◌∷◌, ◌++◌, length, map, filter, slice_get, ⊤}
 use Rattle.std.specs.Option.{option_map_or}
 use Rattle.civl_bits.specs.declared.value.Value.{Value}

@@ -8,5 +8,5 @@ pub mod Same
 pub mod Beginnings
 pub mod Laying
 pub mod Formulas
-pub mod Sorted
 pub mod formula_parts
+pub mod inner

@@ -6,7 +6,7 @@ ghost use Rattle.civl_layers.specs.Cuts.{proc_cuts};
 ghost use Rattle.civl_conditions.specs.Steps.{of_action, of_cut};
 ghost use Rattle.civl_states.specs.Formulas.{sorts_of};
 ghost use Rattle.civl_states.specs.Runs.{param_sorts};
-ghost use Rattle.civl_states.specs.Sorted.{cut_sorts, grouped_sorts, lower_sorts, other_sorts, thread_sorts};
+ghost use Rattle.civl_states.specs.inner.Sorted.{cut_sorts, grouped_sorts, lower_sorts, other_sorts, thread_sorts};
 
 use crate::beginning_choices::passed_from;
 use crate::path_sorts::push_path;

@@ -1,2 +1,2 @@
 pub mod Symbolic
-pub mod Laws
+pub mod examples

@@ -6,7 +6,7 @@ use Rattle.civl_tree.specs.declared.expr.Two.TheVariants.{Add, Mul, Lt}
 use Rattle.civl_firing.specs.values.Operators.{two_value}
 use Rattle.civl_terms.specs.Graphs.{values, value_at, sorts}
 use Rattle.civl_terms.specs.Weights.{graph_weight, term_weight}
-use Rattle.civl_terms.specs.Example.{example}
+use Rattle.civl_terms.specs.examples.Graphs.{example}
 
 pub variable : term_weight example 0 ≡ 8
 unfolding term_weight sorts

@@ -1,5 +1,5 @@
 pub mod Graphs
 pub mod Weights
 pub mod Building
-pub mod Example
 pub mod foldings
+pub mod examples

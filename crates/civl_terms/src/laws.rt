@@ -4,7 +4,7 @@ ghost use Rattle.civl_bits.specs.declared.value.Value.{Value};
 ghost use Rattle.civl_bits.specs.declared.value.Value.TheVariants as value;
 ghost use Rattle.civl_terms.specs.Graphs.{NodesHaveTheirSorts, value_at};
 ghost use Rattle.civl_terms.specs.Weights.{TermsWeighLess, graph_weight, term_weight};
-ghost use Rattle.civl_terms.specs.Example.{example};
+ghost use Rattle.civl_terms.specs.examples.Graphs.{example};
 
 /// Where the variables have values of their sorts, each node has a value of its sort.
 pub fn nodes_have_their_sorts()

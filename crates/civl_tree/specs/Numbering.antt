@@ -1,3 +1,4 @@
+-- Part of the claim: docs/CLAIM.md.
 -- The numbers by which a refusal names its place. Items are the declarations of a program in text order; statements
 -- are those of a procedure in text order, an `if` or a loop before its parts, the first branch before the second. That
 -- is the preorder numbering of a forest (Knuth, The Art of Computer Programming, volume 1, section 2.3.2).
@@ -71,17 +72,11 @@ no_statement = 0
 
 -- how many statements there are, where each part of a statement stands for the number of those in it
 abbrev pub size_step : Stmt-F ℕ → ℕ
-size_step (Assign target value) = 1
-size_step (Assert fact) = 1
 size_step (If test first second) = 1 + sum first + sum second
 size_step (While test body) = 1 + sum body
 size_step (YieldLoop test inv body) = 1 + sum body
 size_step (RankLoop test rank inv body) = 1 + sum body
-size_step (Call callee args results) = 1
-size_step (Yield inv) = 1
-size_step Commit = 1
-size_step (Intro target value) = 1
-size_step (Spawn callee args) = 1
+size_step _ = 1
 
 -- how many statements a statement is, itself and all that stand in it
 abbrev pub size_of : Stmt → ℕ

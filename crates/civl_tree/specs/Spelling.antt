@@ -1,3 +1,4 @@
+-- Part of the claim: docs/CLAIM.md.
 -- The spelling of sorts and expressions: from the tree to the tokens, production by production of the grammar. A
 -- production of a context-free grammar is read from its left side to its right side; parts are joined to the right.
 use Rattle.std.specs.Prelude.{Bool, if◌then◌else◌, List, [], ◌∷◌, ◌++◌, map, codes}

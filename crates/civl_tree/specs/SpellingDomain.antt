@@ -1,3 +1,4 @@
+-- Part of the claim: docs/CLAIM.md.
 -- Which trees have a spelling. The grammar can write a tree where each name in it is a name, each mode is one that its
 -- place has, and `spawn` and the operators udiv, urem, slt, sle and sar come in version 2 alone. The numbers of a tree
 -- have 32 bits by their type, as those of a text have. Tests go over the parts in text order, joined to the right;
@@ -6,7 +7,7 @@ use Rattle.std.specs.Prelude.{◌≡◌, ◌==◌, Bool, true, false, ◌&&◌, 
 use Rattle.std.specs.List.{list_all}
 use Rattle.civl_tree.specs.declared.name.Name.{Name}
 use Rattle.civl_tree.specs.declared.expr.Two.{Two}
-use Rattle.civl_tree.specs.declared.expr.Two.TheVariants.{Add, Sub, Mul, BitAnd, BitOr, BitXor, Shl, Shr, Lt, Le, Eq, Ne, And, Or, Implies, Udiv, Urem, Slt, Sle, Sar}
+use Rattle.civl_tree.specs.declared.expr.Two.TheVariants.{Udiv, Urem, Slt, Sle, Sar}
 use Rattle.civl_tree.specs.declared.expr.Expr.{Expr}
 use Rattle.civl_tree.specs.declared.expr.Expr.TheFolds.{fold-Expr}
 use Rattle.civl_tree.specs.declared.expr.Expr.TheOpen as expr
@@ -39,26 +40,12 @@ allows_name name = is_name name.bytes
 
 -- the version has the operator
 abbrev pub allows_op : Bool → Two → Bool
-allows_op new Add = true
-allows_op new Sub = true
-allows_op new Mul = true
-allows_op new BitAnd = true
-allows_op new BitOr = true
-allows_op new BitXor = true
-allows_op new Shl = true
-allows_op new Shr = true
-allows_op new Lt = true
-allows_op new Le = true
-allows_op new Eq = true
-allows_op new Ne = true
-allows_op new And = true
-allows_op new Or = true
-allows_op new Implies = true
 allows_op new Udiv = new
 allows_op new Urem = new
 allows_op new Slt = new
 allows_op new Sle = new
 allows_op new Sar = new
+allows_op new _ = true
 
 -- an expression, where each part stands as whether the grammar can write it
 abbrev pub allows_expr_step : Bool → expr.Expr-F Bool → Bool

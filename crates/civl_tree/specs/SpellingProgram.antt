@@ -1,3 +1,4 @@
+-- Part of the claim: docs/CLAIM.md.
 -- The spelling of declarations and programs: from the tree to the tokens, by the grammar.
 use Rattle.std.specs.Prelude.{Bool, if◌then◌else◌, Option, None, Some, List, [], ◌∷◌, ◌++◌, map, codes}
 use Rattle.civl_tree.specs.declared.expr.Expr.{Expr}

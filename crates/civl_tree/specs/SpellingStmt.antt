@@ -1,3 +1,4 @@
+-- Part of the claim: docs/CLAIM.md.
 -- The spelling of statements: from the tree to the tokens, by the grammar.
 use Rattle.std.specs.Prelude.{List, [], ◌∷◌, ◌++◌, codes}
 use Rattle.civl_tree.specs.declared.name.Name.{Name}

@@ -1,3 +1,4 @@
+-- Part of the claim: docs/CLAIM.md.
 -- The tokens that spell a text, without their places.
 use Rattle.std.specs.Prelude.{ℕ, ◌<◌, ◌^◌, ◌&&◌, ◌||◌, Bool, false, not, nat_eq, IsTrue, List, [], ◌∷◌, codes}
 use Rattle.std.specs.Char.{is_ascii_alphabetic, is_ascii_digit}

@@ -6,7 +6,7 @@ use Rattle.civl_tree.specs.Numbering.{statements_of}
 use Rattle.civl_tree.specs.rules.Rules.{numbers_where}
 use Rattle.civl_types.specs.declared.rule.TypingRule.{TypingRule}
 use Rattle.civl_types.specs.declared.rule.TypingRule.TheVariants.{Count, Width, Sorts, Index, Arity, StoreSize}
-use Rattle.civl_types.specs.Rules.{rule_of, stmt_breaks}
+use Rattle.civl_types.specs.inner.Rules.{rule_of, stmt_breaks}
 use Rattle.civl_names.proofs.walks.Walking.{none_asked}
 
 pub statements_told : (rule : TypingRule) (program : Program) (place : ℕ) (proc : Proc) → numbers_where (stmt_breaks rule program proc) 0 (statements_of proc.body) ≡ (rule_of rule).statements program place proc

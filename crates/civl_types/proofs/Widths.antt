@@ -3,7 +3,7 @@ use Rattle.std.proofs.Common.{◌≡◌, Bool, true, refl, sym, ap, ◌∙◌, s
 use Rattle.std.specs.Prelude.{◌&&◌, Option}
 use Rattle.civl_tree.specs.declared.expr.Sort.{Sort}
 use Rattle.civl_types.specs.declared.exprs.Judged.{Judged}
-use Rattle.civl_types.specs.Judging.{judge, judge_step}
+use Rattle.civl_types.specs.inner.Judging.{judge, judge_step}
 use Rattle.civl_tree.specs.declared.expr.Expr.{Expr, out-Expr, roll-Expr, roll-out-Expr, out-roll-Expr, map-Expr}
 use Rattle.civl_tree.specs.declared.expr.Expr.TheOpen as expr
 use Rattle.civl_tree.specs.declared.expr.Expr.TheFolds.{para-roll-Expr, fold-roll-Expr, ind-Expr}

@@ -1,4 +1,3 @@
 pub mod Views
-pub mod Judging
-pub mod Rules
 pub mod Checked
+pub mod inner

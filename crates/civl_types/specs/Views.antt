@@ -1,4 +1,4 @@
--- What the code hands on in place of a scope, which serves private functions alone, or of a signature.
+-- What the code hands on in place of a scope (`sort_of` and civl_weighing cite `scope_of`), or of a signature.
 use Rattle.std.specs.Prelude.{Option, None, Some}
 use Rattle.civl_tree.specs.rules.Names.{Signature}
 use Rattle.civl_types.specs.declared.names.Signature.{Signature as Lent}

@@ -2,7 +2,7 @@
 ghost use Rattle.std.specs.Prelude.{◌≡◌, ◌^◌, ◌≤◌};
 ghost use Rattle.civl_tree.specs.rules.Exprs.{is_width, literal_fits, slice_in_range, widen_in_range, joined_in_range, join_in_range, widths_fit, is_index, indices_fit};
 ghost use Rattle.civl_types.specs.Views.{scope_of};
-ghost use Rattle.civl_types.specs.Judging.{judge, judge_one, judge_two, judge_pick, judge_get, judge_set, judge_fill, judge_slice, judge_widen, judge_join};
+ghost use Rattle.civl_types.specs.inner.Judging.{judge, judge_one, judge_two, judge_pick, judge_get, judge_set, judge_fill, judge_slice, judge_widen, judge_join};
 
 use crate::sorts::{
     fill_sort, get_sort, join_fits, join_sort, one_sort, pick_sort, set_sort, slice_fits,

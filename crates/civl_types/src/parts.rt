@@ -1,5 +1,5 @@
 // Whether a part of a program breaks a rule.
-ghost use Rattle.civl_types.specs.Rules.{rule_of, stmt_breaks};
+ghost use Rattle.civl_types.specs.inner.Rules.{rule_of, stmt_breaks};
 
 use crate::arity::{action_arity, refines_arity, stmt_arity, stmt_missorted, thread_arity};
 use crate::count::{

@@ -2,7 +2,7 @@
 ghost use Rattle.std.specs.Prelude.{◌≡◌, [], ◌||◌, map, slice_get, Some, option_copied};
 ghost use Rattle.civl_tree.specs.rules.Scopes.{guard_scope};
 ghost use Rattle.civl_tree.specs.rules.Uses.{serves, need_of, truth_use, target_use, argument_uses, action_uses, with_uses, stmt_uses, thread_uses, update_sort, init_uses, invariant_uses};
-ghost use Rattle.civl_types.specs.Rules.{need_for, sorts_at, use_breaks, any_use};
+ghost use Rattle.civl_types.specs.inner.Rules.{need_for, sorts_at, use_breaks, any_use};
 ghost use Rattle.civl_types.specs.Views.{scope_of, signature_of};
 ghost use Rattle.civl_tree.specs.rules.Uses.{taken_sorts, chosen_sorts};
 ghost use Rattle.civl_tree.specs.rules.Names.{action_named};

@@ -1,20 +1,18 @@
 -- Formulas over the values of variables, and clause sets that stand for them (Tseitin, "On the complexity of derivation in
 -- propositional calculus", 1968).
-use Rattle.std.specs.Prelude.{◌≡◌, ℕ, ◌+◌, ◌*◌, ◌^◌, ◌<◌, ◌≤◌, List, [], ◌∷◌, ◌++◌, map, length, get_or, Bool}
+use Rattle.std.specs.Prelude.{ℕ, ◌+◌, ◌*◌, ◌^◌, ◌<◌, ◌≤◌, List, map, length, get_or, Bool}
 use Rattle.civl_bits.specs.declared.value.Value.{Value}
 use Rattle.civl_tree.specs.declared.expr.Sort.{Sort}
 use Rattle.civl_tree.specs.declared.program.Program.{Program}
 use Rattle.civl_tree.specs.rules.StoreSize.{bits_of}
 use Rattle.civl_firing.specs.values.Operators.{nothing}
 use Rattle.civl_firing.specs.values.Values.{HaveSorts}
-use Rattle.civl_cnf.specs.Literal.{Literal, truth_of}
-use Rattle.civl_cnf.specs.ClauseSet.{ClauseSet, Satisfies}
-use Rattle.civl_cnf.specs.Gates.{Agree}
+use Rattle.civl_cnf.specs.ClauseSet.{ClauseSet}
 use Rattle.civl_blast.specs.declared.blasted.Place.{Place}
-use Rattle.civl_blast.specs.Standing.{ShowAll}
+use Rattle.civl_blast.specs.Standing.{ShowAll, Encodes}
 use Rattle.civl_conditions.specs.declared.condition.Condition.{Condition}
 use Rattle.civl_conditions.specs.Variables.{variables}
-use Rattle.civl_conditions.specs.Invariants.{is_initial}
+use Rattle.civl_conditions.specs.Invariants.{meets_init}
 use Rattle.civl_conditions.specs.Violated.{violated}
 use Rattle.civl_conditions.specs.Weights.{summed, weight, initial_weight}
 
@@ -29,7 +27,7 @@ abbrev pub initial_formula : Program → Formula
 initial_formula program = record {
   sorts = map (λ g. g.sort) program.globals;
   weight = initial_weight program;
-  truth = λ values. is_initial program (record { values = values });
+  truth = λ values. meets_init program (record { values = values });
 }
 
 -- that values violate the condition, over its variables
@@ -52,17 +50,11 @@ IsWide budget formula = budget < 2 ^ formula_bits formula
 abbrev pub listed : List Value → ℕ → Value
 listed values number = get_or values number nothing
 
--- Some bits of the clause set are those of the variables, at these places. The clauses but the last, which is the unit
--- clause of the output, leave exactly one choice of bits for each list of values, and this choice makes the output true
--- exactly where the formula is true. The set is small.
+-- Some bits of the clause set are those of the variables, at these places, and it encodes the formula over the lists of values.
+-- Any bits are those of some values. The set is small.
 pub record StandsForFormula (formula : Formula) (set : ClauseSet) : Type 0 where
   pub places : List Place
-  pub gates : List (List Literal)
-  pub output : Literal
-  pub clauses : set.clauses ≡ gates ++ (output ∷ []) ∷ []
-  pub some : (values : List Value) → HaveSorts values formula.sorts → (v : ℕ → Bool) × Satisfies v gates × ShowAll v places (listed values)
-  pub one : (values : List Value) → HaveSorts values formula.sorts → (v w : ℕ → Bool) → Satisfies v gates → Satisfies w gates → ShowAll v places (listed values) → ShowAll w places (listed values) → Agree set.variables v w
-  pub is : (values : List Value) → HaveSorts values formula.sorts → (v : ℕ → Bool) → Satisfies v gates → ShowAll v places (listed values) → truth_of v output ≡ formula.truth values
+  pub encodes : Encodes (λ values. HaveSorts values formula.sorts) listed formula.truth set places
   pub given : (v : ℕ → Bool) → (values : List Value) × HaveSorts values formula.sorts × ShowAll v places (listed values)
   pub few_variables : set.variables ≤ 16 * formula.weight + 2
   pub few_clauses : length set.clauses ≤ 8 * set.variables + 2

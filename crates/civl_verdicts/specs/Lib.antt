@@ -8,3 +8,5 @@ pub mod judging
 pub mod judgements
 pub mod reports
 pub mod verdict_reports
+pub mod inner
+pub mod examples

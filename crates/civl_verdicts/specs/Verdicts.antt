@@ -23,9 +23,13 @@ pub record IsReached (program : Program) (condition : Condition) (place : ℕ) :
   pub there : slice_get (conditions program) place ≡ Some condition
   pub before : (i : ℕ) (c : Condition) → i < place → slice_get (conditions program) i ≡ Some c → Holds program c
 
--- the log spends the budget on clauses that stand for the formula, which is wide for it
+-- the log spends the budget on some clause set that stands for the formula
+abbrev pub SpendsOn : ℕ → Formula → List (List Literal) → Type 0
+SpendsOn budget formula log = (set : ClauseSet) × StandsForFormula formula set × Spends set log budget
+
+-- and the formula is wide for it
 abbrev pub IsSpentOn : ℕ → Formula → List (List Literal) → Type 0
-IsSpentOn budget formula log = IsWide budget formula × (set : ClauseSet) × StandsForFormula formula set × Spends set log budget
+IsSpentOn budget formula log = IsWide budget formula × SpendsOn budget formula log
 
 abbrev pub IsUndecided : Program → ℕ → Option Condition → List (List Literal) → Type 0
 IsUndecided program budget None log = IsSpentOn budget (initial_formula program) log

@@ -1,4 +1,3 @@
 pub mod Numbered
 pub mod Decided
-pub mod Answered
 pub mod Laws

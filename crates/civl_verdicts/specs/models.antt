@@ -1,4 +1,2 @@
 pub mod Text
 pub mod Reading
-pub mod Zeros
-pub mod Examples

@@ -1,4 +1,4 @@
--- For private functions alone: what is found of an expression in one walk, and how it is found from its parts.
+-- What is found of an expression in one walk, which `weigh` cites, and how it is found from its parts.
 use Rattle.std.specs.Prelude.{ℕ, ◌≡◌}
 use Rattle.civl_tree.specs.declared.expr.Expr.{Expr, roll-Expr}
 use Rattle.civl_tree.specs.declared.expr.Expr.TheOpen as expr

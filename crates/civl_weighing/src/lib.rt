@@ -1,5 +1,5 @@
 //! Weights as far as the limit tells them apart, and the weights of expressions, of the bits of variables and of lists. It serves
-//! civl_weights alone, by civl_weights::sums.
+//! civl_weights, by civl_weights::sums, and civl_outlined.
 #![tactic(auto)]
 
 pub mod bits;

@@ -16,7 +16,7 @@ IsHeavy first (Weight found) = first ≡ Some found
 IsHeavy first Memory = ⊤
 
 -- what the search for an initial store weighs
-pub record IsInitial (sums : Tables) (w : Weighed) : Type 0 where
+pub record IsInitialWeight (sums : Tables) (w : Weighed) : Type 0 where
   pub is : (program : Program) → OfProgram program sums → Weighs w (initial_weight program)
 
 -- whether the search for an initial store weighs too much

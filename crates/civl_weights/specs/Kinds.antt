@@ -1,4 +1,4 @@
--- For private functions alone: the weight of a condition from the sums of its parts.
+-- The weight of a condition from the sums of its parts; `keep_of` and `instance_bits` cite it.
 use Rattle.std.specs.Prelude.{ℕ, ◌+◌, ◌*◌, ◌++◌, Option, None, Some, slice_get, ⊤}
 use Rattle.civl_tree.specs.declared.action.Action.{Action}
 use Rattle.civl_tree.specs.declared.program.Proc.{Proc}

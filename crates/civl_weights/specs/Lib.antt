@@ -1,3 +1,4 @@
 pub mod Kinds
 pub mod Heavy
 pub mod sums
+pub mod inner

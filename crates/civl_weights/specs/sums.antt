@@ -1,4 +1,2 @@
 pub mod Sums
-pub mod Met
-pub mod Paths
 pub mod Tables

@@ -4,7 +4,7 @@ ghost use Rattle.std.specs.List.{find};
 ghost use Rattle.civl_linear.specs.Cuts.{all_held};
 ghost use Rattle.civl_conditions.specs.Listed.{conditions};
 ghost use Rattle.civl_conditions.specs.Weights.{weight_limit, weight, heavy};
-ghost use Rattle.civl_weights.specs.Heavy.{IsHeavy, IsInitial, IsInitialHeavy};
+ghost use Rattle.civl_weights.specs.Heavy.{IsHeavy, IsInitialWeight, IsInitialHeavy};
 ghost use Rattle.civl_weights.specs.sums.Tables.{OfProgram};
 
 use crate::kinds::{step_of, weigh};
@@ -47,7 +47,7 @@ fn first_heavy(
 
 /// The weight of the search for an initial store, with its variables.
 pub fn weigh_initial(tables: &Tables) -> Weight
-    ensures { IsInitial tables.now result }
+    ensures { IsInitialWeight tables.now result }
 {
     tables.bits.plus(tables.initial)
 }

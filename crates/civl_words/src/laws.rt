@@ -1,6 +1,6 @@
 // Laws of words, each the contract of a function that does nothing.
 ghost use Rattle.civl_words.specs.Words.{NumbersFit, OneCommand};
-ghost use Rattle.civl_words.specs.Examples.{EachCommandHasWords, NumbersAreRead, OthersAreNoCommand};
+ghost use Rattle.civl_words.specs.examples.Lines.{EachCommandHasWords, NumbersAreRead, OthersAreNoCommand};
 
 /// No list of words is that of two commands.
 pub fn one_command()

@@ -3,7 +3,7 @@ use Rattle.std.proofs.Common.{◌≡◌, ℕ, ◌+◌, ◌<◌, ◌≤◌, Bool,
 use Rattle.std.proofs.lemmas.List.{map-append, take_more, take_all}
 use Rattle.civl_tree.proofs.Trees.{of_trees}
 use Rattle.civl_yields.specs.declared.phase.Phase.{Phase}
-use Rattle.civl_yields.specs.Marks.{seen}
+use Rattle.civl_yields.specs.inner.Marks.{seen}
 
 pub seen_append : (head : Bool) (xs ys : List Phase) → map (seen head) (xs ++ ys) ≡ map (seen head) xs ++ map (seen head) ys
 seen_append head xs ys = map-append (seen head) xs ys

@@ -3,7 +3,7 @@ pub mod Phases
 pub mod Places
 pub mod YieldRules
 pub mod Lengths
-pub mod Marks
 pub mod examples
 pub mod Heads
 pub mod verify
+pub mod inner

@@ -1,6 +1,6 @@
 // The phase before each statement.
 ghost use Rattle.std.specs.Prelude.{Bool, ◌≡◌, ◌++◌, map, IfOk, OnOk};
-ghost use Rattle.civl_yields.specs.Marks.{seen};
+ghost use Rattle.civl_yields.specs.inner.Marks.{seen};
 ghost use Rattle.civl_yields.specs.Movers.{called_action};
 ghost use Rattle.civl_yields.specs.Phases.{passed, passed_all, called_phase, phases_before};
 

@@ -1,6 +1,6 @@
 // The phase of a block, as far as it is known.
 ghost use Rattle.std.specs.Prelude.{Bool, ◌≡◌, ◌||◌, true, false};
-ghost use Rattle.civl_yields.specs.Marks.{seen};
+ghost use Rattle.civl_yields.specs.inner.Marks.{seen};
 
 /// The phase of a block before a statement: it hasn't passed its turning point, it may have, or that is as at the head
 /// of the loop around.

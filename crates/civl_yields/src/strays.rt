@@ -3,7 +3,7 @@ ghost use Rattle.std.specs.Prelude.{◌≡◌};
 ghost use Rattle.std.specs.List.{list_any};
 ghost use Rattle.civl_yields.specs.Places.{stray, no_leave, yield_leave, rank_leave, any_stray, action_stray, refines_stray, form_stray};
 ghost use Rattle.civl_tree.specs.declared.stmt.Stmt.{out-Stmt};
-ghost use Rattle.civl_yields.specs.Marks.{leave_of};
+ghost use Rattle.civl_yields.specs.inner.Marks.{leave_of};
 
 use civl_tree::{Action, Choice, Expr, Proc, Stmt, Update};
 

@@ -10,7 +10,7 @@ use Rattle.civl_terms.specs.declared.node.Node.TheVariants.{Variable}
 use Rattle.civl_terms.specs.Graphs.{IsGraph}
 use Rattle.civl_terms.specs.Building.{Lengthens, Grows}
 use Rattle.civl_blast.specs.rows.Cells.{next_number, StandsForCell, AddsCells}
-use Rattle.civl_blast.specs.rows.Expanding.{row_entries, IsCellNumber}
+use Rattle.civl_blast.specs.inner.rows.Expanding.{row_entries, IsCellNumber}
 use Rattle.civl_blast.specs.declared.rows.flat.Cell.{Cell}
 use Rattle.civl_blast.proofs.rows.Growth.{node_stays}
 use Rattle.civl_blast.proofs.rows.Blocks.{entry, get-left, get-right, in_block, of_block}

@@ -4,7 +4,7 @@ use Rattle.std.specs.Prelude.{slice_get}
 use Rattle.std.proofs.lemmas.Bool.{cases_eq}
 use Rattle.std.proofs.lemmas.List.{length_push}
 use Rattle.std.proofs.lemmas.Option.{slice_get_within, same_Some}
-use Rattle.civl_blast.specs.rows.Expanding.{row_entries}
+use Rattle.civl_blast.specs.inner.rows.Expanding.{row_entries}
 use Rattle.civl_blast.specs.declared.rows.flat.Cell.{Cell}
 
 pub length-entries : (v f n : ℕ) → length (row_entries v f n) ≡ n

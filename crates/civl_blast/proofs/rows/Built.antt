@@ -13,7 +13,7 @@ use Rattle.civl_terms.specs.Weights.{is_part, node_weight}
 use Rattle.civl_terms.specs.Building.{Grows, Numbers, Answers, Built}
 use Rattle.civl_blast.specs.reach.Reaching.{is_plain}
 use Rattle.civl_blast.specs.rows.Cells.{number_above}
-use Rattle.civl_blast.specs.rows.Making.{Has, AllIn, Adds, IsCalm, MakesOne}
+use Rattle.civl_blast.specs.inner.rows.Making.{Has, AllIn, Adds, IsCalm, MakesOne}
 use Rattle.civl_blast.proofs.rows.Growth.{longer, node_weight_stays, calm_more, calm_refl}
 use Rattle.civl_blast.proofs.rows.Solid.{adds_none, adds_node}
 

@@ -13,11 +13,11 @@ use Rattle.civl_firing.specs.values.Weights.{bits_in, two_weight, move_weight}
 use Rattle.civl_terms.specs.declared.node.Node.{Node}
 use Rattle.civl_terms.specs.Graphs.{sort_at, value_at}
 use Rattle.civl_blast.specs.reach.Reaching.{is_plain}
-use Rattle.civl_blast.specs.rows.Making.{Has, HaveSort, Makes, MakesOne, UsesNone, UsesOne, UsesTwo, UsesRead, bit_value, chosen}
+use Rattle.civl_blast.specs.inner.rows.Making.{Has, HaveSort, Makes, MakesOne, UsesNone, UsesOne, UsesTwo, UsesRead, bit_value, chosen}
 use Rattle.std.proofs.lemmas.Nat.{pow_pos}
 use Rattle.std.proofs.lemmas.List.{get_or_read}
 use Rattle.std.proofs.Math.Nat.{pow-suc, mul_comm}
-use Rattle.civl_blast.specs.rows.Making.{Adds, IsCalm}
+use Rattle.civl_blast.specs.inner.rows.Making.{Adds, IsCalm}
 use Rattle.civl_blast.proofs.rows.Growth.{calm_trans}
 use Rattle.civl_blast.proofs.rows.Solid.{all_at, all_covered, adds_then, adds_as}
 use Rattle.civl_blast.proofs.rows.Made.{sort_stays, value_stays, within_plain, eq_sort_is, pick_same, one_as, one_makes, makes_then}

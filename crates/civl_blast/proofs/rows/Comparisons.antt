@@ -11,7 +11,7 @@ use Rattle.civl_firing.specs.values.Weights.{bits_in, two_weight}
 use Rattle.civl_terms.specs.declared.node.Node.{Node}
 use Rattle.civl_terms.specs.Graphs.{sort_at, value_at}
 use Rattle.civl_blast.specs.reach.Reaching.{is_plain}
-use Rattle.civl_blast.specs.rows.Making.{HaveSort, MakesOne, UsesTwo, UsesThree, UsesPairs, joined, IsComparison, IsJoin}
+use Rattle.civl_blast.specs.inner.rows.Making.{HaveSort, MakesOne, UsesTwo, UsesThree, UsesPairs, joined, IsComparison, IsJoin}
 use Rattle.civl_blast.proofs.rows.Growth.{calm_trans}
 use Rattle.civl_blast.proofs.rows.Solid.{all_at, adds_then, adds_as}
 use Rattle.civl_blast.proofs.rows.Made.{sort_stays, value_stays, eq_sort_is, one_then}

@@ -10,7 +10,7 @@ use Rattle.civl_terms.specs.declared.node.Node.TheVariants.{Constant, Variable, 
 use Rattle.civl_terms.specs.Graphs.{IsGraph, IsDistinct}
 use Rattle.civl_blast.specs.rows.Cells.{next_number}
 use Rattle.civl_blast.specs.reach.Marks.{marked}
-use Rattle.civl_blast.specs.rows.Expanding.{row_entries, entries_of}
+use Rattle.civl_blast.specs.inner.rows.Expanding.{row_entries, entries_of}
 use Rattle.civl_blast.specs.declared.rows.flat.Cell.{Cell}
 use Rattle.civl_blast.proofs.rows.Blocks.{entry, get-left, get-right, in_block, of_block}
 

@@ -19,8 +19,8 @@ use Rattle.civl_terms.proofs.Places.{slice_either}
 use Rattle.civl_terms.proofs.Soundness.{number_same}
 use Rattle.civl_blast.specs.reach.Reaching.{is_plain}
 use Rattle.civl_blast.specs.rows.Cells.{cell_of, next_number, Reads}
-use Rattle.civl_blast.specs.rows.Making.{UsesNone, IsNew, Takes}
-use Rattle.civl_blast.specs.rows.Expanding.{row_entries, Expands}
+use Rattle.civl_blast.specs.inner.rows.Making.{UsesNone, IsNew, Takes}
+use Rattle.civl_blast.specs.inner.rows.Expanding.{row_entries, Expands}
 use Rattle.civl_blast.specs.declared.rows.flat.Cell.{Cell}
 use Rattle.civl_blast.proofs.rows.Numbering.{next-push, next_is_above}
 use Rattle.civl_blast.proofs.rows.Growth.{lengthens_refl, lengthens_trans, node_stays, slice_get-append, slice_get-last}

@@ -13,7 +13,7 @@ use Rattle.civl_terms.specs.Weights.{is_part, node_weight, weight_in, own_weight
 use Rattle.civl_terms.specs.Building.{Lengthens, Grows}
 use Rattle.civl_terms.proofs.Growing as terms
 use Rattle.civl_blast.specs.rows.Cells.{number_above, next_number}
-use Rattle.civl_blast.specs.rows.Making.{IsCalm}
+use Rattle.civl_blast.specs.inner.rows.Making.{IsCalm}
 use Rattle.civl_blast.proofs.rows.Numbering.{next-push}
 
 -- ---- the nodes before stay

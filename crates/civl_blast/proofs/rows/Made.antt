@@ -14,7 +14,7 @@ use Rattle.civl_terms.specs.declared.node.Node.{Node}
 use Rattle.civl_terms.specs.Graphs.{sort_at, value_at, Fits}
 use Rattle.civl_terms.specs.Building.{Lengthens, Grows}
 use Rattle.civl_blast.specs.reach.Reaching.{is_plain}
-use Rattle.civl_blast.specs.rows.Making.{Has, AllIn, Covers, Makes, MakesOne}
+use Rattle.civl_blast.specs.inner.rows.Making.{Has, AllIn, Covers, Makes, MakesOne}
 use Rattle.std.proofs.lemmas.List.{get_or_past}
 use Rattle.civl_terms.specs.Graphs.{sorts}
 use Rattle.civl_terms.proofs.Nodes.{length-sorts}

@@ -22,7 +22,7 @@ use Rattle.civl_firing.specs.values.Values.{HasSort}
 use Rattle.civl_firing.proofs.values.Sorting.{bool_of, word_of, row_of}
 use Rattle.civl_blast.specs.reach.Reaching.{is_plain}
 use Rattle.civl_blast.specs.rows.Cells.{cell_of, cells_in}
-use Rattle.civl_blast.specs.rows.Making.{bit_value, written, chosen, joined}
+use Rattle.civl_blast.specs.inner.rows.Making.{bit_value, written, chosen, joined}
 
 -- a bool or a word is its own only cell
 pub cell_plain : (v : Value) (s : Sort) (c : ℕ) → HasSort v s → IsTrue (is_plain (Some s)) → cell_of v c ≡ v

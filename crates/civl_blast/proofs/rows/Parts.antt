@@ -17,7 +17,7 @@ use Rattle.civl_terms.specs.Graphs.{PartsBelow, values, sorts, sort_at, value_at
 use Rattle.civl_terms.specs.Weights.{node_weight, weight_in, own_weight}
 use Rattle.civl_blast.specs.reach.Reaching.{is_plain}
 use Rattle.civl_blast.specs.rows.Cells.{cell_of, cells_in, cell_sort}
-use Rattle.civl_blast.specs.rows.Making.{Has, AllIn, HaveSort, HasShape, HasCells, Here, is_comparison}
+use Rattle.civl_blast.specs.inner.rows.Making.{Has, AllIn, HaveSort, HasShape, HasCells, Here, is_comparison}
 use Rattle.civl_terms.proofs.Nodes.{value_of_node, sort_of_node}
 use Rattle.civl_blast.proofs.rows.Made.{sort_past}
 use Rattle.civl_blast.proofs.rows.Solid.{all_at}

@@ -9,7 +9,7 @@ use Rattle.civl_terms.specs.declared.node.Node.{Node}
 use Rattle.civl_terms.specs.Graphs.{sort_at, value_at}
 use Rattle.civl_terms.specs.Building.{Grows}
 use Rattle.civl_blast.specs.reach.Reaching.{is_plain}
-use Rattle.civl_blast.specs.rows.Making.{Has, Makes, MakesOne, UsesThree}
+use Rattle.civl_blast.specs.inner.rows.Making.{Has, Makes, MakesOne, UsesThree}
 use Rattle.civl_blast.proofs.rows.Made.{sort_stays, value_stays, pick_sort_is, pick_same, makes_more}
 
 pub pick_fits : {old mid : List Node} (c x y : ℕ) (s : Option Sort) → Grows old mid → sort_at old c ≡ Some sort.Bool → sort_at old x ≡ s → sort_at old y ≡ s → IsTrue (is_plain s) → pick_sort (sort_at mid c) (sort_at mid x) (sort_at mid y) ≡ s

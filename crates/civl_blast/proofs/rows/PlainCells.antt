@@ -15,7 +15,7 @@ use Rattle.civl_terms.specs.Graphs.{sort_at, value_at, IsGraph, Fits}
 use Rattle.civl_terms.specs.Weights.{own_weight, is_part}
 use Rattle.civl_blast.specs.reach.Reaching.{is_plain}
 use Rattle.civl_blast.specs.rows.Cells.{cell_of, cells_in, cell_sort}
-use Rattle.civl_blast.specs.rows.Making.{PartsHaveCells, HasParts, IsOwn, Here, cells_at, Makes, MakesOne, MakesCells, UsesOne, UsesTwo, is_comparison}
+use Rattle.civl_blast.specs.inner.rows.Making.{PartsHaveCells, HasParts, IsOwn, Here, cells_at, Makes, MakesOne, MakesCells, UsesOne, UsesTwo, is_comparison}
 use Rattle.civl_blast.proofs.rows.Growth.{calm_refl, lengthens_refl}
 use Rattle.civl_blast.proofs.rows.Solid.{takes_as, takes_node}
 use Rattle.civl_blast.proofs.rows.Parts.{here_within, here_sort, here_value, here_weight, here_sorted, IsSingle, single_part, plain_cells, plain_cell_sort, own_cell, one_part_plain, one_plain, two_plain, slice_parts, widen_parts, join_parts}

@@ -26,7 +26,7 @@ use Rattle.civl_terms.specs.Graphs.{sort_at, value_at}
 use Rattle.civl_terms.specs.Weights.{is_part}
 use Rattle.civl_blast.specs.reach.Reaching.{is_plain}
 use Rattle.civl_blast.specs.rows.Cells.{cell_of, cells_in, cell_sort}
-use Rattle.civl_blast.specs.rows.Making.{Has, AllIn, HaveSort, Here, cells_at, Makes, MakesOne, MakesCells, UsesNone, UsesPicks, UsesPairs, UsesWrite, UsesRead, bit_value, written, chosen, joined, is_comparison, IsComparison, IsJoin, Joins, index_in}
+use Rattle.civl_blast.specs.inner.rows.Making.{Has, AllIn, HaveSort, Here, cells_at, Makes, MakesOne, MakesCells, UsesNone, UsesPicks, UsesPairs, UsesWrite, UsesRead, bit_value, written, chosen, joined, is_comparison, IsComparison, IsJoin, Joins, index_in}
 use Rattle.civl_blast.proofs.rows.Growth.{calm_refl, grows_refl}
 use Rattle.civl_blast.proofs.rows.Solid.{adds_none}
 use Rattle.civl_terms.proofs.Soundness.{nodes_have_their_sorts}

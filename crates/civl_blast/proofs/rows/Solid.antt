@@ -10,7 +10,7 @@ use Rattle.civl_terms.specs.Weights.{is_part, node_weight, weight_in, own_weight
 use Rattle.civl_terms.specs.Building.{Lengthens, Grows}
 use Rattle.civl_blast.specs.reach.Reaching.{is_plain}
 use Rattle.civl_blast.specs.rows.Cells.{number_above}
-use Rattle.civl_blast.specs.rows.Making.{Has, AllIn, Covers, IsSolid, nodes_weight, Takes, Adds, NoNode}
+use Rattle.civl_blast.specs.inner.rows.Making.{Has, AllIn, Covers, IsSolid, nodes_weight, Takes, Adds, NoNode}
 use Rattle.civl_blast.proofs.rows.Growth.{lengthens_trans, longer, node_stays, own_weight_stays, parts_from}
 
 pub all_covered : (s t xs : List ℕ) → Covers s t → AllIn s xs → AllIn t xs

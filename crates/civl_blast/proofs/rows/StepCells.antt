@@ -13,8 +13,8 @@ use Rattle.civl_terms.specs.Graphs.{sort_at}
 use Rattle.civl_terms.specs.Weights.{own_weight}
 use Rattle.civl_blast.specs.reach.Reaching.{is_plain}
 use Rattle.civl_blast.specs.rows.Cells.{cell_of, cells_in, cell_sort, next_number}
-use Rattle.civl_blast.specs.rows.Making.{HasParts, IsOwn, Here, MakesCells}
-use Rattle.civl_blast.specs.rows.Expanding.{Expands, Steps, entries_of, is_variable}
+use Rattle.civl_blast.specs.inner.rows.Making.{HasParts, IsOwn, Here, MakesCells}
+use Rattle.civl_blast.specs.inner.rows.Expanding.{Expands, Steps, entries_of, is_variable}
 use Rattle.civl_blast.specs.declared.rows.flat.Cell.{Cell}
 use Rattle.civl_blast.proofs.rows.Growth.{longer, calm_fits}
 use Rattle.civl_blast.proofs.rows.Solid.{takes_as}

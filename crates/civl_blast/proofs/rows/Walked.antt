@@ -19,8 +19,8 @@ use Rattle.civl_terms.specs.Building.{Lengthens}
 use Rattle.civl_blast.specs.reach.Reaching.{Reaches, is_plain, IsRowless}
 use Rattle.civl_blast.specs.rows.Cells.{cell_of, cells_in, cell_sort, next_number, Reads, HasEntries, AddsCells, ReachesOnly}
 use Rattle.civl_blast.specs.reach.Marks.{marked, weight_from, IsMarking}
-use Rattle.civl_blast.specs.rows.Making.{Has, AllIn, IsSolid, nodes_weight, HasShape, HasCells, PartsShaped, cells_at}
-use Rattle.civl_blast.specs.rows.Expanding.{Steps, entries_of}
+use Rattle.civl_blast.specs.inner.rows.Making.{Has, AllIn, IsSolid, nodes_weight, HasShape, HasCells, PartsShaped, cells_at}
+use Rattle.civl_blast.specs.inner.rows.Expanding.{Steps, entries_of}
 use Rattle.civl_blast.specs.declared.rows.flat.Cell.{Cell}
 use Rattle.civl_blast.proofs.reach.Marked.{weight-more, part_is_below}
 use Rattle.civl_blast.proofs.rows.Growth.{grows_refl, lengthens_refl, lengthens_trans, node_stays, own_weight_stays, parts_wider}

@@ -11,7 +11,7 @@ use Rattle.civl_terms.specs.declared.node.Node.TheVariants.{Constant, Variable, 
 use Rattle.civl_terms.specs.Graphs.{sorts}
 use Rattle.civl_blast.specs.reach.Reaching.{Reaches, IsRowless}
 use Rattle.civl_blast.specs.rows.Cells.{cell_of, Reads, HasEntries}
-use Rattle.civl_blast.specs.rows.Example.{index_bits, cell_bits, pair, example, example_cells, example_array}
+use Rattle.civl_blast.specs.examples.Rows.{index_bits, cell_bits, pair, example, example_cells, example_array}
 use Rattle.civl_blast.specs.declared.rows.flat.Cell.{Cell}
 use Rattle.civl_blast.proofs.rows.Blocks.{entry}
 use Rattle.civl_blast.proofs.rows.Entering.{row_variable}

@@ -10,7 +10,7 @@ use Rattle.civl_firing.specs.values.Weights.{bits_in, two_weight, pick_weight}
 use Rattle.civl_terms.specs.declared.node.Node.{Node}
 use Rattle.civl_terms.specs.Graphs.{sort_at, value_at}
 use Rattle.civl_blast.specs.reach.Reaching.{is_plain}
-use Rattle.civl_blast.specs.rows.Making.{Makes, MakesOne, UsesNone, UsesTwo, UsesThree, UsesWrite, written}
+use Rattle.civl_blast.specs.inner.rows.Making.{Makes, MakesOne, UsesNone, UsesTwo, UsesThree, UsesWrite, written}
 use Rattle.civl_blast.proofs.rows.Solid.{all_at}
 use Rattle.civl_blast.proofs.rows.Made.{sort_stays, value_stays, eq_sort_is, pick_sort_is, pick_same, makes_more, one_as, one_then}
 

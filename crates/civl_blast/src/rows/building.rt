@@ -7,7 +7,7 @@ ghost use Rattle.civl_firing.specs.values.Weights.{bits_in, one_weight, two_weig
 ghost use Rattle.civl_terms.specs.Graphs.{sort_at, value_at};
 ghost use Rattle.civl_terms.specs.Building.{Grows};
 ghost use Rattle.civl_blast.specs.reach.Reaching.{is_plain};
-ghost use Rattle.civl_blast.specs.rows.Making.{MakesOne, UsesNone, UsesOne, UsesTwo, UsesThree};
+ghost use Rattle.civl_blast.specs.inner.rows.Making.{MakesOne, UsesNone, UsesOne, UsesTwo, UsesThree};
 
 use crate::rows::memory::Memory;
 use civl_bits::Value;

@@ -8,7 +8,7 @@ ghost use Rattle.civl_firing.specs.values.Weights.{bits_in};
 ghost use Rattle.civl_terms.specs.Graphs.{sort_at, value_at};
 ghost use Rattle.civl_terms.specs.Building.{Grows};
 ghost use Rattle.civl_blast.specs.reach.Reaching.{is_plain};
-ghost use Rattle.civl_blast.specs.rows.Making.{HaveSort, Makes, UsesNone, UsesPicks};
+ghost use Rattle.civl_blast.specs.inner.rows.Making.{HaveSort, Makes, UsesNone, UsesPicks};
 
 use crate::rows::building::{constant, pick};
 use crate::rows::memory::Memory;

@@ -6,7 +6,7 @@ ghost use Rattle.civl_firing.specs.values.Weights.{bits_in};
 ghost use Rattle.civl_terms.specs.Graphs.{sort_at, value_at};
 ghost use Rattle.civl_terms.specs.Building.{Grows};
 ghost use Rattle.civl_blast.specs.reach.Reaching.{is_plain};
-ghost use Rattle.civl_blast.specs.rows.Making.{HaveSort, MakesOne, UsesThree, UsesPairs, joined, IsComparison, IsJoin};
+ghost use Rattle.civl_blast.specs.inner.rows.Making.{HaveSort, MakesOne, UsesThree, UsesPairs, joined, IsComparison, IsJoin};
 
 use crate::rows::building::two;
 use crate::rows::memory::Memory;

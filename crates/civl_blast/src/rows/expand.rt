@@ -4,7 +4,7 @@ ghost use Rattle.civl_tree.specs.declared.expr.Sort.TheVariants as sort;
 ghost use Rattle.civl_firing.specs.values.Values.{is_sort};
 ghost use Rattle.civl_terms.specs.Building.{Lengthens};
 ghost use Rattle.civl_blast.specs.rows.Cells.{next_number};
-ghost use Rattle.civl_blast.specs.rows.Expanding.{Expands};
+ghost use Rattle.civl_blast.specs.inner.rows.Expanding.{Expands};
 
 use crate::rows::flat::Cell;
 use crate::rows::memory::Memory;

@@ -5,7 +5,7 @@ ghost use Rattle.civl_bits.specs.declared.value.Value.TheVariants as value;
 ghost use Rattle.civl_tree.specs.declared.expr.Sort.TheVariants as sort;
 ghost use Rattle.civl_blast.specs.reach.Reaching.{Reaches, IsRowless};
 ghost use Rattle.civl_blast.specs.rows.Cells.{cell_of, cells_in, cell_sort, next_number, Reads, HasEntries};
-ghost use Rattle.civl_blast.specs.rows.Example.{cell_bits, pair, example, example_cells, example_array};
+ghost use Rattle.civl_blast.specs.examples.Rows.{cell_bits, pair, example, example_cells, example_array};
 
 /// The cells of the array of 5 and 9, and the numbers that stand for them after 3, the greatest of the worked graph.
 pub fn worked_cells()

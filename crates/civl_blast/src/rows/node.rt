@@ -4,8 +4,8 @@ ghost use Rattle.civl_terms.specs.declared.node.Node.TheVariants as node;
 ghost use Rattle.civl_terms.specs.Building.{Lengthens, Grows};
 ghost use Rattle.civl_terms.specs.Weights.{own_weight};
 ghost use Rattle.civl_blast.specs.rows.Cells.{next_number};
-ghost use Rattle.civl_blast.specs.rows.Making.{Here, MakesCells};
-ghost use Rattle.civl_blast.specs.rows.Expanding.{Steps, is_variable};
+ghost use Rattle.civl_blast.specs.inner.rows.Making.{Here, MakesCells};
+ghost use Rattle.civl_blast.specs.inner.rows.Expanding.{Steps, is_variable};
 
 use crate::rows::cells::single;
 use crate::rows::expand::expand;

@@ -3,7 +3,7 @@ ghost use Rattle.std.specs.Prelude.{◌≡◌, ◌<◌, List, false, length, sli
 ghost use Rattle.civl_bits.specs.declared.value.Value.TheVariants as value;
 ghost use Rattle.civl_terms.specs.declared.node.Node.TheVariants as node;
 ghost use Rattle.civl_terms.specs.Building.{Grows};
-ghost use Rattle.civl_blast.specs.rows.Making.{Here, MakesCells, cells_at, is_comparison};
+ghost use Rattle.civl_blast.specs.inner.rows.Making.{Here, MakesCells, cells_at, is_comparison};
 
 use crate::rows::building;
 use crate::rows::cells::single;

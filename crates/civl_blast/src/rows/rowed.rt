@@ -4,7 +4,7 @@ ghost use Rattle.civl_bits.specs.declared.value.Value.TheVariants as value;
 ghost use Rattle.civl_terms.specs.declared.node.Node.TheVariants as node;
 ghost use Rattle.civl_terms.specs.Graphs.{sort_at};
 ghost use Rattle.civl_terms.specs.Building.{Grows};
-ghost use Rattle.civl_blast.specs.rows.Making.{Here, MakesCells, cells_at, Joins, index_in};
+ghost use Rattle.civl_blast.specs.inner.rows.Making.{Here, MakesCells, cells_at, Joins, index_in};
 
 use crate::rows::cells::{constant_cells, fill_cells, pick_cells, single};
 use crate::rows::compare;

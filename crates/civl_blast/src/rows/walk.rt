@@ -9,8 +9,8 @@ ghost use Rattle.civl_terms.specs.Building.{Lengthens};
 ghost use Rattle.civl_blast.specs.reach.Reaching.{IsRowless};
 ghost use Rattle.civl_blast.specs.reach.Marks.{marked};
 ghost use Rattle.civl_blast.specs.rows.Cells.{next_number, NumbersBelow, Reads, HasEntries, AddsCells, ReachesOnly};
-ghost use Rattle.civl_blast.specs.rows.Making.{PartsShaped};
-ghost use Rattle.civl_blast.specs.rows.Expanding.{Steps};
+ghost use Rattle.civl_blast.specs.inner.rows.Making.{PartsShaped};
+ghost use Rattle.civl_blast.specs.inner.rows.Expanding.{Steps};
 
 use crate::reach::marks;
 use crate::rows::flat::{Cell, Flat};

@@ -104,12 +104,14 @@ module _ (formula : Formula) (limits : All (λ s. IsTrue (is_sort s)) formula.so
   stands : StandsForFormula formula contradiction
   stands = record {
     places = [];
-    gates = (negation ∷ []) ∷ [];
-    output = literal;
-    clauses = refl;
-    some = λ values have. (unset, satisfied, All-nil _);
-    one = λ values have v w a b first second. agree v w a b;
-    is = λ values have v a shown. clear v a ∙ sym (none values have);
+    encodes = record {
+      gates = (negation ∷ []) ∷ [];
+      output = literal;
+      clauses = refl;
+      some = λ values have. (unset, satisfied, All-nil _);
+      one = λ values have v w a b first second. agree v w a b;
+      is = λ values have v a shown. clear v a ∙ sym (none values have);
+    };
     given = λ v. (values_numbered formula.sorts 0, values_have_sorts formula.sorts 0 limits, All-nil _);
     few_variables = omega arith;
     few_clauses = omega arith;

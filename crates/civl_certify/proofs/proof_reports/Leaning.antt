@@ -19,7 +19,7 @@ use Rattle.civl_portfolio.specs.Prover.{Meanings}
 use Rattle.civl_certify.specs.declared.proof_reports.making.Making.{Making}
 use Rattle.civl_certify.specs.declared.proof_reports.making.Making.TheVariants as making
 use Rattle.civl_certify.specs.proof_reports.Making.{IsShownAt, HasLeanLog, MadeBy}
-use Rattle.civl_certify.specs.proof_reports.Trimmed.{IsRefuting, IsTrimmed, IsUnshown}
+use Rattle.civl_certify.specs.inner.proof_reports.Trimmed.{IsRefuting, IsTrimmed, IsUnshown}
 
 -- what is said of the condition with a number, of that condition
 pub certified_here : (program : Program) (budget at : ℕ) (c : Condition) (certified : Certified) → slice_get (conditions program) at ≡ Some c → IsCertifiedAt program budget at certified → IsCertified program budget c certified

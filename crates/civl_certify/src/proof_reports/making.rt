@@ -6,7 +6,7 @@ ghost use Rattle.civl_linear.specs.LinearRules.{linear_rules};
 ghost use Rattle.civl_linear.specs.Cuts.{all_held};
 ghost use Rattle.civl_conditions.specs.Listed.{conditions};
 ghost use Rattle.civl_certify.specs.proof_reports.Making.{IsMaking, MadeBy};
-ghost use Rattle.civl_certify.specs.proof_reports.Trimmed.{IsRefuting, IsTrimmed, IsUnshown};
+ghost use Rattle.civl_certify.specs.inner.proof_reports.Trimmed.{IsRefuting, IsTrimmed, IsUnshown};
 
 use crate::proof_reports::Memory;
 use crate::{Certified, Shown, certify};
@@ -65,7 +65,7 @@ fn beyond(alloc: Global, src: &Layered, held: &Held, at: u32) -> Result<Making, 
 ///
 /// # Errors
 ///
-/// For want of memory. The provers that were dropped until then are gone.
+/// For want of memory. Nothing is said of the provers then.
 pub fn make_proof<M: Makes>(
     alloc: Global,
     makes: &M,

@@ -18,7 +18,7 @@ use Rattle.civl_meaning.specs.declared.config.Stepped.TheVariants as answer
 use Rattle.civl_meaning.specs.declared.config.Change.{Change}
 use Rattle.civl_meaning.specs.declared.config.Change.TheVariants.{Stays, Goes, Acts, Enters, Leaves, Spawns}
 use Rattle.civl_meaning.specs.Rest.{Rest, rest_at}
-use Rattle.civl_meaning.specs.Change.{layer_change}
+use Rattle.civl_meaning.specs.Change.{done_by, statement_doing}
 use Rattle.civl_layers.specs.declared.cut.Cut.{Cut}
 use Rattle.civl_layers.specs.declared.cut.CutKind.{CutKind}
 use Rattle.civl_layers.specs.declared.cut.CutKind.TheVariants as kind
@@ -77,7 +77,7 @@ module _ (test : Global → Bool) (c : Course) where
   stepped_alike : (d : stmt.Stmt-F Stmt) → CallSeen test c.plain d → (at : ℕ) (p q : Progress) → Agree p q → Alike (stepped c d at p) (stepped c d at q)
   stepped_alike d seen at p q h =
       came_alike p q h _ _
-      (subst (λ (l : List Value). ChangesAgree test gs (layer_change c.plain p.store (c.chosen at) c.proc p.locals at (at + 1) d) (layer_change c.plain q.store (c.chosen at) c.proc l at (at + 1) d)) h.locals
+      (subst (λ (l : List Value). ChangesAgree test gs (done_by c.plain p.store (c.chosen at) (statement_doing c.plain c.proc p.locals at (at + 1) d)) (done_by c.plain q.store (c.chosen at) (statement_doing c.plain c.proc l at (at + 1) d))) h.locals
       (step_alike test c.plain p.store q.store h.stores (c.chosen at) c.proc p.locals at (at + 1) d seen))
 
   introduced_alike : (x : Name) (e : Expr) → uses (names_other test gs) e ≡ false → (p q : Progress) → Agree p q → Agree (introduced c x e p) (introduced c x e q)

@@ -14,7 +14,7 @@ use Rattle.civl_layers.specs.declared.cut.CutKind.TheVariants as kind
 use Rattle.civl_layers.specs.Cuts.{form_cut, cut_kind, cut_at, cuts_among, cuts_below}
 use Rattle.civl_meaning.specs.Places.{Spot, skip_layer, start_of, spot_at}
 use Rattle.civl_meaning.specs.Rest.{Rest, rest_at, place_in, head_of}
-use Rattle.civl_meaning.specs.Change.{layer_change}
+use Rattle.civl_meaning.specs.Change.{done_by, statement_doing}
 use Rattle.civl_meaning.proofs.Rests.{rest_none, spot_of_rest}
 use Rattle.civl_conditions.specs.paths.Paths.{Course, Progress, Past, tested, pass_all, from_layer, from_rest, from_kind, path_from}
 use Rattle.civl_conditions.specs.paths.Runs.{Advance, Ends, Stands, advance_by, spot_does, Reaches, begins_by, begins_at, PathsBeginAtCuts}
@@ -63,7 +63,7 @@ module _ (c : Course) (at : ℕ) (s : Stmt) (k : Rest) (h : Belongs c.proc.body 
 
   -- the first step of a loop, by its layer
   abbrev loop_steps : stmt.Stmt-F Stmt → Advance
-  loop_steps d = advance_by p (layer_change c.plain p.store (c.chosen at) c.proc p.locals at next d)
+  loop_steps d = advance_by p (done_by c.plain p.store (c.chosen at) (statement_doing c.plain c.proc p.locals at next d))
 
   loop_begins : (e : Expr) (a : List Stmt) (t : Bool) → Belongs c.proc.body (numbered (at + 1) a ++ (at, s) ∷ k) →
       pass_all c (rest_at c.proc.body (if t then start_of a (at + 1) at else next)) p ≡ (if t then pass_all c (numbered (at + 1) a ++ (at, s) ∷ k) p else pass_all c k p)

@@ -15,7 +15,8 @@ use Rattle.civl_tree.specs.declared.stmt.Stmt.TheFolds.{ind-Stmt}
 use Rattle.civl_tree.specs.Numbering.{size_of, sizes_of, numbered}
 use Rattle.civl_tree.specs.rules.Names.{names_in_proc}
 use Rattle.civl_tree.proofs.Pairs.{contains_here, contains_there}
-use Rattle.civl_firing.specs.Eval.{values_of}
+use Rattle.civl_firing.specs.values.Values.{is_true}
+use Rattle.civl_firing.specs.Eval.{value_of, values_of}
 use Rattle.civl_firing.specs.Scope.{frame_values}
 use Rattle.civl_firing.specs.Fired.{gate_holds, choices_fit, fired}
 use Rattle.civl_meaning.specs.declared.config.Plain.{Plain}
@@ -23,7 +24,8 @@ use Rattle.civl_meaning.specs.declared.config.Stepped.TheVariants as answer
 use Rattle.civl_meaning.specs.declared.config.Change.TheVariants.{Stays}
 use Rattle.civl_meaning.specs.Meaning.{Meaning, Does, Runs, Missing, called}
 use Rattle.civl_meaning.specs.Rest.{Rest, rest_at}
-use Rattle.civl_meaning.specs.Change.{acted, call_change}
+use Rattle.civl_meaning.specs.Change.{acted, done_by, call_doing}
+use Rattle.civl_meaning.specs.Change as does
 use Rattle.civl_layers.specs.declared.cut.Cut.{Cut}
 use Rattle.civl_layers.specs.declared.cut.CutKind.{CutKind}
 use Rattle.civl_layers.specs.declared.cut.CutKind.TheVariants as kind
@@ -174,7 +176,7 @@ module _ (plain : Plain) (proc : Proc) (chosen others : ℕ → List Value) wher
 
   -- what a call that means this comes to
   abbrev calls : (List Value) → Meaning → List Name → ℕ → List Value → Progress → Outcome
-  calls given m results at args p = came p (call_change plain p.store given (names_in_proc proc) p.locals results at (at + 1) m args)
+  calls given m results at args p = came p (done_by plain p.store given (call_doing (names_in_proc proc) p.locals results at (at + 1) m args))
 
   call_equal : (m : Meaning) (results : List Name) (at : ℕ) (args : List Value) (p : Progress) → ((action : Action) → action_meant m ≡ Some action → chosen at ≡ others at) →
       calls (chosen at) m results at args p ≡ calls (others at) m results at args p
@@ -182,8 +184,15 @@ module _ (plain : Plain) (proc : Proc) (chosen others : ℕ → List Value) wher
   call_equal (Runs number callee) results at args p h = refl
   call_equal Missing results at args p h = refl
 
+  -- an assert reads no choices
+  assert_equal : (b : Bool) (at : ℕ) (p : Progress) →
+      came p (done_by plain p.store (chosen at) (if b then does.Goes p.locals (at + 1) else does.Fails)) ≡ came p (done_by plain p.store (others at) (if b then does.Goes p.locals (at + 1) else does.Fails))
+  assert_equal true at p = refl
+  assert_equal false at p = refl
+
   step_equal : (d : stmt.Stmt-F Stmt) (at : ℕ) (p : Progress) → ((action : Action) → layer_action plain d ≡ Some action → chosen at ≡ others at) → steps chosen d at p ≡ steps others d at p
   step_equal (stmt.Call f es rs) at p h = call_equal (called plain f) rs at (values_of (frame_values plain.program.globals proc p.locals) es) p h
+  step_equal (stmt.Assert e) at p h = assert_equal (is_true (value_of (frame_values plain.program.globals proc p.locals) e)) at p
   step_equal _ at p h = refl
 
   -- ---- choices that agree where they fit
@@ -224,6 +233,7 @@ module _ (plain : Plain) (proc : Proc) (chosen others : ℕ → List Value) wher
 
   step_fits : (d : stmt.Stmt-F Stmt) (at : ℕ) (p : Progress) → ((action : Action) → layer_action plain d ≡ Some action → choices_fit action (chosen at) ≡ true → chosen at ≡ others at) → UnlessStopped (steps chosen d at p) (steps others d at p)
   step_fits (stmt.Call f es rs) at p h s = call_fits (called plain f) rs at (values_of (frame_values plain.program.globals proc p.locals) es) p h s
+  step_fits (stmt.Assert e) at p h s = assert_equal (is_true (value_of (frame_values plain.program.globals proc p.locals) e)) at p
   step_fits _ at p h s = refl
 
 fits_onward : (o u : Outcome) (f g : Progress → Outcome) → (has_stopped o ≡ false → o ≡ u) → ((p : Progress) → has_stopped (f p) ≡ false → f p ≡ g p) → has_stopped (after o f) ≡ false → after o f ≡ after u g

@@ -21,7 +21,8 @@ use Rattle.civl_meaning.specs.declared.config.Change.TheVariants.{Stays, Goes}
 use Rattle.civl_meaning.specs.Meaning.{Meaning, Does, Runs, Missing, called}
 use Rattle.civl_meaning.specs.Places.{Spot, skip_layer, is_skipped, start_of}
 use Rattle.civl_meaning.specs.Rest.{Rest, rest_at, place_in, head_of}
-use Rattle.civl_meaning.specs.Change.{layer_change, call_change, acted}
+use Rattle.civl_meaning.specs.Change.{done_by, statement_doing, call_doing, acted}
+use Rattle.civl_meaning.specs.Change as does
 use Rattle.civl_meaning.proofs.Rests.{spot_of_rest}
 use Rattle.civl_conditions.specs.paths.Paths.{Course, Progress, Outcome, Past, Comes, Fails, Stops, after, came, tested, committed, introduced, pass, pass_all}
 use Rattle.civl_conditions.specs.paths.Runs.{Standing, rest_of, comes_to, layer_led, led, layer_yields, layer_leads, yield_before, layer_ends, Advance, Ends, Stands, advance_by, advance_from, advance_at, advance, Reaches}
@@ -93,16 +94,17 @@ module _ (c : Course) (k : Rest) (own : rest_at c.proc.body (place_in (sizes_of 
   tests_on false fit names locals rs place f = refl
 
   call_on : (names : List Name) (rs : List Name) (at place : ℕ) (m : Meaning) (args : List Value) →
-      Steps (call_change c.plain p.store (c.chosen at) names p.locals rs at next m args) (call_change c.plain p.store (c.chosen at) names p.locals rs at place m args)
+      Steps (done_by c.plain p.store (c.chosen at) (call_doing names p.locals rs at next m args)) (done_by c.plain p.store (c.chosen at) (call_doing names p.locals rs at place m args))
   call_on names rs at place (Does action) args =
       let globals = c.plain.program.globals in
       tests_on (gate_holds globals p.store action args) (choices_fit action (c.chosen at)) names p.locals rs place (fired globals p.store action args (c.chosen at))
   call_on names rs at place (Runs number proc) args = refl
   call_on names rs at place Missing args = refl
 
-  assert_on : (b : Bool) (place : ℕ) → Steps (if b then Goes p.locals next else Stays answer.Failing) (if b then Goes p.locals place else Stays answer.Failing)
-  assert_on true place = goes_on p.locals place
-  assert_on false place = refl
+  assert_on : (at : ℕ) (b : Bool) (place : ℕ) →
+      Steps (done_by c.plain p.store (c.chosen at) (if b then does.Goes p.locals next else does.Fails)) (done_by c.plain p.store (c.chosen at) (if b then does.Goes p.locals place else does.Fails))
+  assert_on at true place = goes_on p.locals place
+  assert_on at false place = refl
 
   -- a rest that the step goes to, with k behind it
   enters : (ss : List Stmt) (at : ℕ) → Belongs c.proc.body (numbered at ss ++ k) → sizes_of ss + weight k < bound → On c bound (after (pass_all c (numbered at ss) p) (pass_all c k)) (Stands (record { place = start_of ss at next; state = p }))
@@ -125,7 +127,7 @@ ahead c r p = option_map_or (λ number. Ends (Comes number (led c r p))) (yield_
 abbrev layer_goes : Course → stmt.Stmt-F Stmt → ℕ → Rest → Progress → Advance
 layer_goes c d at k p =
     if skip_layer d then advance_at c (head_of (sizes_of c.proc.body) k) p
-    else option_map_or Ends (layer_ends at p d) (advance_by p (layer_change c.plain p.store (c.chosen at) c.proc p.locals at (place_in (sizes_of c.proc.body) k) d))
+    else option_map_or Ends (layer_ends at p d) (advance_by p (done_by c.plain p.store (c.chosen at) (statement_doing c.plain c.proc p.locals at (place_in (sizes_of c.proc.body) k) d)))
 
 abbrev layer_ahead : Course → stmt.Stmt-F Stmt → ℕ → Rest → Progress → Advance
 layer_ahead c d at k p =
@@ -157,7 +159,7 @@ module _ (c : Course) (at : ℕ) (s : Stmt) (k : Rest) (h : Belongs c.proc.body 
 
   layer_on : (p : Progress) → ((p : Progress) → On c (weight k) (pass_all c k p) (ahead c k p)) → (d : stmt.Stmt-F Stmt) → out-Stmt s ≡ d → On c (size_of s + weight k) (after (pass_layer c d at p) (pass_all c k)) (layer_ahead c d at k p)
   layer_on p later (stmt.Assign x v) e = stands_before c (place_in (sizes_of c.proc.body) k) _ k (size_of s + weight k) _ own refl fewer
-  layer_on p later (stmt.Assert f) e = assert_on c k own (size_of s + weight k) fewer p (tested c f p) (at + 1)
+  layer_on p later (stmt.Assert f) e = assert_on c k own (size_of s + weight k) fewer p at (tested c f p) (at + 1)
   layer_on p later (stmt.If t a b) e =
       let size : size_of s ≡ 1 + sizes_of a + sizes_of b = size_is s ∙ ap (λ (d : stmt.Stmt-F Stmt). size_step (map-Stmt Stmt ℕ size_of d)) e in
       if_on c k own (size_of s + weight k) fewer p (tested c t p) a b (at + 1) (at + 1 + sizes_of a)

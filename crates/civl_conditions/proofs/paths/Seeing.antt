@@ -20,7 +20,8 @@ use Rattle.civl_meaning.specs.declared.config.Stepped.TheVariants as answer
 use Rattle.civl_meaning.specs.declared.config.Change.{Change}
 use Rattle.civl_meaning.specs.declared.config.Change.TheVariants.{Stays, Goes}
 use Rattle.civl_meaning.specs.Meaning.{Meaning, Does, Runs, Missing, called}
-use Rattle.civl_meaning.specs.Change.{with_results, acted, call_change, layer_change}
+use Rattle.civl_meaning.specs.Change.{with_results, acted, done_by, call_doing, statement_doing}
+use Rattle.civl_meaning.specs.Change as does
 use Rattle.civl_layers.specs.Names.{uses}
 use Rattle.civl_conditions.specs.footprints.Agreement.{StoresAgree, names_other, action_uses}
 use Rattle.civl_conditions.specs.footprints.Laws.{FireAlike}
@@ -63,7 +64,7 @@ module _ (test : Global → Bool) (plain : Plain) where
 
   module _ (s t : Store) (agree : StoresAgree test plain.program.globals s t) where
     call_alike : (chosen : List Value) (names : List Name) (locals : List Value) (results : List Name) (at next : ℕ) (m : Meaning) (args : List Value) → MeansSeen m →
-        Alike (call_change plain s chosen names locals results at next m args) (call_change plain t chosen names locals results at next m args)
+        Alike (done_by plain s chosen (call_doing names locals results at next m args)) (done_by plain t chosen (call_doing names locals results at next m args))
     unfolding fired
     call_alike chosen names locals results at next (Does action) args seen =
         let gs = plain.program.globals in
@@ -72,13 +73,14 @@ module _ (test : Global → Bool) (plain : Plain) where
     call_alike chosen names locals results at next (Runs number proc) args seen = refl
     call_alike chosen names locals results at next Missing args seen = refl
 
-    assert_alike : (b : Bool) (locals : List Value) (next : ℕ) → Alike (if b then Goes locals next else Stays answer.Failing) (if b then Goes locals next else Stays answer.Failing)
-    assert_alike true locals next = refl
-    assert_alike false locals next = refl
+    assert_alike : (chosen : List Value) (b : Bool) (locals : List Value) (next : ℕ) →
+        Alike (done_by plain s chosen (if b then does.Goes locals next else does.Fails)) (done_by plain t chosen (if b then does.Goes locals next else does.Fails))
+    assert_alike chosen true locals next = refl
+    assert_alike chosen false locals next = refl
 
     pub step_alike : (chosen : List Value) (proc : Proc) (locals : List Value) (at next : ℕ) (d : stmt.Stmt-F Stmt) → CallSeen d →
-        Alike (layer_change plain s chosen proc locals at next d) (layer_change plain t chosen proc locals at next d)
+        Alike (done_by plain s chosen (statement_doing plain proc locals at next d)) (done_by plain t chosen (statement_doing plain proc locals at next d))
     step_alike chosen proc locals at next (stmt.Call f es rs) seen =
         call_alike chosen (names_in_proc proc) locals rs at next (called plain f) (values_of (frame_values plain.program.globals proc locals) es) seen
-    step_alike chosen proc locals at next (stmt.Assert e) seen = assert_alike (is_true (value_of (frame_values plain.program.globals proc locals) e)) locals next
+    step_alike chosen proc locals at next (stmt.Assert e) seen = assert_alike chosen (is_true (value_of (frame_values plain.program.globals proc locals) e)) locals next
     step_alike chosen proc locals at next _ seen = refl

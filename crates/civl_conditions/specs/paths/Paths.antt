@@ -1,8 +1,8 @@
 -- Paths: what the body of a procedure comes to, run by itself with no other thread, from a cut to the next cut or the exit.
 -- (Cut points: Floyd, Assigning meanings to programs, 1967. Blocks between yields: Kragl, Qadeer, CAV 2018.) A statement of
 -- a plain program does what its step does; `commit` and `intro`, which a plain program passes over, take effect here. Every
--- loop is a cut, so a path is finite, and what it comes to is a function of the values at its beginning and of the choices
--- of its calls.
+-- loop of a procedure that refines is a cut, and at a plain loop a path stops, so a path is finite, and what it comes to is a
+-- function of the values at its beginning and of the choices of its calls.
 use Rattle.std.specs.Prelude.{ℕ, ◌+◌, Bool, true, false, ◌||◌, if◌then◌else◌, List, [], ◌∷◌, ◌++◌, map, drop, slice_set}
 use Rattle.civl_bits.specs.declared.value.Value.{Value}
 use Rattle.civl_tree.specs.declared.name.Name.{Name}
@@ -24,7 +24,7 @@ use Rattle.civl_meaning.specs.declared.config.Stepped.TheVariants as answer
 use Rattle.civl_meaning.specs.declared.config.Change.{Change}
 use Rattle.civl_meaning.specs.declared.config.Change.TheVariants.{Stays, Goes, Acts, Enters, Leaves, Spawns}
 use Rattle.civl_meaning.specs.Rest.{Rest, rest_at}
-use Rattle.civl_meaning.specs.Change.{layer_change}
+use Rattle.civl_meaning.specs.Change.{done_by, statement_doing}
 use Rattle.civl_layers.specs.declared.cut.Cut.{Cut}
 use Rattle.civl_layers.specs.declared.cut.CutKind.{CutKind}
 use Rattle.civl_layers.specs.declared.cut.CutKind.TheVariants as kind
@@ -76,7 +76,7 @@ came p (Spawns thread place) = Stops p
 
 -- the statement with the number `at`, by its step
 abbrev pub stepped : Course → stmt.Stmt-F Stmt → ℕ → Progress → Outcome
-stepped c s at p = came p (layer_change c.plain p.store (c.chosen at) c.proc p.locals at (at + 1) s)
+stepped c s at p = came p (done_by c.plain p.store (c.chosen at) (statement_doing c.plain c.proc p.locals at (at + 1) s))
 
 -- whether a condition of the body holds
 abbrev pub tested : Course → Expr → Progress → Bool

@@ -11,7 +11,7 @@ use Rattle.civl_meaning.specs.declared.config.Change.{Change}
 use Rattle.civl_meaning.specs.declared.config.Change.TheVariants.{Stays, Goes, Acts}
 use Rattle.civl_meaning.specs.Places.{Spot, spot_at}
 use Rattle.civl_meaning.specs.Rest.{Rest, rest_at, place_in}
-use Rattle.civl_meaning.specs.Change.{layer_change}
+use Rattle.civl_meaning.specs.Change.{done_by, statement_doing}
 use Rattle.civl_layers.specs.declared.cut.Cut.{Cut}
 use Rattle.civl_layers.specs.declared.cut.CutKind.{CutKind}
 use Rattle.civl_layers.specs.declared.cut.CutKind.TheVariants as kind
@@ -68,7 +68,7 @@ moved p _ = None
 
 -- what the plain program does with the statement at a spot, by its step
 abbrev pub spot_does : Course → Spot → Progress → Change
-spot_does c s p = layer_change c.plain p.store (c.chosen s.number) c.proc p.locals s.number s.next (out-Stmt s.stmt)
+spot_does c s p = done_by c.plain p.store (c.chosen s.number) (statement_doing c.plain c.proc p.locals s.number s.next (out-Stmt s.stmt))
 
 -- why the frame doesn't go on: its path ends here, or it can't
 abbrev pub halted : Progress → Change → Outcome

@@ -11,7 +11,7 @@ use Rattle.civl_tree.specs.Numbering.{statements_of}
 use Rattle.civl_firing.specs.declared.store.Store.{Store}
 use Rattle.civl_meaning.specs.declared.config.Change.{Change}
 use Rattle.civl_meaning.specs.declared.config.Change.TheVariants.{Acts}
-use Rattle.civl_meaning.specs.Change.{layer_change}
+use Rattle.civl_meaning.specs.Change.{done_by, statement_doing}
 use Rattle.civl_meaning.specs.Layers.{program_at}
 use Rattle.civl_layers.specs.declared.cut.Cut.{Cut}
 use Rattle.civl_layers.specs.Ranges.{exists_around}
@@ -75,5 +75,5 @@ StepsSeeTheirGlobals =
     (program : Program) (number step : ℕ) (proc : Proc) (stmt : Stmt) (chosen locals : List Value) (at next : ℕ) (s t : Store) →
     IsLayered program → IsProcOf program number step proc → Contains (statements_of proc.body) stmt → StoresAgree (exists_at (step - 1)) program.globals s t →
     ChangesAgree (exists_at (step - 1)) program.globals
-    (layer_change (program_at program (step - 1)) s chosen proc locals at next (out-Stmt stmt))
-    (layer_change (program_at program (step - 1)) t chosen proc locals at next (out-Stmt stmt))
+    (done_by (program_at program (step - 1)) s chosen (statement_doing (program_at program (step - 1)) proc locals at next (out-Stmt stmt)))
+    (done_by (program_at program (step - 1)) t chosen (statement_doing (program_at program (step - 1)) proc locals at next (out-Stmt stmt)))

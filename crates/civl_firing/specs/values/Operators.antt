@@ -1,3 +1,4 @@
+-- Part of the claim: docs/CLAIM.md.
 -- The values of the operators of expressions. Each is total: where the sorts of the operands don't fit, its value is
 -- `nothing`. The operations are those of SMT-LIB's theories FixedSizeBitVectors and ArraysEx and its Core.
 use Rattle.std.specs.Prelude.{ℕ, ◌+◌, ◌-◌, ◌^◌, Bool, false, not, ◌&&◌, ◌||◌, nat_eq, nat_lt, nat_le, int_lt, int_le, if◌then◌else◌}

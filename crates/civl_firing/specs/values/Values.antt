@@ -1,3 +1,4 @@
+-- Part of the claim: docs/CLAIM.md.
 -- Values by their sorts: which values a sort has, and the zero of a sort. A bool is false or true, a word of
 -- width w is a number below 2 ^ w, and a row is a list of words (SMT-LIB FixedSizeBitVectors, and ArraysEx over finite
 -- indices).

@@ -1,6 +1,6 @@
 // The values of the operators of expressions.
 ghost use Rattle.std.specs.Prelude.{◌≡◌, MatchOption};
-ghost use Rattle.civl_firing.specs.values.Operands.{AreWords, NoWords, AreBools, NoBools};
+ghost use Rattle.civl_firing.specs.inner.values.Operands.{AreWords, NoWords, AreBools, NoBools};
 ghost use Rattle.civl_firing.specs.values.Operators.{nothing, literal_value, not_value, one_value, two_value, pick_value, get_value, set_value, fill_value, slice_value, widen_value, join_value};
 
 use civl_bits::{Row, Value, Word};

@@ -9,7 +9,7 @@ ghost use Rattle.civl_meaning.specs.Initial.{initial_permissions};
 ghost use Rattle.civl_terms.specs.Graphs.{sort_at};
 ghost use Rattle.civl_terms.specs.Building.{Grows, Lengthens};
 ghost use Rattle.civl_terms.specs.Weights.{graph_weight};
-ghost use Rattle.civl_conditions.specs.Invariants.{is_initial};
+ghost use Rattle.civl_conditions.specs.Invariants.{meets_init};
 ghost use Rattle.civl_conditions.specs.Weights.{global_weight, lin, initial_items, initial_weight};
 ghost use Rattle.civl_states.specs.formula_parts.Said.{Env, IsTest};
 ghost use Rattle.civl_states.specs.formula_parts.Given.{AreVariablesOf};
@@ -59,7 +59,7 @@ pub fn initial_at(
 ) -> Result<Id, Memory>
     requires rules { Keeps typing_rules program.now }
     requires globals { AreGlobals terms.old program.now globals.now }
-    ensures tells { IfOk result (λ id. (g : Env → Store) → AreStore terms.old program.now globals.now g → IsTest terms.new id (λ env. is_initial program.now (g env))) }
+    ensures tells { IfOk result (λ id. (g : Env → Store) → AreStore terms.old program.now globals.now g → IsTest terms.new id (λ env. meets_init program.now (g env))) }
     ensures sorted { IfOk result (λ id. sort_at terms.new id ≡ Some Truth) }
     ensures weighs { OnOk result (graph_weight terms.new ≤ graph_weight terms.old + global_weight program.now program.now.init + threads_weight program.now program.now.threads + 4 * lin program.now (initial_items program.now) + 1) }
     ensures grows { Grows terms.old terms.new }
@@ -91,7 +91,7 @@ fn sorts_of_globals(alloc: Alloc, program: &Program) -> Result<Vec<Sort>, Memory
 /// For want of memory; the nodes before stay.
 pub fn initial(alloc: Alloc, terms: &mut Terms, src: &Layered) -> Result<Id, Memory>
     requires { AreVariablesOf terms.old (global_sorts src.now) }
-    ensures says { IfOk result (λ id. IsFormula terms.new id (global_sorts src.now) (λ values. is_initial src.now (record { values = values }))) }
+    ensures says { IfOk result (λ id. IsFormula terms.new id (global_sorts src.now) (λ values. meets_init src.now (record { values = values }))) }
     ensures weighs { OnOk result (graph_weight terms.new ≤ graph_weight terms.old + 4 * initial_weight src.now) }
     ensures lengthens { Lengthens terms.old terms.new }
 {

@@ -18,7 +18,7 @@ use Rattle.civl_firing.specs.Fired.{gate_holds, guard_holds, choices_fit, store_
 use Rattle.civl_meaning.specs.declared.config.Stepped.TheVariants as answer
 use Rattle.civl_meaning.specs.declared.config.Change.TheVariants.{Stays}
 use Rattle.civl_meaning.specs.Meaning.{Meaning, Does, Runs, Missing, called}
-use Rattle.civl_meaning.specs.Change.{with_results, acted, action_change, call_change}
+use Rattle.civl_meaning.specs.Change.{with_results, acted, action_change, done_by, call_doing}
 use Rattle.civl_conditions.specs.paths.Paths.{Course, came, stepped}
 use Rattle.civl_moves.specs.sweeps.Sweeps.{Swept, standing, with_action, with_meaning, with_call}
 use Rattle.civl_moves.specs.sweeps.Draws.{Draws}
@@ -58,7 +58,7 @@ action_draws c results at a inputs chosen d h =
     (gate_holds c.plain.program.globals d.store a inputs) (choices_fit a chosen) (guard_holds c.plain.program.globals d.store a inputs chosen)
 
 meaning_draws : (c : Course) (results : List Name) (at : ℕ) (m : Meaning) (inputs chosen : List Value) (d : Swept) → Here d
-    → Draws (came (standing d) (call_change c.plain d.store chosen (names_in_proc c.proc) d.locals results at (at + 1) m inputs)) (with_meaning c results m inputs chosen d)
+    → Draws (came (standing d) (done_by c.plain d.store chosen (call_doing (names_in_proc c.proc) d.locals results at (at + 1) m inputs))) (with_meaning c results m inputs chosen d)
 meaning_draws c results at (Does a) inputs chosen d h = action_draws c results at a inputs chosen d h
 meaning_draws c results at (Runs number proc) inputs chosen d h = halted_follows.on d h
 meaning_draws c results at Missing inputs chosen d h = halted_follows.on d h

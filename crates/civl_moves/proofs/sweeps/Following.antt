@@ -6,8 +6,8 @@ use Rattle.std.proofs.Math.Bool.{and-true, and-false, or-false}
 use Rattle.civl_tree.specs.declared.name.Name.{Name}
 use Rattle.civl_tree.specs.declared.expr.Expr.{Expr}
 use Rattle.civl_tree.specs.declared.stmt.Stmt.TheOpen as stmt
-use Rattle.civl_meaning.specs.declared.config.Stepped.TheVariants as answer
-use Rattle.civl_meaning.specs.declared.config.Change.TheVariants.{Stays, Goes}
+use Rattle.civl_meaning.specs.Change.{done_by}
+use Rattle.civl_meaning.specs.Change as does
 use Rattle.civl_conditions.specs.paths.Paths.{Course, Outcome, Past, Comes, Stops, came, stepped, tested, committed, introduced}
 use Rattle.civl_moves.specs.sweeps.Sweeps.{Stop, Swept, standing, gated, halted, stopped, cut_at, with_commit, with_intro, with_assign}
 use Rattle.civl_moves.specs.sweeps.Draws.{IsStop, AreStops, takes, Draws}
@@ -25,15 +25,15 @@ assign_follows c x e at = record {
 pub gated_idle : (t : Bool) (d : Swept) → d.live ≡ false → Idle d (gated t d)
 gated_idle t d l = still_idle d (gated t d) (and_left d.live t l) (or_false_and d.broken d.live (not t) l) refl refl
 
-gated_draws : (t : Bool) (d : Swept) (next : ℕ) → Here d → Draws (came (standing d) (if t then Goes d.locals next else Stays answer.Failing)) (gated t d)
-gated_draws true d next h =
+gated_draws : (c : Course) (at : ℕ) (t : Bool) (d : Swept) → Here d → Draws (came (standing d) (done_by c.plain d.store (c.chosen at) (if t then does.Goes d.locals (at + 1) else does.Fails))) (gated t d)
+gated_draws c at true d h =
     past_draws (gated true d) (record { onward = h.onward; live = and-true d.live ∙ h.live; whole = ap (λ (b : Bool). d.broken || b) (and-false d.live) ∙ or-false d.broken ∙ h.whole; free = h.free })
-gated_draws false d next h =
+gated_draws c at false d h =
     fails_draws (standing d) (gated false d) (and-false d.live) (or_right d.broken (d.live && true) (and-true d.live ∙ h.live)) refl h.free
 
 pub assert_follows : (c : Course) (e : Expr) (at : ℕ) → Follows (stepped c (stmt.Assert e) at) (λ d. gated (tested c e (standing d)) d)
 assert_follows c e at = record {
-  on = λ d h. gated_draws (tested c e (standing d)) d (at + 1) h;
+  on = λ d h. gated_draws c at (tested c e (standing d)) d h;
   idle = λ d l. gated_idle (tested c e (standing d)) d l;
 }
 

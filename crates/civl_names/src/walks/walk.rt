@@ -2,7 +2,7 @@
 ghost use Rattle.std.specs.Prelude.{◌≡◌, ◌+◌, ◌<◌, ◌^◌, length};
 ghost use Rattle.civl_tree.specs.Numbering.{statements_of, inner_of};
 ghost use Rattle.civl_tree.specs.rules.Rules.{numbers_where, first_of};
-ghost use Rattle.civl_names.specs.walks.Walked.{IsWalked};
+ghost use Rattle.civl_names.specs.inner.walks.Walked.{IsWalked};
 
 use crate::walks::rule::Test;
 use civl_tree::{List, Stmt};

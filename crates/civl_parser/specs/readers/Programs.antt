@@ -1,4 +1,4 @@
--- Serves private functions: readers of programs. The number d says how many more brackets may be open;
+-- Readers of programs, which the call `program` cites. The number d says how many more brackets may be open;
 -- `new` says that the version is 2.
 use Rattle.std.specs.Prelude.{ℕ, ◌==◌, Bool, List, codes}
 use Rattle.civl_tree.specs.Token.{Token, Reserved}

@@ -135,7 +135,7 @@ fn judge<M: Makes>(
 ///
 /// # Errors
 ///
-/// For want of memory. The provers that were dropped until then are gone.
+/// For want of memory. Nothing is said of the provers then.
 pub fn prove_outline<M: Makes>(
     alloc: Global,
     makes: &M,

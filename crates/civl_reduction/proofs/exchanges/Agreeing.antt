@@ -1,5 +1,5 @@
 -- A step of a plain program is one of its system of threads.
-use Rattle.std.proofs.Common.{ℕ, ◌≡◌, Bool, true, false, not, List, [], Option, Some, None, refl, slice_get, slice_set, ap, sym, ◌∙◌}
+use Rattle.std.proofs.Common.{ℕ, ◌≡◌, Bool, true, false, List, [], Option, Some, None, refl, slice_get, slice_set, ap}
 use Rattle.std.specs.Prelude.{if◌then◌else◌, option_map, All}
 use Rattle.std.proofs.lemmas.List.{append-nil}
 use Rattle.civl_bits.specs.Value.{IsValue}
@@ -12,17 +12,13 @@ use Rattle.civl_meaning.specs.declared.config.Plain.{Plain}
 use Rattle.civl_meaning.specs.declared.config.Running.{Running}
 use Rattle.civl_meaning.specs.declared.config.Config.{Config}
 use Rattle.civl_meaning.specs.declared.config.Stepped.TheVariants as answer
-use Rattle.civl_meaning.specs.declared.config.Change.{Change}
 use Rattle.civl_meaning.specs.declared.config.Change.TheVariants as change
 use Rattle.civl_firing.specs.Fired.{gate_holds, choices_fit, fires, fired_by, fired}
-use Rattle.civl_meaning.specs.Change.{with_results, acted}
+use Rattle.civl_meaning.specs.Change.{with_results, acted, Doing, done_by, doing}
 use Rattle.civl_meaning.specs.Step.{thread_after, step_with, step_in, step_of}
-use Rattle.civl_meaning.specs.Failing.{thread_fails, answers_failing}
-use Rattle.civl_reduction.specs.exchanges.Doing.{Doing, done_by, doing}
-use Rattle.civl_reduction.specs.exchanges.Doing as does
+use Rattle.civl_meaning.specs.Failing.{fails_at, thread_fails}
+use Rattle.civl_meaning.specs.Change as does
 use Rattle.civl_reduction.specs.exchanges.Interleavings.{Chosen, Call, whole, as_config, as_move, program_threads, told}
-use Rattle.civl_meaning.proofs.Failures.{failing_is_answered}
-use Rattle.civl_reduction.proofs.exchanges.Changes.{change_is}
 use Rattle.civl_reduction.specs.interleavings.Threads.{Threads, outcome, doing_fails}
 use Rattle.civl_reduction.specs.interleavings.Threads as threads
 
@@ -56,23 +52,13 @@ module _ (plain : Plain) (store : Store) (inside : Running → Bool) where
 
   by_thread : (c : Config) (m : Move) (h : All IsValue m.choices) (o : Option Running) → threads.step_in P (as_config c) (as_move m h) o ≡ told (step_in plain c m o)
   by_thread c m h None = refl
-  by_thread c m h (Some r) =
-      by_doing c m.thread (m.choices, h) r (doing plain r)
-      ∙ ap (λ (g : Change). told (step_with c m.thread r g)) (sym (change_is plain c.store m.choices r))
+  by_thread c m h (Some r) = by_doing c m.thread (m.choices, h) r (doing plain r)
 
   -- a step of the program is one of the system
   pub steps_agree : (c : Config) (m : Move) (h : All IsValue m.choices) → threads.step_of P (as_config c) (as_move m h) ≡ told (step_of plain c m)
   steps_agree c m h = by_thread c m h (slice_get c.threads m.thread)
 
-  fails_by_tests : (names : List Name) (locals : List Value) (results : List Name) (next : ℕ) (gate fit : Bool) (moved : Option (Store × List Value)) →
-      answers_failing (if gate then (if fit then acted names locals results next (if gate then fired_by moved else fire.GateFalse) else change.Stays answer.BadChoices) else change.Stays answer.Failing) ≡ not gate
-  fails_by_tests names locals results next true true (Some p) = refl
-  fails_by_tests names locals results next true true None = refl
-  fails_by_tests names locals results next true false moved = refl
-  fails_by_tests names locals results next false fit moved = refl
-
-  fails_by_doing : (g : Store) (r : Running) (D : Doing) → answers_failing (done_by plain g [] D) ≡ doing_fails P (whole r D) g
-  unfolding fired
+  fails_by_doing : (g : Store) (r : Running) (D : Doing) → fails_at plain g D ≡ doing_fails P (whole r D) g
   fails_by_doing g r does.Fails = refl
   fails_by_doing g r does.Waits = refl
   fails_by_doing g r does.Ends = refl
@@ -80,12 +66,8 @@ module _ (plain : Plain) (store : Store) (inside : Running → Bool) where
   fails_by_doing g r (does.Enters frame place) = refl
   fails_by_doing g r (does.Leaves frame) = refl
   fails_by_doing g r (does.Spawns other place) = refl
-  fails_by_doing g r (does.Calls names locals results next a args) =
-      fails_by_tests names locals results next (gate_holds plain.program.globals g a args) (choices_fit a []) (fires plain.program.globals g a args [])
+  fails_by_doing g r (does.Calls names locals results next a args) = refl
 
   -- a thread of the program fails where the system's does
   pub fails_agree : (g : Store) (r : Running) → thread_fails plain g r ≡ doing_fails P (whole r (doing plain r)) g
-  fails_agree g r =
-      sym (failing_is_answered plain g [] r)
-      ∙ ap answers_failing (change_is plain g [] r)
-      ∙ fails_by_doing g r (doing plain r)
+  fails_agree g r = fails_by_doing g r (doing plain r)

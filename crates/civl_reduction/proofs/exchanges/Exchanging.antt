@@ -14,8 +14,8 @@ use Rattle.civl_meaning.specs.declared.config.Stepped.TheVariants as answer
 use Rattle.civl_meaning.specs.Step.{step_of}
 use Rattle.civl_meaning.specs.Failing.{thread_fails, is_failing, IsMove}
 use Rattle.civl_reduction.specs.exchanges.Interleavings.{Chosen, Call, as_config, as_move, told}
-use Rattle.civl_reduction.specs.exchanges.Doing.{doing}
-use Rattle.civl_reduction.specs.exchanges.Doing as does
+use Rattle.civl_meaning.specs.Change.{doing}
+use Rattle.civl_meaning.specs.Change as does
 use Rattle.civl_reduction.specs.exchanges.Exchange.{Exchanged, SpawnsNone, StepsExchange}
 use Rattle.civl_reduction.specs.exchanges.Interleavings.{whole}
 use Rattle.civl_reduction.proofs.exchanges.Agreeing.{P, steps_agree, fails_agree}

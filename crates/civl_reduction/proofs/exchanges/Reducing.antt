@@ -28,7 +28,7 @@ module _ (plain : Plain) (store : Store) (inside : Running → Bool) where
   abbrev pub Q : threads.Threads Store Running Call Chosen (List Value)
   Q = P plain store inside
 
-  runs_agree : (moves : List Move) (c d : Config) → All IsMove moves → RunsTo plain moves c d → (ms : List (threads.Move Chosen)) × runs.RunsTo (stepping_of Q) ms (as_config c) (as_config d)
+  runs_agree : (moves : List Move) (c d : Config) → All IsMove moves → RunsTo plain moves c d → (ms : List (threads.Move Chosen)) × runs.SystemRuns (stepping_of Q) ms (as_config c) (as_config d)
   runs_agree [] c d h r = ([], ap as_config r)
   runs_agree (m ∷ moves) c d h r =
       let first : IsMove m = All-head IsMove m moves h in
@@ -41,7 +41,7 @@ module _ (plain : Plain) (store : Store) (inside : Running → Bool) where
       let r = any_place (thread_fails plain c.store) c.threads e in
       (r.0, ap (fails_in Q c.store) r.2 ∙ (sym (fails_agree plain store inside c.store r.1) ∙ r.3))
 
-  pub can_fail : CanFail plain store → runs.CanFail (stepping_of Q)
+  pub can_fail : CanFail plain store → runs.SystemCanFail (stepping_of Q)
   can_fail f =
       let r = runs_agree f.0 (start plain store) f.1 f.2 f.3 in
       (r.0, as_config f.1, r.1, failing_agree f.1 f.4)
@@ -50,7 +50,7 @@ module _ (plain : Plain) (store : Store) (inside : Running → Bool) where
   move_of : threads.Move Chosen → Move
   move_of m = record { thread = m.thread; choices = m.chosen.0 }
 
-  runs_back : (ms : List (threads.Move Chosen)) (c d : Config) → runs.RunsTo (stepping_of Q) ms (as_config c) (as_config d) → (moves : List Move) × All IsMove moves × RunsTo plain moves c d
+  runs_back : (ms : List (threads.Move Chosen)) (c d : Config) → runs.SystemRuns (stepping_of Q) ms (as_config c) (as_config d) → (moves : List Move) × All IsMove moves × RunsTo plain moves c d
   unfolding move_of
   runs_back [] c d r = ([], All-nil IsMove, ap config_of r)
   runs_back (m ∷ ms) c d r =
@@ -58,7 +58,7 @@ module _ (plain : Plain) (store : Store) (inside : Running → Bool) where
       (move_of m ∷ rest.0, All-cons IsMove (move_of m) rest.0 m.chosen.1 rest.1, (config_of r.0, steps_back plain store inside c (move_of m) m.chosen.1 r.0 r.1, rest.2))
 
   -- where a run of the system ends failing, one of the program does
-  pub can_fail_back : runs.CanFail (stepping_of Q) → CanFail plain store
+  pub can_fail_back : runs.SystemCanFail (stepping_of Q) → CanFail plain store
   can_fail_back f =
       let r = runs_back f.0 (start plain store) (config_of f.1) f.2 in
       (r.0, config_of f.1, r.1, r.2, fails_back plain store inside (config_of f.1) f.3)

@@ -26,8 +26,8 @@ use Rattle.civl_reduction.specs.interleavings.Reduction.{Between, Late}
 use Rattle.civl_reduction.specs.interleavings.Threads.{Threads, outcome, config_with, doing_fails, fails_in, stands_in}
 use Rattle.civl_reduction.specs.interleavings.Threads as threads
 use Rattle.civl_reduction.proofs.interleavings.Exchanging.{makes, calls}
-use Rattle.civl_reduction.specs.exchanges.Doing.{Doing, doing}
-use Rattle.civl_reduction.specs.exchanges.Doing as does
+use Rattle.civl_meaning.specs.Change.{Doing, doing}
+use Rattle.civl_meaning.specs.Change as does
 use Rattle.civl_reduction.specs.exchanges.Interleavings.{Chosen, Call, whole, as_config, as_move}
 use Rattle.civl_reduction.specs.mover_laws.Movers.{IsAt}
 use Rattle.civl_reduction.proofs.mover_laws.Moving.{left_movers_fire}

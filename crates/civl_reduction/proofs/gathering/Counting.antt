@@ -4,7 +4,7 @@ use Rattle.std.specs.Prelude.{nat_eq, if◌then◌else◌}
 use Rattle.std.specs.Option.{option_map_or}
 use Rattle.std.proofs.lemmas.Bool.{cases_eq, eq-eqb, ne_eqb}
 use Rattle.civl_reduction.specs.interleavings.Systems.{System}
-use Rattle.civl_reduction.specs.interleavings.Runs.{RunsTo, Opens}
+use Rattle.civl_reduction.specs.interleavings.Runs.{SystemRuns, Opens}
 use Rattle.civl_reduction.specs.gathering.Gathered.{own, others, AllPass, counted, blocks}
 use Rattle.civl_reduction.proofs.gathering.Gathering.{own_mine, own_other, others_mine, others_other}
 
@@ -92,7 +92,7 @@ module _ {C M : Type 0} (S : System C M) where
   pub blocks_step : (m : M) (ms : List M) (c d : C) → S.step c m ≡ Some d → blocks S (m ∷ ms) c ≡ block_end (S.inside d (S.mover m)) + blocks S ms d
   blocks_step m ms c d s = ap (λ o. option_map_or (λ d. block_end (S.inside d (S.mover m)) + blocks S ms d) o 0) s
 
-  pub blocks_more : (ms ns : List M) (c d : C) → RunsTo S.steps ms c d → blocks S (ms ++ ns) c ≡ blocks S ms c + blocks S ns d
+  pub blocks_more : (ms ns : List M) (c d : C) → SystemRuns S.steps ms c d → blocks S (ms ++ ns) c ≡ blocks S ms c + blocks S ns d
   blocks_more [] ns c d r = let e = ap (blocks S ns) r in omega (arith, e)
   blocks_more (m ∷ ms) ns c d r =
       let a = blocks_step m (ms ++ ns) c r.0 r.1 in

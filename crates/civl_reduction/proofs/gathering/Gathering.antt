@@ -4,7 +4,7 @@ use Rattle.std.specs.Prelude.{if◌then◌else◌, All}
 use Rattle.std.proofs.lemmas.List.Elements.{All-head, All-tail, All-nil, All-cons}
 use Rattle.std.proofs.lemmas.Bool.{cases_eq, eq-eqb, ne_eqb}
 use Rattle.civl_reduction.specs.interleavings.Systems.{Failing, System}
-use Rattle.civl_reduction.specs.interleavings.Runs.{RunsTo, Opens}
+use Rattle.civl_reduction.specs.interleavings.Runs.{SystemRuns, Opens}
 use Rattle.civl_reduction.specs.interleavings.Reduction.{Exchanged}
 use Rattle.civl_reduction.specs.gathering.Gathered.{own, others, FailsBehind, FailsAlong, FailsSooner, IsGathered, FailsInside}
 
@@ -138,7 +138,7 @@ module _ {C M : Type 0} (S : System C M) (t : ℕ) (Holds : C → Type 0) (Valid
     after = g.after;
     opens = subst (λ z. Opens S t z c g.middle) (sym (own_mine S.mover t n ms w)) (d, w, s, i, g.opens);
     last = g.last;
-    rest = subst (λ z. RunsTo S.steps z g.after e) (sym (others_mine S.mover t n ms w)) g.rest;
+    rest = subst (λ z. SystemRuns S.steps z g.after e) (sym (others_mine S.mover t n ms w)) g.rest;
   }
 
   -- a move of another thread in front of those that are gathered
@@ -152,7 +152,7 @@ module _ {C M : Type 0} (S : System C M) (t : ℕ) (Holds : C → Type 0) (Valid
       after = k.0;
       opens = subst (λ z. Opens S t z c y) (sym (own_other S.mover t n ms w)) o;
       last = k.1;
-      rest = subst (λ z. RunsTo S.steps z k.0 e) (sym (others_other S.mover t n ms w)) (g.after, k.2, g.rest);
+      rest = subst (λ z. SystemRuns S.steps z k.0 e) (sym (others_other S.mover t n ms w)) (g.after, k.2, g.rest);
     })
     swapped g y o q (inr (inl f)) = sooner (fails_along_more S t (own S.mover t ms) (m ∷ []) c (fails_there S t (own S.mover t ms) c y o f))
     swapped g y o q (inr (inr f)) = sooner (fails_then S t (own S.mover t ms) m c y f.0 o f.1 f.2)

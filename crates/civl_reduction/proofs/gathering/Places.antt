@@ -5,7 +5,7 @@ use Rattle.std.specs.Prelude.{All}
 use Rattle.std.proofs.lemmas.Bool.{cases_eq, both_ways}
 use Rattle.std.proofs.lemmas.List.Elements.{All-head, All-tail}
 use Rattle.civl_reduction.specs.interleavings.Systems.{System}
-use Rattle.civl_reduction.specs.interleavings.Runs.{RunsTo, Opens}
+use Rattle.civl_reduction.specs.interleavings.Runs.{SystemRuns, Opens}
 use Rattle.civl_reduction.specs.interleavings.Reduction.{Exchanged, Place, Between, Early, Late, is_inside}
 use Rattle.civl_reduction.specs.gathering.Gathered.{others, FailsSooner, IsGathered, FailsInside, AllPass, AreEarly}
 use Rattle.civl_reduction.proofs.gathering.Gathering.{MayGoBehind, Gathers, others_mine, others_other, gathered, stopped}
@@ -120,17 +120,17 @@ module _ {C M : Type 0} (S : System C M) (place : C → ℕ → Place) (Holds : 
       fails_along_late t u ms a.0 e (All-tail Valid m ms v) (l.holds_on c a.0 m k h a.2) (stays_late t c a.0 m k h a.1 p a.2 a.3) a.4 w
       (l.fails_on c a.0 m u k h a.2 (λ x. w (sym x ∙ a.1)) (subst (λ z. place c z ≡ Late) (sym a.1) p) f)
 
-  pub holds_along : (ms : List M) (c e : C) → All Valid ms → Holds c → RunsTo S.steps ms c e → Holds e
+  pub holds_along : (ms : List M) (c e : C) → All Valid ms → Holds c → SystemRuns S.steps ms c e → Holds e
   holds_along [] c e v h r = subst Holds r h
   holds_along (m ∷ ms) c e v h r = holds_along ms r.0 e (All-tail Valid m ms v) (l.holds_on c r.0 m (All-head Valid m ms v) h r.1) r.2
 
   -- a thread stands where it stood, behind moves of others
-  pub others_leave : (t : ℕ) (ms : List M) (c e : C) → All Valid ms → Holds c → RunsTo S.steps (others S.mover t ms) c e → place e t ≡ place c t
+  pub others_leave : (t : ℕ) (ms : List M) (c e : C) → All Valid ms → Holds c → SystemRuns S.steps (others S.mover t ms) c e → place e t ≡ place c t
   others_leave t [] c e v h r = ap (λ z. place z t) (sym r)
   others_leave t (m ∷ ms) c e v h r = elim (cases_eq (S.mover m) t) [
-    | inl w ↦ others_leave t ms c e (All-tail Valid m ms v) h (subst (λ z. RunsTo S.steps z c e) (others_mine S.mover t m ms w) r)
-    | inr w ↦ first w (subst (λ z. RunsTo S.steps z c e) (others_other S.mover t m ms w) r) (λ d k q. others_leave t ms d e (All-tail Valid m ms v) k q)
+    | inl w ↦ others_leave t ms c e (All-tail Valid m ms v) h (subst (λ z. SystemRuns S.steps z c e) (others_mine S.mover t m ms w) r)
+    | inr w ↦ first w (subst (λ z. SystemRuns S.steps z c e) (others_other S.mover t m ms w) r) (λ d k q. others_leave t ms d e (All-tail Valid m ms v) k q)
   ]
     where
-      first : S.mover m ≢ t → RunsTo S.steps (m ∷ others S.mover t ms) c e → ((d : C) → Holds d → RunsTo S.steps (others S.mover t ms) d e → place e t ≡ place d t) → place e t ≡ place c t
+      first : S.mover m ≢ t → SystemRuns S.steps (m ∷ others S.mover t ms) c e → ((d : C) → Holds d → SystemRuns S.steps (others S.mover t ms) d e → place e t ≡ place d t) → place e t ≡ place c t
       first w r ih = let u = All-head Valid m ms v in ih r.0 (l.holds_on c r.0 m u h r.1) r.2 ∙ l.others_stay c r.0 m t u h r.1 w

@@ -2,11 +2,11 @@
 use Rattle.std.proofs.Common.{ℕ, ◌≡◌, true, false, List, [], ◌∷◌, ◌++◌, Option, None, Some, refl, sym, subst}
 use Rattle.std.proofs.lemmas.Bool.{both_ways}
 use Rattle.civl_reduction.specs.interleavings.Systems.{Failing, System}
-use Rattle.civl_reduction.specs.interleavings.Runs.{RunsTo, MayStep, Staged, Opens}
+use Rattle.civl_reduction.specs.interleavings.Runs.{SystemRuns, MayStep, Staged, Opens}
 use Rattle.civl_reduction.proofs.interleavings.Staging.{inside_any, inside_all, inside_begun}
 use Rattle.civl_reduction.specs.gathering.Gathered.{own, FailsInside}
 
-pub opens_run : {C M : Type 0} (S : System C M) (t : ℕ) (ms : List M) (c x : C) → Opens S t ms c x → RunsTo S.steps ms c x
+pub opens_run : {C M : Type 0} (S : System C M) (t : ℕ) (ms : List M) (c x : C) → Opens S t ms c x → SystemRuns S.steps ms c x
 opens_run S t [] c x o = o
 opens_run S t (m ∷ ms) c x o = (o.0, o.2, opens_run S t ms o.0 x o.4)
 

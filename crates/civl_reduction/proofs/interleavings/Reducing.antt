@@ -2,7 +2,7 @@
 use Rattle.std.proofs.Common.{ℕ, zero, suc, ◌<◌, ◌≡◌, Bool, true, false, List, [], ◌∷◌, ◌++◌, length, Option, None, Some, refl, sym, ap, subst, ◌∙◌, arith, inl, inr, ◌⊎◌}
 use Rattle.std.proofs.lemmas.Bool.{both_ways}
 use Rattle.civl_reduction.specs.interleavings.Systems.{System}
-use Rattle.civl_reduction.specs.interleavings.Runs.{CanFail, MayStep, BlocksFail, Staged, begun}
+use Rattle.civl_reduction.specs.interleavings.Runs.{SystemCanFail, MayStep, BlocksFail, Staged, begun}
 use Rattle.civl_reduction.specs.interleavings.Reduction.{Place, Between, Early, Late, is_inside, Within, IsReducible}
 use Rattle.civl_reduction.proofs.interleavings.Doomed.{Doomed, doomed_by}
 use Rattle.civl_reduction.proofs.interleavings.Early.{Turns, Begins, Sorted, sorted}
@@ -120,7 +120,7 @@ module _ {C M : Type 0} (S : System C M) (place : C → ℕ → Place) (Holds : 
   both zero n h = absurd (omega (arith, h))
   both (suc b) n h = both_at n (λ k i. both b k (omega (arith, h, i)))
 
-  pub reduced : CanFail S.steps → BlocksFail S
+  pub reduced : SystemCanFail S.steps → BlocksFail S
   reduced r = go (S.challenged []) refl
     where
       f : Doomed S (length r.0) S.start

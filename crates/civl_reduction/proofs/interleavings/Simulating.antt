@@ -3,15 +3,15 @@ use Rattle.std.proofs.Common.{ℕ, ◌≡◌, Bool, true, false, List, [], ◌�
 use Rattle.std.proofs.lemmas.List.{append-nil}
 use Rattle.std.proofs.lemmas.Bool.{both_ways}
 use Rattle.civl_reduction.specs.interleavings.Systems.{Stepping, Failing, System}
-use Rattle.civl_reduction.specs.interleavings.Runs.{RunsTo, FailsFrom, CanFail, MayStep, opened, BlocksTo, IsBlockRun, BlocksFail, Staged, begun, Opens}
+use Rattle.civl_reduction.specs.interleavings.Runs.{SystemRuns, FailsFrom, SystemCanFail, MayStep, opened, BlocksTo, IsBlockRun, BlocksFail, Staged, begun, Opens}
 use Rattle.civl_reduction.specs.interleavings.Simulation.{Simulates}
 use Rattle.civl_reduction.proofs.interleavings.Staging.{ends_run, ends_staged, opens_more, inside_any, unchallenged}
 
-pub runs_join : {D N : Type 0} (H : Stepping D N) (ns os : List N) (x y z : D) → RunsTo H ns x y → RunsTo H os y z → RunsTo H (ns ++ os) x z
-runs_join H [] os x y z r q = subst (λ w. RunsTo H os w z) (sym r) q
+pub runs_join : {D N : Type 0} (H : Stepping D N) (ns os : List N) (x y z : D) → SystemRuns H ns x y → SystemRuns H os y z → SystemRuns H (ns ++ os) x z
+runs_join H [] os x y z r q = subst (λ w. SystemRuns H os w z) (sym r) q
 runs_join H (n ∷ ns) os x y z r q = (r.0, r.1, runs_join H ns os r.0 y z r.2 q)
 
-pub fails_after : {D N : Type 0} (H : Stepping D N) (ns : List N) (x y : D) → RunsTo H ns x y → FailsFrom H y → FailsFrom H x
+pub fails_after : {D N : Type 0} (H : Stepping D N) (ns : List N) (x y : D) → SystemRuns H ns x y → FailsFrom H y → FailsFrom H x
 fails_after H ns x y r f = (ns ++ f.0, f.1, runs_join H ns f.0 x y f.1 r f.2, f.3)
 
 some_none : (t : ℕ) → ◌≡◌ {A = Option ℕ} (Some t) None → ⊥
@@ -68,7 +68,7 @@ module _ {C M D N : Type 0} (S : System C M) (H : Stepping D N) (Meets : List M 
       opens : Opens S (S.mover m) bs c d
       opens = open_so (S.mover m) may
 
-      next : (ns : List N) × (y : D) × RunsTo H ns x y × Meets (ps ++ (bs ++ m ∷ [])) f y
+      next : (ns : List N) × (y : D) × SystemRuns H ns x y × Meets (ps ++ (bs ++ m ∷ [])) f y
       next = l.meets_on ps bs m (S.mover m) c d f x g k opens refl s p
 
       before : (z : Option ℕ) × MayStep z (S.mover m) × Staged S (ps ++ bs) z d
@@ -106,10 +106,10 @@ module _ {C M D N : Type 0} (S : System C M) (H : Stepping D N) (Meets : List M 
       go ih o ps bs c d e x g k open_so b i true q =
           looked_open ms m ih o ps bs c d e b.0 x g k open_so b.1 b.2 q (subst (λ z. BlocksTo S (opened z (S.mover m)) ms b.0 None e) q b.3) i
 
-  pub simulated : BlocksFail S → CanFail H
+  pub simulated : BlocksFail S → SystemCanFail H
   unfolding Looked
   simulated f = go (S.challenged []) refl
     where
-      go : (b : Bool) → S.challenged [] ≡ b → CanFail H
+      go : (b : Bool) → S.challenged [] ≡ b → SystemCanFail H
       go true e = l.challenged_fails [] S.start H.start (refl, refl) l.meets_first e
       go false e = looked f.0 None [] [] S.start S.start f.1 H.start (begun e) l.meets_first (λ t h. refl) (λ h. refl) f.2 f.3

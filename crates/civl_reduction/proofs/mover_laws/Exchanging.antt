@@ -13,7 +13,7 @@ use Rattle.civl_meaning.specs.Layers.{program_at}
 use Rattle.civl_layers.proofs.PlainPrograms.{layered_is_plain}
 use Rattle.civl_layers.specs.Movers.{is_left, is_right}
 use Rattle.civl_reduction.specs.interleavings.Threads as threads
-use Rattle.civl_reduction.specs.exchanges.Doing.{Doing, Calls, doing}
+use Rattle.civl_meaning.specs.Change.{Doing, Calls, doing}
 use Rattle.civl_reduction.specs.exchanges.Exchange.{CallsSwap, SpawnsNone}
 use Rattle.civl_reduction.specs.exchanges.Interleavings.{Call, whole, as_config}
 use Rattle.civl_reduction.proofs.exchanges.Exchanging.{steps_exchange}

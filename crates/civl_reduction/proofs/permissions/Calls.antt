@@ -5,15 +5,17 @@ use Rattle.std.proofs.lemmas.Option.{same_Some, none-some}
 use Rattle.std.proofs.lemmas.List.Elements.{All-nil}
 use Rattle.civl_bits.specs.Value.{IsValue}
 use Rattle.civl_bits.specs.declared.value.Value.{Value}
-use Rattle.civl_firing.specs.values.Values.{HaveSorts}
+use Rattle.civl_firing.specs.values.Values.{HaveSorts, is_true}
 use Rattle.civl_tree.specs.declared.action.Action.{Action}
 use Rattle.civl_tree.specs.declared.stmt.Stmt.{Stmt, out-Stmt}
-use Rattle.civl_tree.specs.declared.stmt.Stmt.TheOpen.{Stmt-F, Call}
+use Rattle.civl_tree.specs.declared.name.Name.{Name}
+use Rattle.civl_tree.specs.declared.stmt.Stmt.TheOpen.{Stmt-F, Assert, Call}
 use Rattle.civl_tree.specs.declared.program.Program.{Program}
 use Rattle.civl_tree.specs.rules.Uses.{param_sorts}
+use Rattle.civl_tree.specs.rules.Names.{names_in_proc}
 use Rattle.civl_tree.specs.rules.Rules.{Keeps}
 use Rattle.civl_firing.specs.declared.store.Store.{Store}
-use Rattle.civl_firing.specs.Eval.{values_of}
+use Rattle.civl_firing.specs.Eval.{value_of, values_of}
 use Rattle.civl_firing.specs.Scope.{frame_values}
 use Rattle.civl_firing.specs.Stores.{IsStore}
 use Rattle.civl_meaning.specs.declared.config.Plain.{Plain}
@@ -25,6 +27,7 @@ use Rattle.civl_meaning.specs.declared.config.Config.{Config}
 use Rattle.civl_meaning.specs.Permissions.{of_globals, of_params}
 use Rattle.civl_meaning.specs.Places.{Spot, spot_at}
 use Rattle.civl_meaning.specs.Meaning.{Meaning, Does, Runs, Missing, called, meaning_of}
+use Rattle.civl_meaning.specs.Change.{call_doing, statement_doing, spot_doing, proc_doing, state_doing, caller_of}
 use Rattle.civl_meaning.specs.Layers.{program_at}
 use Rattle.civl_meaning.specs.Step.{start}
 use Rattle.civl_meaning.specs.Config.{IsPlain, HasLocals, IsBegun, IsStack, StateIsSorted, StateIsStacked, ThreadIsSorted, IsStacked}
@@ -34,7 +37,8 @@ use Rattle.civl_layers.proofs.PlainPrograms.{layered_is_plain}
 use Rattle.civl_conditions.specs.Values.{Invoked}
 use Rattle.civl_conditions.specs.Movers.{apart}
 use Rattle.civl_conditions.specs.Permissions.{of_modes}
-use Rattle.civl_soundness.specs.Stepped.{action_with, layer_action, spot_action, proc_action, state_action, next_action}
+use Rattle.civl_soundness.specs.Stepped.{called_in, next_action}
+use Rattle.civl_soundness.proofs.Progress.{asserts_call_nothing}
 use Rattle.civl_soundness.proofs.Called as sorts
 use Rattle.civl_soundness.proofs.Fitting.{all_at}
 use Rattle.civl_reduction.specs.permissions.Owned.{owned}
@@ -73,10 +77,10 @@ module _ (plain : Plain) (ok : IsPlain plain) (linear : Keeps linear_rules plain
   abbrev at_state : State → Running
   at_state state = record { callee = callee; args = given; state = state }
 
-  acts : (m : Meaning) (vs args : List Value) (action : Action) → action_with m vs ≡ Some (action, args) → (m ≡ Does action) × (vs ≡ args)
-  acts (Does a) vs args action e = let s = same_Some (a, vs) (action, args) e in (ap (λ (c : Action × List Value). Does c.0) s, ap (λ (c : Action × List Value). c.1) s)
-  acts (Runs n p) vs args action e = absurd (none-some (action, args) e)
-  acts Missing vs args action e = absurd (none-some (action, args) e)
+  acts : (ns : List Name) (ls : List Value) (rs : List Name) (at next : ℕ) (m : Meaning) (vs args : List Value) (action : Action) → called_in (call_doing ns ls rs at next m vs) ≡ Some (action, args) → (m ≡ Does action) × (vs ≡ args)
+  acts ns ls rs at next (Does a) vs args action e = let s = same_Some (a, vs) (action, args) e in (ap (λ (c : Action × List Value). Does c.0) s, ap (λ (c : Action × List Value). c.1) s)
+  acts ns ls rs at next (Runs n p) vs args action e = absurd (none-some (action, args) e)
+  acts ns ls rs at next Missing vs args action e = absurd (none-some (action, args) e)
 
   first_owns : (b : IsBegun plain (at_state Before)) (action : Action) → meaning_of plain callee ≡ Does action → CallOwns plain (at_state Before) action given
   first_owns b action does =
@@ -92,31 +96,32 @@ module _ (plain : Plain) (ok : IsPlain plain) (linear : Keeps linear_rules plain
       }
 
   inside_owns_call : (below : List Activation) (top : Activation) → HasLocals plain top → IsStack plain callee below top → AreLent program below top → (action : Action) (args : List Value)
-      → proc_action plain top (slice_get program.procs top.procedure) ≡ Some (action, args) → CallOwns plain (at_state (Inside below top)) action args
+      → called_in (proc_doing plain (caller_of below) top (slice_get program.procs top.procedure)) ≡ Some (action, args) → CallOwns plain (at_state (Inside below top)) action args
   inside_owns_call below top h stack lent action args e =
-      by_spot (spot_at h.proc.body top.place) refl (sym (ap (proc_action plain top) h.there) ∙ e)
+      by_spot (spot_at h.proc.body top.place) refl (sym (ap (λ (o : Option Proc). called_in (proc_doing plain (caller_of below) top o)) h.there) ∙ e)
     where
-      by_layer : (s : Spot) → spot_at h.proc.body top.place ≡ Some s → (d : Stmt-F Stmt) → out-Stmt s.stmt ≡ d → layer_action plain h.proc top.locals d ≡ Some (action, args) → CallOwns plain (at_state (Inside below top)) action args
+      by_layer : (s : Spot) → spot_at h.proc.body top.place ≡ Some s → (d : Stmt-F Stmt) → out-Stmt s.stmt ≡ d → called_in (statement_doing plain h.proc top.locals s.number s.next d) ≡ Some (action, args) → CallOwns plain (at_state (Inside below top)) action args
       by_layer s found (Call g es rs) q k =
           let same = locals_count h.proc top.locals h.locals in
           let st = steps program ok.rules linear top.procedure h.proc h.there top.place (placed_in plain ok linear writable keeps store fits [] (All-nil IsValue) (at_state (Inside below top)) top h.proc h.there stack.topmost) s found in
           let known = callee_known program ok.rules top.procedure h.proc h.there s.number s.stmt st.here g es rs q in
-          let a = acts (called plain g) (values_of (frame_values program.globals h.proc top.locals) es) args action k in
+          let a = acts (names_in_proc h.proc) top.locals rs s.number s.next (called plain g) (values_of (frame_values program.globals h.proc top.locals) es) args action k in
           subst (CallOwns plain (at_state (Inside below top)) action) a.1
           (record {
             owned_all = call_owns plain ok linear writable keeps store fits [] (All-nil IsValue) (at_state (Inside below top)) below top h.proc h.there h.locals same lent s st g es rs q known.0 known.1 action a.0;
             sorted = inputs_fit plain ok linear writable keeps store fits [] (All-nil IsValue) (at_state (Inside below top)) below top h.proc h.there h.locals same lent s st g es rs q known.0 known.1 action a.0;
             meant_so = meant plain ok linear writable keeps store fits [] (All-nil IsValue) (at_state (Inside below top)) below top h.proc h.there h.locals same lent s st g es rs q known.0 known.1 action a.0;
           })
+      by_layer s found (Assert e) q k = absurd (none-some (action, args) (sym (asserts_call_nothing top.locals s.next (is_true (value_of (frame_values program.globals h.proc top.locals) e))) ∙ k))
       by_layer s found _ q k = absurd (none-some (action, args) k)
 
-      by_spot : (o : Option Spot) → spot_at h.proc.body top.place ≡ o → spot_action plain h.proc top.locals o ≡ Some (action, args) → CallOwns plain (at_state (Inside below top)) action args
+      by_spot : (o : Option Spot) → spot_at h.proc.body top.place ≡ o → called_in (spot_doing plain (caller_of below) top h.proc o) ≡ Some (action, args) → CallOwns plain (at_state (Inside below top)) action args
       by_spot None found k = absurd (none-some (action, args) k)
       by_spot (Some s) found k = by_layer s found (out-Stmt s.stmt) refl k
 
-  pub state_owns : (state : State) → StateIsSorted plain (at_state state) state → StateIsStacked plain callee state → StateIsLent program state → (action : Action) (args : List Value) → state_action plain (at_state state) state ≡ Some (action, args) → CallOwns plain (at_state state) action args
+  pub state_owns : (state : State) → StateIsSorted plain (at_state state) state → StateIsStacked plain callee state → StateIsLent program state → (action : Action) (args : List Value) → called_in (state_doing plain (at_state state) state) ≡ Some (action, args) → CallOwns plain (at_state state) action args
   state_owns Before b s l action args e =
-      let a = acts (meaning_of plain callee) given args action e in
+      let a = acts [] [] [] 0 0 (meaning_of plain callee) given args action e in
       subst (CallOwns plain (at_state Before) action) a.1 (first_owns b action a.0)
   state_owns (Inside below top) b s l action args e = inside_owns_call below top b.2 s l action args e
   state_owns After b s l action args e = absurd (none-some (action, args) e)
@@ -127,32 +132,33 @@ module _ (program : Program) (src : IsLayered program) (layer : ℕ) (within : l
   abbrev at_layer : Plain
   at_layer = program_at program layer
 
-  does_of : (m : Meaning) (vs args : List Value) (action : Action) → action_with m vs ≡ Some (action, args) → m ≡ Does action
-  does_of (Does a) vs args action e = ap (λ (c : Action × List Value). Does c.0) (same_Some (a, vs) (action, args) e)
-  does_of (Runs n p) vs args action e = absurd (none-some (action, args) e)
-  does_of Missing vs args action e = absurd (none-some (action, args) e)
+  does_of : (ns : List Name) (ls : List Value) (rs : List Name) (at next : ℕ) (m : Meaning) (vs args : List Value) (action : Action) → called_in (call_doing ns ls rs at next m vs) ≡ Some (action, args) → m ≡ Does action
+  does_of ns ls rs at next (Does a) vs args action e = ap (λ (c : Action × List Value). Does c.0) (same_Some (a, vs) (action, args) e)
+  does_of ns ls rs at next (Runs n p) vs args action e = absurd (none-some (action, args) e)
+  does_of ns ls rs at next Missing vs args action e = absurd (none-some (action, args) e)
 
-  top_exists : (callee : ℕ) (below : List Activation) (top : Activation) → HasLocals at_layer top → IsStack at_layer callee below top → (action : Action) (args : List Value) → proc_action at_layer top (slice_get program.procs top.procedure) ≡ Some (action, args) → exists_in layer (action_range action) ≡ true
-  top_exists callee below top h stack action args e = by_spot (spot_at h.proc.body top.place) refl (sym (ap (proc_action at_layer top) h.there) ∙ e)
+  top_exists : (callee : ℕ) (below : List Activation) (top : Activation) → HasLocals at_layer top → IsStack at_layer callee below top → (action : Action) (args : List Value) → called_in (proc_doing at_layer (caller_of below) top (slice_get program.procs top.procedure)) ≡ Some (action, args) → exists_in layer (action_range action) ≡ true
+  top_exists callee below top h stack action args e = by_spot (spot_at h.proc.body top.place) refl (sym (ap (λ (o : Option Proc). called_in (proc_doing at_layer (caller_of below) top o)) h.there) ∙ e)
     where
       placed : top.place ≤ sizes_of h.proc.body
       placed = subst (λ (p : Proc). top.place ≤ sizes_of p.body) (same_Some stack.topmost.proc h.proc (sym stack.topmost.there ∙ h.there)) stack.topmost.place
 
-      by_layer : (s : Spot) → spot_at h.proc.body top.place ≡ Some s → (d : Stmt-F Stmt) → out-Stmt s.stmt ≡ d → layer_action at_layer h.proc top.locals d ≡ Some (action, args) → exists_in layer (action_range action) ≡ true
+      by_layer : (s : Spot) → spot_at h.proc.body top.place ≡ Some s → (d : Stmt-F Stmt) → out-Stmt s.stmt ≡ d → called_in (statement_doing at_layer h.proc top.locals s.number s.next d) ≡ Some (action, args) → exists_in layer (action_range action) ≡ true
       by_layer s found (Call g es rs) q k =
           let st = steps program src.rules linear top.procedure h.proc h.there top.place placed s found in
-          call_exists program src layer within top.procedure h.proc h.there (top_runs at_layer callee below top stack) s.number s.stmt g es rs st.here q action (does_of (called at_layer g) (values_of (frame_values program.globals h.proc top.locals) es) args action k)
+          call_exists program src layer within top.procedure h.proc h.there (top_runs at_layer callee below top stack) s.number s.stmt g es rs st.here q action (does_of (names_in_proc h.proc) top.locals rs s.number s.next (called at_layer g) (values_of (frame_values program.globals h.proc top.locals) es) args action k)
+      by_layer s found (Assert e) q k = absurd (none-some (action, args) (sym (asserts_call_nothing top.locals s.next (is_true (value_of (frame_values program.globals h.proc top.locals) e))) ∙ k))
       by_layer s found _ q k = absurd (none-some (action, args) k)
 
-      by_spot : (o : Option Spot) → spot_at h.proc.body top.place ≡ o → spot_action at_layer h.proc top.locals o ≡ Some (action, args) → exists_in layer (action_range action) ≡ true
+      by_spot : (o : Option Spot) → spot_at h.proc.body top.place ≡ o → called_in (spot_doing at_layer (caller_of below) top h.proc o) ≡ Some (action, args) → exists_in layer (action_range action) ≡ true
       by_spot None found k = absurd (none-some (action, args) k)
       by_spot (Some s) found k = by_layer s found (out-Stmt s.stmt) refl k
 
   pub next_exists : (thread : Running) → ThreadIsSorted at_layer thread → IsStacked at_layer thread → (action : Action) (args : List Value) → next_action at_layer thread ≡ Some (action, args) → exists_in layer (action_range action) ≡ true
   next_exists thread = by_state thread.state
     where
-      by_state : (state : State) → StateIsSorted at_layer thread state → StateIsStacked at_layer thread.callee state → (action : Action) (args : List Value) → state_action at_layer thread state ≡ Some (action, args) → exists_in layer (action_range action) ≡ true
-      by_state Before b s action args e = first_exists program src layer within roots thread.callee action (does_of (meaning_of at_layer thread.callee) thread.args args action e) b.begins
+      by_state : (state : State) → StateIsSorted at_layer thread state → StateIsStacked at_layer thread.callee state → (action : Action) (args : List Value) → called_in (state_doing at_layer thread state) ≡ Some (action, args) → exists_in layer (action_range action) ≡ true
+      by_state Before b s action args e = first_exists program src layer within roots thread.callee action (does_of [] [] [] 0 0 (meaning_of at_layer thread.callee) thread.args args action e) b.begins
       by_state (Inside below top) b s action args e = top_exists thread.callee below top b.2 s action args e
       by_state After b s action args e = absurd (none-some (action, args) e)
 

@@ -43,7 +43,8 @@ use Rattle.civl_meaning.specs.Meaning.{Meaning, Does, Runs, Missing, called, mea
 use Rattle.civl_meaning.specs.Initial.{of_args}
 use Rattle.civl_meaning.proofs.Begun.{proc_is}
 use Rattle.civl_tree.specs.declared.action.Param.{Param}
-use Rattle.civl_meaning.specs.Change.{with_results, new_frame, acted, action_change, call_change, layer_change}
+use Rattle.civl_meaning.specs.Change.{with_results, new_frame, acted, action_change, done_by, call_doing, statement_doing}
+use Rattle.civl_meaning.specs.Change as does
 use Rattle.civl_meaning.specs.Step.{state_after}
 use Rattle.civl_meaning.specs.Config.{IsPlain, frame_sorts}
 use Rattle.civl_linear.specs.Modes.{is_passed, is_lent, is_given, passed_names}
@@ -334,10 +335,10 @@ module _ (plain : Plain) (ok : IsPlain plain) (linear : Keeps linear_rules plain
               ∙ (ap (λ (l : List Expr). values_of (frame_values program.globals proc top.locals) l) args_are
               ∙ ap (λ (x : Proc). values_of (frame_values program.globals x top.locals) xs) caller_is))
 
-      call_kept : KeptBy (call_change plain store chosen names top.locals rs spot.number spot.next (called plain g) args)
+      call_kept : KeptBy (done_by plain store chosen (call_doing names top.locals rs spot.number spot.next (called plain g) args))
       call_kept = by_meaning (called plain g) refl
         where
-          by_meaning : (m : Meaning) → called plain g ≡ m → KeptBy (call_change plain store chosen names top.locals rs spot.number spot.next m args)
+          by_meaning : (m : Meaning) → called plain g ≡ m → KeptBy (done_by plain store chosen (call_doing names top.locals rs spot.number spot.next m args))
           by_meaning (Does action) e = action_kept action e
           by_meaning (Runs number callee) e = body_kept number callee e
           by_meaning Missing e = (tt, lent)
@@ -370,11 +371,11 @@ module _ (plain : Plain) (ok : IsPlain plain) (linear : Keeps linear_rules plain
         )
 
     -- ---- a statement by its form
-    pub layer_kept : (d : Stmt-F Stmt) → out-Stmt spot.stmt ≡ d → KeptBy (layer_change plain store chosen proc top.locals spot.number spot.next d)
+    pub layer_kept : (d : Stmt-F Stmt) → out-Stmt spot.stmt ≡ d → KeptBy (done_by plain store chosen (statement_doing plain proc top.locals spot.number spot.next d))
     layer_kept (Assign x e) q = assign_kept x e q
     layer_kept (Assert e) q = by_truth (is_true (value_of (frame_values program.globals proc top.locals) e))
       where
-        by_truth : (b : Bool) → KeptBy (if b then Goes top.locals spot.next else Stays answer.Failing)
+        by_truth : (b : Bool) → KeptBy (done_by plain store chosen (if b then does.Goes top.locals spot.next else does.Fails))
         by_truth true = stays_by spot.next (from_here spot.next (next_within (Assert e) q))
         by_truth false = (tt, lent)
     layer_kept (If e a b) q = let w = next_within (If e a b) q in if_kept (is_true (value_of (frame_values program.globals proc top.locals) e)) _ _ w.0 w.1

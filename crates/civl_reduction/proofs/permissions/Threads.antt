@@ -1,6 +1,6 @@
 -- What a step of a thread does to what the thread owns.
 use Rattle.std.proofs.Common.{◌≡◌, ℕ, ◌+◌, ◌-◌, ◌≤◌, Bool, true, false, List, [], ◌∷◌, ◌++◌, take, length, map, refl, sym, ap, ap₂, ◌∙◌, subst, arith, Option, None, Some, slice_get, inr}
-use Rattle.std.specs.Prelude.{All, if◌then◌else◌}
+use Rattle.std.specs.Prelude.{option_map, All, if◌then◌else◌}
 use Rattle.std.proofs.lemmas.Option.{same_Some}
 use Rattle.std.proofs.lemmas.List.{length-append, length-map}
 use Rattle.civl_bits.specs.Value.{IsValue}
@@ -27,12 +27,12 @@ use Rattle.civl_meaning.specs.declared.config.State.{State}
 use Rattle.civl_meaning.specs.declared.config.State.TheVariants.{Before, Inside, After}
 use Rattle.civl_meaning.specs.declared.config.Running.{Running}
 use Rattle.civl_meaning.specs.declared.config.Stepped.TheVariants as answer
-use Rattle.civl_meaning.specs.declared.config.Change.TheVariants.{Stays, Acts, Enters}
+use Rattle.civl_meaning.specs.declared.config.Change.TheVariants.{Stays, Acts, Enters, Leaves}
 use Rattle.civl_meaning.specs.Initial.{of_args}
 use Rattle.civl_meaning.specs.Permissions.{of_params}
 use Rattle.civl_meaning.specs.Places.{Spot, spot_at}
 use Rattle.civl_meaning.specs.Meaning.{Meaning, Does, Runs, Missing, meaning_of}
-use Rattle.civl_meaning.specs.Change.{new_frame, acted, action_change, call_change, outs_in, leaves, spot_change, proc_change, caller_of, state_change, change_of}
+use Rattle.civl_meaning.specs.Change.{new_frame, acted, action_change, done_by, call_doing, outs_in, spot_doing, proc_doing, caller_of, state_doing, change_of, returned}
 use Rattle.civl_meaning.specs.Config.{IsPlain, IsPlaced, IsBegun, HasLocals, IsStack, StateIsSorted, StateIsStacked, ThreadIsSorted, IsStacked, frame_sorts}
 use Rattle.civl_meaning.proofs.Stacking.{split_last, last_waits}
 use Rattle.civl_linear.specs.Modes.{is_passed, is_lent}
@@ -138,17 +138,17 @@ module _ (plain : Plain) (ok : IsPlain plain) (linear : Keeps linear_rules plain
         tt,
       )
 
-  first_kept : IsBegun plain thread → Kept program store thread Before (call_change plain store chosen [] [] [] 0 0 (meaning_of plain thread.callee) thread.args)
+  first_kept : IsBegun plain thread → Kept program store thread Before (done_by plain store chosen (call_doing [] [] [] 0 0 (meaning_of plain thread.callee) thread.args))
   first_kept b = by_meaning (meaning_of plain thread.callee) refl
     where
-      by_meaning : (m : Meaning) → meaning_of plain thread.callee ≡ m → Kept program store thread Before (call_change plain store chosen [] [] [] 0 0 m thread.args)
+      by_meaning : (m : Meaning) → meaning_of plain thread.callee ≡ m → Kept program store thread Before (done_by plain store chosen (call_doing [] [] [] 0 0 m thread.args))
       by_meaning (Does action) e = first_acts b action e
       by_meaning (Runs number proc) e = first_enters b number proc e
       by_meaning Missing e = (tt, tt)
 
   -- a thread in a body
   leaving_kept : (below : List Activation) (top : Activation) (proc : Proc) → slice_get program.procs top.procedure ≡ Some proc → length top.locals ≡ length (names_in_proc proc) → All (HasLocals plain) below → IsStack plain thread.callee below top → AreLent program below top
-      → spot_at proc.body top.place ≡ None → (o : Option Activation) → caller_of below ≡ o → Kept program store thread (Inside below top) (leaves plain (outs_in proc top.locals) o)
+      → spot_at proc.body top.place ≡ None → (o : Option Activation) → caller_of below ≡ o → Kept program store thread (Inside below top) (Leaves (option_map (returned plain (outs_in proc top.locals)) o))
   leaving_kept below top proc at same all stack lent ends None e = ((λ p. omega arith), tt)
   leaving_kept below top proc at same all stack lent ends (Some frame) e =
       let h = all_at (HasLocals plain) below (length below - 1) frame e all in
@@ -159,14 +159,14 @@ module _ (plain : Plain) (ok : IsPlain plain) (linear : Keeps linear_rules plain
       top proc at (placed_in top proc at stack.topmost) ends same (subst (λ (l : List Activation). AreLent program l top) (sym whole) lent) (last_waits plain below top frame e stack.waiting) below (sym whole) refl
 
   inside_kept : (below : List Activation) (top : Activation) → All (HasLocals plain) below → HasLocals plain top → IsStack plain thread.callee below top → AreLent program below top
-      → Kept program store thread (Inside below top) (proc_change plain store chosen (caller_of below) top (slice_get program.procs top.procedure))
+      → Kept program store thread (Inside below top) (done_by plain store chosen (proc_doing plain (caller_of below) top (slice_get program.procs top.procedure)))
   inside_kept below top all h stack lent =
-      subst (λ (o : Option Proc). Kept program store thread (Inside below top) (proc_change plain store chosen (caller_of below) top o)) (sym h.there) (by_spot (spot_at h.proc.body top.place) refl)
+      subst (λ (o : Option Proc). Kept program store thread (Inside below top) (done_by plain store chosen (proc_doing plain (caller_of below) top o))) (sym h.there) (by_spot (spot_at h.proc.body top.place) refl)
     where
       same : length top.locals ≡ length (names_in_proc h.proc)
       same = locals_count h.proc top.locals h.locals
 
-      by_spot : (o : Option Spot) → spot_at h.proc.body top.place ≡ o → Kept program store thread (Inside below top) (spot_change plain store chosen (caller_of below) top h.proc o)
+      by_spot : (o : Option Spot) → spot_at h.proc.body top.place ≡ o → Kept program store thread (Inside below top) (done_by plain store chosen (spot_doing plain (caller_of below) top h.proc o))
       by_spot None e = leaving_kept below top h.proc h.there same all stack lent e (caller_of below) refl
       by_spot (Some s) e =
           layer_kept plain ok linear writable keeps store fits chosen chosen_fit thread below top h.proc h.there h.locals same lent
@@ -175,7 +175,7 @@ module _ (plain : Plain) (ok : IsPlain plain) (linear : Keeps linear_rules plain
   pub thread_kept : ThreadIsSorted plain thread → IsStacked plain thread → StateIsLent program thread.state → Kept program store thread thread.state (change_of plain store chosen thread)
   thread_kept = by_state thread.state
     where
-      by_state : (state : State) → StateIsSorted plain thread state → StateIsStacked plain thread.callee state → StateIsLent program state → Kept program store thread state (state_change plain store chosen thread state)
+      by_state : (state : State) → StateIsSorted plain thread state → StateIsStacked plain thread.callee state → StateIsLent program state → Kept program store thread state (done_by plain store chosen (state_doing plain thread state))
       by_state Before b s l = first_kept b
       by_state (Inside below top) b s l = inside_kept below top b.1 b.2 s l
       by_state After b s l = (tt, tt)

@@ -13,8 +13,8 @@ use Rattle.civl_meaning.specs.declared.config.Move.{Move}
 use Rattle.civl_meaning.specs.declared.config.Running.{Running}
 use Rattle.civl_meaning.specs.Layers.{program_at}
 use Rattle.civl_conditions.specs.Assumed.{refined_action, inputs_of}
-use Rattle.civl_reduction.specs.exchanges.Doing.{Doing, doing}
-use Rattle.civl_reduction.specs.exchanges.Doing as does
+use Rattle.civl_meaning.specs.Change.{Doing, doing}
+use Rattle.civl_meaning.specs.Change as does
 use Rattle.civl_reduction.specs.blocks.Blocks.{framed_in, frame_of_layer, at_yield, rest_of}
 use Rattle.civl_reduction.specs.blocks.Shadow.{Shadowed, seen, shadowed}
 

@@ -24,7 +24,7 @@ use Rattle.civl_layers.specs.Movers.{is_left}
 use Rattle.civl_yields.specs.YieldRules.{yield_rules}
 use Rattle.civl_reduction.specs.interleavings.Reduction.{Between, Early, Late}
 use Rattle.civl_reduction.specs.interleavings.Threads.{Doing, Fails, Waits, Goes, Spawns, Calls}
-use Rattle.civl_reduction.specs.exchanges.Doing.{doing}
+use Rattle.civl_meaning.specs.Change.{doing}
 use Rattle.civl_reduction.specs.exchanges.Interleavings.{Call, whole}
 use Rattle.civl_reduction.specs.blocks.Ahead.{ahead_in}
 use Rattle.civl_reduction.specs.blocks.Stands.{stands}

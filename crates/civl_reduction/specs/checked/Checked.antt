@@ -19,7 +19,7 @@ use Rattle.civl_layers.specs.Layered.{IsLayered}
 use Rattle.civl_linear.specs.LinearRules.{linear_rules}
 use Rattle.civl_layers.specs.Movers.{is_left, is_right}
 use Rattle.civl_conditions.specs.Violated.{AllHold}
-use Rattle.civl_reduction.specs.exchanges.Doing.{doing}
+use Rattle.civl_meaning.specs.Change.{doing}
 use Rattle.civl_reduction.specs.exchanges.Exchange.{Exchanged}
 use Rattle.civl_reduction.specs.permissions.Owned.{IsParted}
 use Rattle.civl_reduction.specs.permissions.Stay.{KeepsPermissions}

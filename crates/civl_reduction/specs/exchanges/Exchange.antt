@@ -13,7 +13,7 @@ use Rattle.civl_meaning.specs.declared.config.Config.{Config}
 use Rattle.civl_meaning.specs.declared.config.Stepped.TheVariants as answer
 use Rattle.civl_meaning.specs.Step.{step_of}
 use Rattle.civl_meaning.specs.Failing.{is_failing, IsMove}
-use Rattle.civl_reduction.specs.exchanges.Doing.{Doing, Spawns, Calls, doing}
+use Rattle.civl_meaning.specs.Change.{Doing, Spawns, Calls, doing}
 
 -- the moves m and n from c to e, the other way round: to the same end, or something fails before, in c or after n alone
 abbrev pub Exchanged : Plain → Config → Move → Move → Config → Type 0

@@ -14,7 +14,7 @@ use Rattle.civl_meaning.specs.declared.config.Change.TheVariants as change
 use Rattle.civl_firing.specs.Fired.{gate_holds, choices_fit, fires}
 use Rattle.civl_meaning.specs.Change.{with_results}
 use Rattle.civl_meaning.specs.Step.{start, thread_after}
-use Rattle.civl_reduction.specs.exchanges.Doing as doing
+use Rattle.civl_meaning.specs.Change as doing
 use Rattle.civl_reduction.specs.interleavings.Threads.{Doing, Fails, Waits, Goes, Spawns, Calls, Threads}
 use Rattle.civl_reduction.specs.interleavings.Threads as threads
 

@@ -8,7 +8,7 @@ use Rattle.civl_meaning.specs.declared.config.Config.{Config}
 use Rattle.civl_meaning.specs.Failing.{IsMove}
 use Rattle.civl_meaning.specs.Layers.{program_at}
 use Rattle.civl_reduction.specs.interleavings.Systems.{Failing}
-use Rattle.civl_reduction.specs.interleavings.Runs.{RunsTo, Staged}
+use Rattle.civl_reduction.specs.interleavings.Runs.{SystemRuns, Staged}
 use Rattle.civl_reduction.specs.interleavings.Reduction.{Late, is_inside}
 use Rattle.civl_reduction.specs.checked.Checked.{IsChecked}
 use Rattle.civl_reduction.specs.gathering.Gathered.{others, FailsSooner, IsGathered, AllPass, AreEarly}
@@ -19,7 +19,7 @@ use Rattle.civl_reduction.specs.gathered.Offered.{offered, AreOffered}
 pub record IsReached (program : Program) (layer : ℕ) (store : Store) (c : Config) : Type 0 where
   pub moves : List Move
   pub are_moves : All IsMove moves
-  pub runs : RunsTo (layer_run program layer store).steps moves (layer_run program layer store).start c
+  pub runs : SystemRuns (layer_run program layer store).steps moves (layer_run program layer store).start c
 
 abbrev pub by_thread : Move → ℕ
 by_thread m = m.thread
@@ -81,4 +81,4 @@ FailuresStay =
 abbrev pub OthersLeave : Type 0
 OthersLeave =
     (program : Program) (layer : ℕ) (store : Store) (c e : Config) (t : ℕ) (ms : List Move) → IsChecked program layer store → IsReached program layer store c → All IsMove ms
-    → RunsTo (layer_run program layer store).steps (others by_thread t ms) c e → place_at program layer e t ≡ place_at program layer c t
+    → SystemRuns (layer_run program layer store).steps (others by_thread t ms) c e → place_at program layer e t ≡ place_at program layer c t

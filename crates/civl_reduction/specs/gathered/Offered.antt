@@ -10,8 +10,8 @@ use Rattle.civl_meaning.specs.declared.config.Plain.{Plain}
 use Rattle.civl_meaning.specs.declared.config.Running.{Running}
 use Rattle.civl_meaning.specs.declared.config.Config.{Config}
 use Rattle.civl_meaning.specs.Layers.{program_at}
-use Rattle.civl_reduction.specs.exchanges.Doing.{Doing, doing}
-use Rattle.civl_reduction.specs.exchanges.Doing as does
+use Rattle.civl_meaning.specs.Change.{Doing, doing}
+use Rattle.civl_meaning.specs.Change as does
 use Rattle.civl_reduction.specs.gathered.System.{layer_run}
 
 -- what the action offers that is called; where none is, choices don't count

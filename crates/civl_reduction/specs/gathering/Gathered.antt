@@ -3,7 +3,7 @@
 use Rattle.std.specs.Prelude.{ℕ, ◌+◌, ◌≡◌, ◌≢◌, true, nat_eq, if◌then◌else◌, List, [], ◌∷◌, length, Some, ◌⊎◌}
 use Rattle.std.specs.Option.{option_map_or}
 use Rattle.civl_reduction.specs.interleavings.Systems.{Failing, System}
-use Rattle.civl_reduction.specs.interleavings.Runs.{RunsTo, Opens}
+use Rattle.civl_reduction.specs.interleavings.Runs.{SystemRuns, Opens}
 use Rattle.civl_reduction.specs.interleavings.Reduction.{Place, Early}
 
 -- the moves of the thread with this number, and those of the others
@@ -42,7 +42,7 @@ pub record IsGathered (C M : Type 0) (S : System C M) (t : ℕ) (ms : List M) (m
   pub after : C
   pub opens : Opens S t (own S.mover t ms) c middle
   pub last : S.step middle m ≡ Some after
-  pub rest : RunsTo S.steps (others S.mover t ms) after e
+  pub rest : SystemRuns S.steps (others S.mover t ms) after e
 
 -- the thread fails behind its own moves, each of which leaves it inside its block
 abbrev pub FailsInside : {C M : Type 0} → System C M → ℕ → List M → C → Type 0

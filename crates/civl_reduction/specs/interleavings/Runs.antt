@@ -3,16 +3,16 @@ use Rattle.std.specs.Prelude.{ℕ, ◌≡◌, Bool, true, false, List, [], ◌�
 use Rattle.civl_reduction.specs.interleavings.Systems.{Stepping, Failing, System}
 
 -- the moves run from the first configuration to the second: each step is made
-abbrev pub RunsTo : {C M : Type 0} → Stepping C M → List M → C → C → Type 0
-RunsTo S [] c e = c ≡ e
-RunsTo {C} S (m ∷ ms) c e = (d : C) × (S.step c m ≡ Some d) × RunsTo S ms d e
+abbrev pub SystemRuns : {C M : Type 0} → Stepping C M → List M → C → C → Type 0
+SystemRuns S [] c e = c ≡ e
+SystemRuns {C} S (m ∷ ms) c e = (d : C) × (S.step c m ≡ Some d) × SystemRuns S ms d e
 
 -- some run from here ends failing
 abbrev pub FailsFrom : {C M : Type 0} → Stepping C M → C → Type 0
-FailsFrom {C} {M} S c = (ms : List M) × (e : C) × RunsTo S ms c e × Failing S e
+FailsFrom {C} {M} S c = (ms : List M) × (e : C) × SystemRuns S ms c e × Failing S e
 
-abbrev pub CanFail : {C M : Type 0} → Stepping C M → Type 0
-CanFail S = FailsFrom S S.start
+abbrev pub SystemCanFail : {C M : Type 0} → Stepping C M → Type 0
+SystemCanFail S = FailsFrom S S.start
 
 -- where the block of some thread is open, only this thread may step
 abbrev pub MayStep : Option ℕ → ℕ → Type 0

@@ -19,7 +19,7 @@ use Rattle.civl_meaning.specs.Initial.{IsInitial}
 use Rattle.civl_layers.specs.Layered.{IsLayered}
 use Rattle.civl_linear.specs.LinearRules.{linear_rules}
 use Rattle.civl_layers.specs.Movers.{is_left, is_right}
-use Rattle.civl_reduction.specs.exchanges.Doing.{Doing, Fails, Waits, Ends, Goes, Enters, Leaves, Spawns, Calls, doing}
+use Rattle.civl_meaning.specs.Change.{Doing, Fails, Waits, Ends, Goes, Enters, Leaves, Spawns, Calls, doing}
 use Rattle.civl_reduction.specs.exchanges.Exchange.{Exchanged}
 use Rattle.civl_reduction.specs.permissions.Stay.{KeepsPermissions}
 use Rattle.civl_reduction.specs.permissions.Apart.{SpawnsStandInRoots}

@@ -17,7 +17,7 @@ use Rattle.civl_meaning.specs.declared.config.Change.{Change}
 use Rattle.civl_meaning.specs.declared.config.Change.TheVariants.{Stays, Goes, Acts}
 use Rattle.civl_meaning.specs.Places.{Spot, spot_at}
 use Rattle.civl_meaning.specs.Rest.{rest_at}
-use Rattle.civl_meaning.specs.Change.{layer_change}
+use Rattle.civl_meaning.specs.Change.{done_by, statement_doing}
 use Rattle.civl_meaning.specs.Config.{moved_frame}
 use Rattle.civl_meaning.specs.Layers.{program_at}
 use Rattle.civl_layers.specs.declared.cut.Cut.{Cut}
@@ -99,7 +99,7 @@ pub record Follows (program : Program) (step : ℕ) (proc : Proc) (cut : Cut) (f
 
 -- a frame in its step, in the lower program
 abbrev pub frame_does : Program → ℕ → Proc → Store → List Value → Activation → Spot → Change
-frame_does program step proc store values frame s = layer_change (program_at program (step - 1)) store values proc frame.locals s.number s.next (out-Stmt s.stmt)
+frame_does program step proc store values frame s = done_by (program_at program (step - 1)) store values (statement_doing (program_at program (step - 1)) proc frame.locals s.number s.next (out-Stmt s.stmt))
 
 -- the path stands one step further, with this store, and the frame follows it there
 pub record FollowsOn (program : Program) (step : ℕ) (proc : Proc) (cut : Cut) (from : Progress) (chosen : ℕ → List Value) (bound : ℕ) (here : Standing) (inner store : Store) (frame : Activation) : Type 0 where

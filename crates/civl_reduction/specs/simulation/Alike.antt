@@ -8,12 +8,11 @@ use Rattle.civl_tree.specs.declared.action.Action.{Action}
 use Rattle.civl_tree.specs.declared.program.Proc.{Proc}
 use Rattle.civl_tree.specs.declared.program.Program.{Program}
 use Rattle.civl_meaning.specs.declared.config.Running.{Running}
-use Rattle.civl_meaning.specs.Change.{new_frame}
+use Rattle.civl_meaning.specs.Change.{new_frame, Doing, Enters, Calls, doing}
 use Rattle.civl_meaning.specs.Layers.{program_at}
 use Rattle.civl_layers.specs.Layered.{IsLayered}
 use Rattle.civl_conditions.specs.Steps.{has_layer}
 use Rattle.civl_conditions.specs.Assumed.{refined_action}
-use Rattle.civl_reduction.specs.exchanges.Doing.{Doing, Enters, Calls, doing}
 
 -- one enters the body of this procedure of the layer, and the other calls its action with the same arguments
 pub record CallsInstead (program : Program) (layer : ℕ) (upper lower : Doing) : Type 0 where

@@ -14,14 +14,13 @@ use Rattle.civl_meaning.specs.declared.config.Move.{Move}
 use Rattle.civl_meaning.specs.declared.config.Running.{Running}
 use Rattle.civl_meaning.specs.declared.config.Config.{Config}
 use Rattle.civl_meaning.specs.declared.config.Change.TheVariants as change
-use Rattle.civl_meaning.specs.Change.{with_results, outs_in, new_frame}
+use Rattle.civl_meaning.specs.Change.{with_results, outs_in, new_frame, Doing, doing}
 use Rattle.civl_meaning.specs.Config.{IsOf}
 use Rattle.civl_meaning.specs.Layers.{program_at}
 use Rattle.civl_meaning.specs.Step.{thread_after}
 use Rattle.civl_conditions.specs.footprints.Agreement.{StoresAgree, exists_at}
 use Rattle.civl_conditions.specs.Assumed.{inputs_of}
-use Rattle.civl_reduction.specs.exchanges.Doing.{Doing, doing}
-use Rattle.civl_reduction.specs.exchanges.Doing as does
+use Rattle.civl_meaning.specs.Change as does
 use Rattle.civl_reduction.specs.blocks.Blocks.{frame_of_layer}
 use Rattle.civl_reduction.specs.blocks.Shadow.{Shadowed, shadowed, seen}
 

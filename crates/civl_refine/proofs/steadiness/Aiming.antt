@@ -34,7 +34,7 @@ use Rattle.civl_refine.proofs.Assuming.{held_words, held_carry, words_stay}
 use Rattle.civl_refine.proofs.Violating.{cut_there}
 use Rattle.civl_refine.specs.declared.steadiness.kept.Kept.{Kept}
 use Rattle.civl_refine.specs.declared.steadiness.kept.Kept.TheVariants.{Invariant, Yield}
-use Rattle.civl_refine.specs.steadiness.Kept.{IsTarget, CanKeep, SaysOther, WordsWithin, other_at, is_lost, words_of, word_ids, words_count, kept_weight}
+use Rattle.civl_refine.specs.inner.steadiness.Kept.{IsTarget, CanKeep, SaysOther, WordsWithin, other_at, is_lost, words_of, word_ids, words_count, kept_weight}
 
 -- ---- the target of a condition
 

@@ -46,10 +46,10 @@ use Rattle.civl_refine.proofs.Placing.{rank_some}
 use Rattle.civl_refine.proofs.Violating.{cut_there, start_same, from_same}
 use Rattle.civl_refine.specs.declared.steadiness.kept.Kept.{Kept}
 use Rattle.civl_refine.specs.declared.steadiness.kept.Kept.TheVariants.{Invariant, Yield}
-use Rattle.civl_refine.specs.steadiness.Kept.{IsTarget, kept_weight}
+use Rattle.civl_refine.specs.inner.steadiness.Kept.{IsTarget, kept_weight}
 use Rattle.civl_refine.specs.steadiness.Kinds.{HasTarget}
-use Rattle.civl_refine.specs.steadiness.Making.{others_from}
-use Rattle.civl_refine.specs.steadiness.Losing.{end_weight, together_weight}
+use Rattle.civl_refine.specs.inner.steadiness.Making.{others_from}
+use Rattle.civl_refine.specs.inner.steadiness.Losing.{end_weight, together_weight}
 use Rattle.civl_refine.proofs.steadiness.Aiming.{weight_same, items_same}
 use Rattle.civl_refine.proofs.steadiness.Ending.{ends_weigh}
 use Rattle.civl_refine.proofs.steadiness.Framing.{others_front, others_limited, others_weigh}

@@ -31,8 +31,8 @@ use Rattle.civl_refine.specs.Walked.{outcome_from}
 use Rattle.civl_refine.proofs.Breaking.{kept_at_all}
 use Rattle.civl_refine.specs.declared.steadiness.kept.Kept.{Kept}
 use Rattle.civl_refine.specs.declared.steadiness.kept.Kept.TheVariants.{Invariant, Yield}
-use Rattle.civl_refine.specs.steadiness.Kept.{IsTarget, other_at, is_lost, words_of}
-use Rattle.civl_refine.specs.steadiness.Losing.{act_loses, block_loses, block_lost, kept_at_end, end_weight, apart_too}
+use Rattle.civl_refine.specs.inner.steadiness.Kept.{IsTarget, other_at, is_lost, words_of}
+use Rattle.civl_refine.specs.inner.steadiness.Losing.{act_loses, block_loses, block_lost, kept_at_end, end_weight, apart_too}
 use Rattle.civl_refine.proofs.steadiness.Aiming.{lost_same, owned_same}
 
 -- ---- actions

@@ -36,9 +36,9 @@ use Rattle.civl_states.proofs.Given.{part_given, get_given, stand_past}
 use Rattle.civl_states.proofs.Limits.{AreSorts, sorts_append, proc_param_sorts_are}
 use Rattle.civl_states.proofs.Starting.{inner_limits}
 use Rattle.civl_states.proofs.Variables.{there_is, bits_same}
-use Rattle.civl_refine.specs.steadiness.Others.{SayFrame, other_sorts}
+use Rattle.civl_refine.specs.inner.steadiness.Others.{SayFrame, other_sorts}
 use Rattle.civl_refine.specs.steadiness.Kinds.{HasTarget}
-use Rattle.civl_refine.specs.steadiness.Making.{IsFrameFrom, others_from}
+use Rattle.civl_refine.specs.inner.steadiness.Making.{IsFrameFrom, others_from}
 use Rattle.std.specs.Prelude.{codes}
 
 -- ---- their sorts

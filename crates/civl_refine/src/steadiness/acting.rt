@@ -12,8 +12,8 @@ ghost use Rattle.civl_conditions.specs.Steps.{step_invariants};
 ghost use Rattle.civl_conditions.specs.Weights.{lin, linear_globals, linear_inputs, weights_of, global_weight};
 ghost use Rattle.civl_states.specs.Stores.{AreGlobals};
 ghost use Rattle.civl_states.specs.Runs.{IsReady};
-ghost use Rattle.civl_refine.specs.steadiness.Kept.{CanKeep, words_count, kept_weight};
-ghost use Rattle.civl_refine.specs.steadiness.Losing.{TellsLost};
+ghost use Rattle.civl_refine.specs.inner.steadiness.Kept.{CanKeep, words_count, kept_weight};
+ghost use Rattle.civl_refine.specs.inner.steadiness.Losing.{TellsLost};
 
 use crate::steadiness::kept::{Kept, target_lost, word_ids};
 use civl_movers::interfere::act;

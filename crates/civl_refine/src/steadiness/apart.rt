@@ -13,9 +13,9 @@ ghost use Rattle.civl_conditions.specs.Weights.{lin, linear_globals};
 ghost use Rattle.civl_states.specs.formula_parts.Said.{Env, IsTest};
 ghost use Rattle.civl_states.specs.Beginnings.{AreBegun, CanBegin};
 ghost use Rattle.civl_refine.specs.Assuming.{IsStart};
-ghost use Rattle.civl_refine.specs.steadiness.Others.{IsYieldIn, AreFrame, SayFrame};
-ghost use Rattle.civl_refine.specs.steadiness.Kept.{CanKeep, SaysOther};
-ghost use Rattle.civl_refine.specs.steadiness.Losing.{apart_too, together_weight};
+ghost use Rattle.civl_refine.specs.inner.steadiness.Others.{IsYieldIn, AreFrame, SayFrame};
+ghost use Rattle.civl_refine.specs.inner.steadiness.Kept.{CanKeep, SaysOther};
+ghost use Rattle.civl_refine.specs.inner.steadiness.Losing.{apart_too, together_weight};
 
 use crate::steadiness::kept::Kept;
 use crate::steadiness::yielding::{Frame, Yielding};

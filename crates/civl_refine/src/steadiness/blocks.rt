@@ -16,8 +16,8 @@ ghost use Rattle.civl_refine.specs.Assuming.{IsStart, BeginsAt};
 ghost use Rattle.civl_refine.specs.Failing.{ArrivesAmong};
 ghost use Rattle.civl_refine.specs.Judging.{AreCuts};
 ghost use Rattle.civl_refine.specs.Walked.{IsWalked, CanWalk, outcome_from};
-ghost use Rattle.civl_refine.specs.steadiness.Kept.{CanKeep, SaysOther, kept_before, kept_weight};
-ghost use Rattle.civl_refine.specs.steadiness.Losing.{block_loses, block_lost, end_weight, kept_at_end, kept_on_way, together_weight};
+ghost use Rattle.civl_refine.specs.inner.steadiness.Kept.{CanKeep, SaysOther, kept_before, kept_weight};
+ghost use Rattle.civl_refine.specs.inner.steadiness.Losing.{block_loses, block_lost, end_weight, kept_at_end, kept_on_way, together_weight};
 
 use crate::steadiness::apart::with_apart;
 use crate::steadiness::kept::{Kept, kept_after, kept_before};

@@ -12,7 +12,7 @@ ghost use Rattle.civl_conditions.specs.Targets.{Other};
 ghost use Rattle.civl_conditions.specs.Weights.{global_weight, maybe_weight};
 ghost use Rattle.civl_states.specs.formula_parts.Said.{Env, IsTest};
 ghost use Rattle.civl_states.specs.Stores.{AreGlobals, AreStore};
-ghost use Rattle.civl_refine.specs.steadiness.Kept.{CanKeep, SaysOther, kept_before, kept_after, is_lost, word_ids, WordsWithin, kept_weight};
+ghost use Rattle.civl_refine.specs.inner.steadiness.Kept.{CanKeep, SaysOther, kept_before, kept_after, is_lost, word_ids, WordsWithin, kept_weight};
 
 use crate::held_ids;
 use crate::steadiness::yielding::{Frame, Yielding, yield_kept};

@@ -15,10 +15,10 @@ ghost use Rattle.civl_conditions.specs.Variables.{other_variables};
 ghost use Rattle.civl_conditions.specs.Weights.{bits_of_variables};
 ghost use Rattle.civl_states.specs.formula_parts.Given.{given, bits_of_sorts, AreVariablesOf};
 ghost use Rattle.civl_states.specs.Groups.{StandFrom};
-ghost use Rattle.civl_refine.specs.steadiness.Others.{IsYieldIn, YieldsAt, other_sorts};
-ghost use Rattle.civl_refine.specs.steadiness.Kept.{IsTarget, CanKeep, SaysOther, other_at};
+ghost use Rattle.civl_refine.specs.inner.steadiness.Others.{IsYieldIn, YieldsAt, other_sorts};
+ghost use Rattle.civl_refine.specs.inner.steadiness.Kept.{IsTarget, CanKeep, SaysOther, other_at};
 ghost use Rattle.civl_refine.specs.steadiness.Kinds.{HasTarget, HasYield};
-ghost use Rattle.civl_refine.specs.steadiness.Making.{EndWith, IsFrameFrom, others_from};
+ghost use Rattle.civl_refine.specs.inner.steadiness.Making.{EndWith, IsFrameFrom, others_from};
 
 use crate::steadiness::kept::Kept;
 use crate::steadiness::yielding::{Frame, Yielding};

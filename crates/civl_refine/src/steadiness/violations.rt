@@ -22,8 +22,8 @@ ghost use Rattle.civl_states.specs.Formulas.{sorts_of, IsViolation};
 ghost use Rattle.civl_refine.specs.Assuming.{IsStart};
 ghost use Rattle.civl_refine.specs.Kinds.{HasCut};
 ghost use Rattle.civl_refine.specs.Walked.{sorts_from};
-ghost use Rattle.civl_refine.specs.steadiness.Kept.{CanKeep, SaysOther, kept_weight};
-ghost use Rattle.civl_refine.specs.steadiness.Losing.{block_loses, end_weight, together_weight};
+ghost use Rattle.civl_refine.specs.inner.steadiness.Kept.{CanKeep, SaysOther, kept_weight};
+ghost use Rattle.civl_refine.specs.inner.steadiness.Losing.{block_loses, end_weight, together_weight};
 ghost use Rattle.civl_conditions.specs.declared.condition.Target.TheVariants as target;
 ghost use Rattle.civl_refine.specs.steadiness.Kinds.{HasTarget, HasYield, IsOfSteadiness};
 

@@ -11,7 +11,7 @@ ghost use Rattle.civl_conditions.specs.Targets.{Other, yield_holds};
 ghost use Rattle.civl_conditions.specs.Weights.{note_weight};
 ghost use Rattle.civl_states.specs.formula_parts.Said.{Env, IsTest};
 ghost use Rattle.civl_states.specs.Stores.{AreGlobals, AreStore};
-ghost use Rattle.civl_refine.specs.steadiness.Others.{IsYieldIn, AreFrame, SayFrame};
+ghost use Rattle.civl_refine.specs.inner.steadiness.Others.{IsYieldIn, AreFrame, SayFrame};
 
 use crate::steady_note;
 use civl_layers::Cut;

@@ -1,3 +1,4 @@
+-- Part of the claim: docs/CLAIM.md.
 -- What the static rules ask of one expression beside its sort: that its names are in scope, and that widths, literals
 -- and indices are in range.
 use Rattle.std.specs.Prelude.{ℕ, ◌≡◌, ◌^◌, Bool, true, false, ◌&&◌, nat_lt, nat_le, Option, None, Some, is_some, IsTrue, if◌then◌else◌}

@@ -1,3 +1,4 @@
+-- Part of the claim: docs/CLAIM.md.
 -- The names that a program declares, and what a name stands for. The forms of declaration are those of layered
 -- programs over gated atomic actions (Hawblitzel, Petrank, Qadeer, Tasiran, CAV 2015; Kragl, Qadeer, CAV 2018).
 use Rattle.std.specs.Prelude.{Bool, false, ◌||◌, List, [], ◌∷◌, ◌++◌, map, Option, None, Some}

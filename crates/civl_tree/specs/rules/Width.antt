@@ -1,3 +1,4 @@
+-- Part of the claim: docs/CLAIM.md.
 -- E20, Width: the width of a word or a cell, or the value of a literal, that is out of range; a linear declaration that
 -- isn't a word of its width.
 use Rattle.std.specs.Prelude.{◌^◌, Bool, true, false, not, ◌&&◌, ◌||◌, List, ◌++◌}

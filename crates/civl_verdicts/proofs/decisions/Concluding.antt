@@ -20,13 +20,13 @@ use Rattle.civl_blast.proofs.Telling.{bits_give_values, satisfiable_where_true, 
 use Rattle.civl_states.specs.formula_parts.Given.{AreVariablesOf}
 use Rattle.civl_verdicts.specs.Formulas.{Formula, StandsForFormula}
 use Rattle.civl_verdicts.specs.models.Reading.{IsCellPlace, FitAt, AreRead}
-use Rattle.civl_verdicts.specs.models.Zeros.{zeros_of}
+use Rattle.civl_verdicts.specs.inner.models.Zeros.{zeros_of}
 use Rattle.civl_verdicts.proofs.models.Placing.{sort_of_place}
 use Rattle.civl_verdicts.proofs.models.ReadingAll.{read_all, are_read}
 use Rattle.civl_verdicts.specs.decisions.Numbered.{bits_together}
 use Rattle.civl_verdicts.specs.decisions.Decided.{IsTermOf, IsDecided}
 use Rattle.civl_terms.specs.Building.{Lengthens}
-use Rattle.civl_verdicts.specs.decisions.Answered.{IsAnswered}
+use Rattle.civl_verdicts.specs.inner.decisions.Answered.{IsAnswered}
 use Rattle.civl_verdicts.specs.declared.decisions.decision.Decision.{Decision}
 use Rattle.civl_verdicts.specs.declared.decisions.decision.Decision.TheVariants.{Never, At, Spent}
 
@@ -74,12 +74,14 @@ module _ (ns : List Node) (id : ℕ) (sorts : List Sort) (v_is : AreVariablesOf 
         pub stands_for : StandsForFormula formula set
         stands_for = record {
           places = places;
-          gates = stands.gates;
-          output = stands.output;
-          clauses = stands.clauses;
-          some = λ values h. stands.some (listed values) (fits_listed values (sorted h));
-          one = λ values h v w a b p q. stands.one (listed values) (fits_listed values (sorted h)) v w a b p q;
-          is = λ values h v a p. stands.is (listed values) (fits_listed values (sorted h)) v a p ∙ ap is_true (term.term.is values h);
+          encodes = record {
+            gates = stands.gates;
+            output = stands.output;
+            clauses = stands.clauses;
+            some = λ values h. stands.some (listed values) (fits_listed values (sorted h));
+            one = λ values h v w a b p q. stands.one (listed values) (fits_listed values (sorted h)) v w a b p q;
+            is = λ values h v a p. stands.is (listed values) (fits_listed values (sorted h)) v a p ∙ ap is_true (term.term.is values h);
+          };
           given = λ v.
               let read = are_read sorts set.variables places v limits (cell_places set.variables (omega arith)) in
               let values = read_all v places (zeros_of sorts) in
@@ -101,7 +103,7 @@ module _ (ns : List Node) (id : ℕ) (sorts : List Sort) (budget : ℕ) (formula
   decided_at values h t = let k = subst (HaveSorts values) (sym term.same) h in (k, sym (ap is_true (term.term.is values k)) ∙ t)
 
   pub decided_spent : (set : ClauseSet) (log : List (List Literal)) → StandsForFormula formula set → Spends set log budget → budget < 2 ^ bits_together sorts → IsDecided budget formula (Spent log)
-  decided_spent set log stands spends wide = (subst (λ (ss : List Sort). budget < 2 ^ bits_together ss) (sym term.same) wide, set, stands, spends)
+  decided_spent set log stands spends wide = (subst (λ (ss : List Sort). budget < 2 ^ bits_together ss) (sym term.same) wide, (set, stands, spends))
 
 -- what is known where the budget was spent, of the term in the graph that grew
 module _ (ns : List Node) (id : ℕ) (sorts : List Sort) (budget : ℕ) (formula : Formula) (term : IsTermOf ns id sorts formula) (v_is : AreVariablesOf ns sorts) where

@@ -11,7 +11,7 @@ use Rattle.civl_firing.specs.values.Values.{HaveSorts}
 use Rattle.civl_firing.specs.declared.store.Store.{Store}
 use Rattle.civl_conditions.specs.declared.condition.Condition.{Condition}
 use Rattle.civl_conditions.specs.Listed.{conditions}
-use Rattle.civl_conditions.specs.Invariants.{is_initial}
+use Rattle.civl_conditions.specs.Invariants.{meets_init}
 use Rattle.civl_conditions.specs.Violated.{violated, Violates, Holds as HoldsOf}
 use Rattle.civl_states.specs.Formulas.{sorts_of}
 use Rattle.civl_states.proofs.Limits.{AreSorts, global_sorts_are}
@@ -72,9 +72,9 @@ module _ (program : Program) (budget : ℕ) (keeps : Keeps typing_rules program)
   store_of_values values = record { values = values }
 
   survey_of : (survey : Survey) × IsSurvey program budget survey
-  survey_of = by (some_or_none (map (λ g. g.sort) program.globals) (λ values. is_initial program (record { values = values })) (global_sorts_are program keeps))
+  survey_of = by (some_or_none (map (λ g. g.sort) program.globals) (λ values. meets_init program (record { values = values })) (global_sorts_are program keeps))
     where
-      by : Some_ (map (λ g. g.sort) program.globals) (λ values. is_initial program (record { values = values })) ⊎ None_ (map (λ g. g.sort) program.globals) (λ values. is_initial program (record { values = values }))
+      by : Some_ (map (λ g. g.sort) program.globals) (λ values. meets_init program (record { values = values })) ⊎ None_ (map (λ g. g.sort) program.globals) (λ values. meets_init program (record { values = values }))
           → (survey : Survey) × IsSurvey program budget survey
       by (inl some) =
           let b = and_parts _ _ some.2 in

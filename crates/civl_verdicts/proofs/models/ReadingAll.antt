@@ -14,7 +14,7 @@ use Rattle.civl_terms.specs.Graphs.{listed}
 use Rattle.civl_blast.specs.rows.Cells.{cell_of, cells_in}
 use Rattle.civl_blast.specs.declared.blasted.Place.{Place}
 use Rattle.civl_verdicts.specs.models.Reading.{IsCellPlace, AgreeAt, HasNoPlace, AreRead}
-use Rattle.civl_verdicts.specs.models.Zeros.{zeros_of}
+use Rattle.civl_verdicts.specs.inner.models.Zeros.{zeros_of}
 use Rattle.civl_verdicts.proofs.models.Placing.{placed, sorts_stay, cell_stays, cell_placed, shown_stays}
 
 -- the values with the cells at all these places

@@ -7,7 +7,7 @@ ghost use Rattle.civl_terms.specs.Building.{Lengthens};
 ghost use Rattle.civl_terms.specs.Weights.{graph_weight};
 ghost use Rattle.civl_states.specs.formula_parts.Given.{AreVariablesOf};
 ghost use Rattle.civl_verdicts.specs.Formulas.{Formula};
-ghost use Rattle.civl_verdicts.specs.decisions.Answered.{IsAnswered};
+ghost use Rattle.civl_verdicts.specs.inner.decisions.Answered.{IsAnswered};
 ghost use Rattle.civl_verdicts.specs.decisions.Decided.{IsTermOf, IsDecided, WasAsked};
 
 use crate::decisions::decision::Decision;
@@ -55,7 +55,7 @@ fn answer(
 ///
 /// # Errors
 ///
-/// For want of memory; the provers that were dropped until then are gone.
+/// For want of memory; nothing is said of the provers then.
 pub fn decide(
     alloc: Global,
     terms: &mut Terms,

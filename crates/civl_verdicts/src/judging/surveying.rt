@@ -143,7 +143,7 @@ fn look<M: Makes>(
 /// # Errors
 ///
 /// `Weight` comes exactly where a formula weighs more than 400,000, and has the first, as `conditions` of civl_weights has it; no
-/// prover is asked then. `Memory` comes where memory is wanting. The provers that were dropped until then are gone.
+/// prover is asked then. `Memory` comes where memory is wanting. Nothing is said of the provers then.
 pub fn survey<M: Makes>(
     alloc: Global,
     makes: &M,

@@ -6,7 +6,7 @@ ghost use Rattle.civl_cnf.specs.ClauseSet.{assignment};
 ghost use Rattle.civl_blast.specs.rows.Cells.{cells_in};
 ghost use Rattle.civl_blast.specs.Standing.{cell_bits};
 ghost use Rattle.civl_verdicts.specs.models.Reading.{number_from, with_cell, IsCellPlace, AreRead};
-ghost use Rattle.civl_verdicts.specs.models.Zeros.{zeros_of};
+ghost use Rattle.civl_verdicts.specs.inner.models.Zeros.{zeros_of};
 
 use civl_bits::{Row, Value, Word};
 use civl_blast::Place;

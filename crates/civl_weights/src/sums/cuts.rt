@@ -13,9 +13,9 @@ ghost use Rattle.civl_conditions.specs.paths.Ends.{is_entry};
 ghost use Rattle.civl_conditions.specs.Assumed.{layer_rank, refined_action, cut_invariant, cut_rank, with_of};
 ghost use Rattle.civl_conditions.specs.Weights.{note_weight, maybe_weight, weights_of, linear_globals};
 ghost use Rattle.civl_weighing.specs.Weighing.{Weighs};
-ghost use Rattle.civl_weights.specs.sums.Met.{AreMet};
+ghost use Rattle.civl_weights.specs.inner.sums.Met.{AreMet};
 ghost use Rattle.civl_weights.specs.sums.Sums.{OfAction, OfStep, OfNotes, OfCut, OfCuts};
-ghost use Rattle.civl_weights.specs.sums.Paths.{ArePathBits, rank_weight, OfBody};
+ghost use Rattle.civl_weights.specs.inner.sums.Paths.{ArePathBits, rank_weight, OfBody};
 
 use crate::sums::actions::{ActionSums, sums_refined};
 use crate::sums::met::{MetSums, met_sums};

@@ -4,7 +4,7 @@ ghost use Rattle.civl_tree.specs.Numbering.{sizes_of};
 ghost use Rattle.civl_layers.specs.Cuts.{proc_cuts};
 ghost use Rattle.civl_conditions.specs.paths.Ends.{is_rank_loop};
 ghost use Rattle.civl_weighing.specs.Weighing.{Weighs};
-ghost use Rattle.civl_weights.specs.sums.Met.{block_end, AreMet};
+ghost use Rattle.civl_weights.specs.inner.sums.Met.{block_end, AreMet};
 
 use civl_conditions::paths::{ends_from, is_rank_loop, met_from};
 use civl_layers::Cut;

@@ -75,7 +75,7 @@ fn step_sums(alloc: Global, program: &Program, step: u32) -> Result<StepSums, Me
     })
 }
 
-/// The sums of the step before the first, of which nothing is asked.
+/// Sums of some step, of which nothing is asked; here those of the step before the first.
 ///
 /// # Errors
 ///

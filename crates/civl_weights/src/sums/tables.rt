@@ -31,7 +31,7 @@ pub struct ProcSums {
 }
 
 /// The bits of all globals, how many are linear, the weight of `initial` without its variables, and the sums of each action
-/// and of each procedure, at its own step.
+/// and of each procedure, at the step that they name.
 #[derive(Drop)]
 pub struct Tables {
     pub bits: Weight,
@@ -180,7 +180,7 @@ fn proc_sums(
     })
 }
 
-/// The sums of each procedure, at its own step.
+/// The sums of each procedure, at the step that they name.
 fn all_procs(
     alloc: Global,
     src: &Layered,

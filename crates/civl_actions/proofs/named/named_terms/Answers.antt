@@ -2,7 +2,7 @@ use Rattle.std.proofs.Common.{List, sym, subst}
 use Rattle.std.specs.Prelude.{All, IsTrue}
 use Rattle.civl_tree.specs.declared.action.Param.{Param}
 use Rattle.civl_firing.specs.values.Values.{is_sort}
-use Rattle.civl_actions.specs.Steps.{AreZeros}
+use Rattle.civl_actions.specs.inner.Steps.{AreZeros}
 use Rattle.civl_actions.proofs.Making.{named_is}
 use Rattle.civl_actions.proofs.named.named_terms.Goals as goal
 

@@ -1,6 +1,6 @@
 use Rattle.std.proofs.Common.{take}
 use Rattle.civl_terms.specs.Building.{Grows}
-use Rattle.civl_actions.specs.Steps.{AreZeros}
+use Rattle.civl_actions.specs.inner.Steps.{AreZeros}
 use Rattle.civl_actions.proofs.named.zeros.Given as goal
 
 abbrev pub invariant-loop-out : goal.invariant-loop-out

@@ -1,7 +1,7 @@
 use Rattle.std.proofs.Common.{take}
 use Rattle.civl_tree.specs.rules.Scopes.{gate_scope}
 use Rattle.civl_terms.specs.Building.{Grows}
-use Rattle.civl_actions.specs.Steps.{AreOffered}
+use Rattle.civl_actions.specs.inner.Steps.{AreOffered}
 use Rattle.civl_actions.proofs.parts.offered.Given as goal
 
 abbrev pub invariant-loop-choice : goal.invariant-loop-choice

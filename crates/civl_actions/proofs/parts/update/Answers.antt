@@ -5,7 +5,7 @@ use Rattle.civl_tree.specs.rules.Names.{global_names, param_names, targets_of}
 use Rattle.civl_firing.specs.Truth.{place_of}
 use Rattle.civl_terms.proofs.Growing.{grows_trans}
 use Rattle.civl_actions.specs.Actions.{LeavesOthers}
-use Rattle.civl_actions.specs.Steps.{AreUpdated}
+use Rattle.civl_actions.specs.inner.Steps.{AreUpdated}
 use Rattle.civl_actions.proofs.Staying.{fits_stay}
 use Rattle.civl_actions.proofs.Rules.{kept, update_typed}
 use Rattle.civl_actions.proofs.Listing.{item_at, updated_more}

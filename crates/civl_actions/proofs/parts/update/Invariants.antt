@@ -1,7 +1,7 @@
 use Rattle.civl_tree.specs.rules.Names.{global_names, targets_of}
 use Rattle.civl_terms.specs.Building.{Grows}
 use Rattle.civl_actions.specs.Actions.{LeavesOthers}
-use Rattle.civl_actions.specs.Steps.{AreUpdated}
+use Rattle.civl_actions.specs.inner.Steps.{AreUpdated}
 use Rattle.civl_actions.proofs.parts.update.Given as goal
 
 abbrev pub invariant-loop-one : goal.invariant-loop-one

@@ -7,7 +7,7 @@ use Rattle.civl_tree.specs.rules.Scopes.{guard_scope}
 use Rattle.civl_firing.specs.values.ActionWeights.{update_weights}
 use Rattle.civl_actions.specs.Scopes.{AreOf}
 use Rattle.civl_actions.specs.Actions.{LeavesOthers}
-use Rattle.civl_actions.specs.Steps.{AreUpdated}
+use Rattle.civl_actions.specs.inner.Steps.{AreUpdated}
 use Rattle.civl_actions.proofs.Rules.{kept, outs_limits}
 use Rattle.civl_actions.proofs.Scoping.{all_names}
 use Rattle.civl_actions.proofs.Staying.{are_stay}

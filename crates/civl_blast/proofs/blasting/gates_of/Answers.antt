@@ -5,7 +5,7 @@ use Rattle.civl_circuits.specs.Circuits.{blank}
 use Rattle.civl_symbolic.specs.declared.symbolic.Symbolic.{Symbolic}
 use Rattle.civl_symbolic.specs.declared.symbolic.Symbolic.TheVariants as symbolic
 use Rattle.civl_blast.specs.reach.Marks.{marked}
-use Rattle.civl_blast.specs.Steps.{symbol_in, input_bits, output_of, IsCircuit}
+use Rattle.civl_blast.specs.inner.Steps.{symbol_in, input_bits, output_of, IsCircuit}
 use Rattle.civl_blast.proofs.Weighing.{inputs_few, inputs_next}
 use Rattle.civl_blast.proofs.Laying.{takes_plain}
 use Rattle.civl_blast.proofs.Flow.{blasting_none, blasting_ready, blasting_room, blasting_more, blasting_all}

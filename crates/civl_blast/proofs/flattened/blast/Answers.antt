@@ -8,7 +8,7 @@ places_of_cells-requires c = rw c.as_slice.ensures (record { counts = (_, c.in_o
 pub returns-clause-stands : goal.returns-clause-stands
 returns-clause-stands c =
     rw (c.from_vec.ensures, c.in_ok-renamed.ensures, c.as_slice.ensures, c.as_slice-2.ensures)
-    (stands_for_cells c.len-count.ensures.graph c.in_ok-flat.ensures.entries c.in_ok-flat.ensures.fits c.in_ok-flat.ensures.value c.in_ok-cnf.ensures.stands)
+    (stands_for_cells _ _ c.len-count.ensures.graph c.in_ok-flat.ensures.entries c.in_ok-flat.ensures.fits c.in_ok-flat.ensures.value c.in_ok-cnf.ensures.stands)
 
 pub returns-clause-places : goal.returns-clause-places
 returns-clause-places c =

@@ -1,5 +1,5 @@
 use Rattle.std.proofs.Common.{◌≡◌, map, take}
-use Rattle.civl_blast.specs.Renaming.{place_of_cell}
+use Rattle.civl_blast.specs.inner.Renaming.{place_of_cell}
 use Rattle.civl_blast.proofs.flattened.places_of_cells.Given as goal
 
 abbrev pub invariant-loop-place : goal.invariant-loop-place

@@ -1,6 +1,6 @@
 use Rattle.std.proofs.Common.{◌+◌, ap, arith}
 use Rattle.civl_blast.specs.reach.Marks.{marked}
-use Rattle.civl_blast.specs.Steps.{input_bits}
+use Rattle.civl_blast.specs.inner.Steps.{input_bits}
 use Rattle.civl_blast.proofs.Weighing.{inputs_next, inputs_few}
 use Rattle.civl_blast.proofs.Laying.{takes_plain}
 use Rattle.civl_blast.proofs.inputs.lay_out.Goals as goal

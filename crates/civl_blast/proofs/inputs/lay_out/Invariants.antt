@@ -1,5 +1,5 @@
 use Rattle.std.proofs.Common.{◌≡◌}
-use Rattle.civl_blast.specs.Steps.{inputs_before, places_before}
+use Rattle.civl_blast.specs.inner.Steps.{inputs_before, places_before}
 use Rattle.civl_blast.proofs.inputs.lay_out.Given as goal
 
 abbrev pub invariant-loop-at : goal.invariant-loop-at

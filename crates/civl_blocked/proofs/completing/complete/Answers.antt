@@ -1,7 +1,7 @@
 use Rattle.std.proofs.Common.{◌∙◌, ◌∷◌, [], ◌++◌, arith, sym, ap, append_assoc, length-append}
 use Rattle.civl_meaning.specs.declared.config.Plain.{Plain}
 use Rattle.civl_reduction.specs.gathered.Offered.{offered}
-use Rattle.civl_blocked.specs.Segments.{program_of}
+use Rattle.civl_blocked.specs.inner.Segments.{program_of}
 use Rattle.civl_blocked.proofs.Picking.{if_some}
 use Rattle.civl_blocked.proofs.Placing.{inside_as}
 use Rattle.civl_blocked.proofs.Prolonged.{offered_more}

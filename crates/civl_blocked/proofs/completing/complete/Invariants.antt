@@ -1,6 +1,6 @@
 use Rattle.std.proofs.Common.{◌≡◌, ◌++◌, ◌≤◌, ◌-◌, List, length}
 use Rattle.civl_meaning.specs.declared.config.Move.{Move}
-use Rattle.civl_blocked.specs.Completed.{OfferedOn}
+use Rattle.civl_blocked.specs.inner.Completed.{OfferedOn}
 use Rattle.civl_blocked.proofs.completing.complete.Given as goal
 
 abbrev pub invariant-loop-added : goal.invariant-loop-added

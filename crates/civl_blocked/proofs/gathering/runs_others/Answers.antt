@@ -1,5 +1,5 @@
 use Rattle.std.proofs.Common.{◌<◌, length, arith}
-use Rattle.civl_blocked.specs.Segments.{over}
+use Rattle.civl_blocked.specs.inner.Segments.{over}
 use Rattle.civl_blocked.proofs.Picking.{others_skips_made, others_skips_left, others_goes_made, others_goes_left}
 use Rattle.civl_blocked.proofs.gathering.runs_others.Goals as goal
 

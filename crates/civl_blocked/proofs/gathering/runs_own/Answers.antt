@@ -1,5 +1,5 @@
 use Rattle.std.proofs.Common.{◌<◌, ◌∙◌, length, arith, sym}
-use Rattle.civl_blocked.specs.Segments.{over}
+use Rattle.civl_blocked.specs.inner.Segments.{over}
 use Rattle.civl_blocked.proofs.Picking.{if_some, skips_made, skips_left, goes_made, goes_left}
 use Rattle.civl_blocked.proofs.Placing.{inside_as}
 use Rattle.civl_blocked.proofs.gathering.runs_own.Goals as goal

@@ -2,7 +2,7 @@ use Rattle.std.proofs.Common.{◌∙◌, ap, sym}
 use Rattle.std.proofs.lemmas.Bool.{false≢true}
 use Rattle.civl_reduction.specs.interleavings.Reduction.{is_inside}
 use Rattle.civl_reduction.specs.blocks.Shadow.{shadowed}
-use Rattle.civl_blocked.specs.Segments.{program_of}
+use Rattle.civl_blocked.specs.inner.Segments.{program_of}
 use Rattle.civl_blocked.proofs.joining.ends_challenged.Goals as goal
 
 pub returns-then-is_inside-clause-calm : goal.returns-then-is_inside-clause-calm

@@ -2,7 +2,7 @@ use Rattle.std.proofs.Common.{◌<◌, ◌≡◌, ◌+◌, [], length, take, dro
 use Rattle.std.proofs.lemmas.List.{drop_all}
 use Rattle.civl_tree.proofs.Lists.{drop_is}
 use Rattle.civl_meaning.specs.Failing.{IsMove}
-use Rattle.civl_blocked.specs.Arranged.{IsJoining}
+use Rattle.civl_blocked.specs.inner.Arranged.{IsJoining}
 use Rattle.civl_blocked.proofs.Picking.{take_is, all_item}
 use Rattle.civl_blocked.proofs.Wholes.{joins_none, next_runs, joins_one, joins_last, joins_all, joined_whole, whole_taken}
 use Rattle.civl_blocked.proofs.joining.join_blocks.Goals as goal

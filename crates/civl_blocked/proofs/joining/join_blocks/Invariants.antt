@@ -1,5 +1,5 @@
 use Rattle.std.proofs.Common.{drop, take}
-use Rattle.civl_blocked.specs.Arranged.{IsJoining}
+use Rattle.civl_blocked.specs.inner.Arranged.{IsJoining}
 use Rattle.civl_blocked.proofs.joining.join_blocks.Given as goal
 
 abbrev pub invariant-loop-chosen : goal.invariant-loop-chosen

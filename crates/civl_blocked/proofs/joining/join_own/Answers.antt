@@ -1,7 +1,7 @@
 use Rattle.std.proofs.Common.{◌<◌, ◌≡◌, ◌∙◌, ◌∷◌, [], ◌++◌, take, true, length, arith, sym, ap, subst, append_assoc}
 use Rattle.civl_reduction.specs.gathering.Gathered.{own}
 use Rattle.civl_reduction.specs.gathered.Laws.{by_thread}
-use Rattle.civl_blocked.specs.Segments.{over}
+use Rattle.civl_blocked.specs.inner.Segments.{over}
 use Rattle.civl_blocked.proofs.Strides.{same_end}
 use Rattle.civl_blocked.proofs.Picking.{skips_made, skips_left, goes_made, goes_left, goes_at, own_done_on, own_done_stays}
 use Rattle.civl_blocked.proofs.joining.join_own.Goals as goal

@@ -3,8 +3,8 @@ use Rattle.civl_meaning.specs.declared.config.Config.{Config}
 use Rattle.civl_reduction.specs.interleavings.Runs.{Opens}
 use Rattle.civl_reduction.specs.gathering.Gathered.{own}
 use Rattle.civl_reduction.specs.gathered.Laws.{by_thread}
-use Rattle.civl_blocked.specs.Segments.{over}
-use Rattle.civl_blocked.specs.Turning.{IsBeside}
+use Rattle.civl_blocked.specs.inner.Segments.{over}
+use Rattle.civl_blocked.specs.inner.Turning.{IsBeside}
 use Rattle.civl_blocked.proofs.joining.join_own.Given as goal
 
 abbrev pub invariant-loop-chosen : goal.invariant-loop-chosen

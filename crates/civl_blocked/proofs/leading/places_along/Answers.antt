@@ -1,6 +1,6 @@
 use Rattle.std.proofs.Common.{◌<◌, ◌+◌, drop, length, arith, subst}
 use Rattle.civl_tree.proofs.Lists.{drop_is}
-use Rattle.civl_blocked.specs.Segments.{over, FailsTo}
+use Rattle.civl_blocked.specs.inner.Segments.{over, FailsTo}
 use Rattle.civl_blocked.proofs.Strides.{first_runs, rest_fails}
 use Rattle.civl_blocked.proofs.leading.places_along.Goals as goal
 

@@ -1,5 +1,5 @@
 use Rattle.std.proofs.Common.{◌≡◌, drop, length}
-use Rattle.civl_blocked.specs.Segments.{over, FailsTo}
+use Rattle.civl_blocked.specs.inner.Segments.{over, FailsTo}
 use Rattle.civl_blocked.proofs.leading.places_along.Given as goal
 
 abbrev pub invariant-loop-at : goal.invariant-loop-at

@@ -2,7 +2,7 @@ use Rattle.std.proofs.Common.{ℕ, ◌<◌, ◌+◌, ◌≡◌, ◌∙◌, Optio
 use Rattle.civl_reduction.specs.interleavings.Reduction.{is_inside}
 use Rattle.civl_reduction.specs.interleavings.Runs.{BlocksTo, opened}
 use Rattle.civl_reduction.proofs.interleavings.Staging.{blocks_more}
-use Rattle.civl_blocked.specs.Segments.{over, program_of}
+use Rattle.civl_blocked.specs.inner.Segments.{over, program_of}
 use Rattle.civl_blocked.proofs.Picking.{if_some, take_is}
 use Rattle.civl_blocked.proofs.leading.runs_blocks.Goals as goal
 

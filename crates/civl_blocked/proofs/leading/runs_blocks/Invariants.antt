@@ -1,6 +1,6 @@
 use Rattle.std.proofs.Common.{take, None}
 use Rattle.civl_reduction.specs.interleavings.Runs.{BlocksTo}
-use Rattle.civl_blocked.specs.Segments.{over}
+use Rattle.civl_blocked.specs.inner.Segments.{over}
 use Rattle.civl_blocked.proofs.leading.runs_blocks.Given as goal
 
 abbrev pub invariant-loop-chosen : goal.invariant-loop-chosen

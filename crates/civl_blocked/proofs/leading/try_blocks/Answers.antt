@@ -1,7 +1,7 @@
 use Rattle.std.proofs.Common.{◌≡◌, ◌+◌, length, drop, arith, sym, subst}
 use Rattle.std.specs.Prelude.{All}
 use Rattle.civl_meaning.specs.Failing.{IsMove}
-use Rattle.civl_blocked.specs.Segments.{over, FailsTo}
+use Rattle.civl_blocked.specs.inner.Segments.{over, FailsTo}
 use Rattle.civl_blocked.proofs.leading.try_blocks.Goals as goal
 
 pub returns : goal.returns

@@ -7,7 +7,7 @@ use Rattle.civl_firing.specs.Eval.{values_of}
 use Rattle.civl_firing.specs.Scope.{frame_values}
 use Rattle.civl_meaning.specs.Meaning.{called}
 use Rattle.civl_conditions.specs.paths.Choices.{action_meant}
-use Rattle.civl_blocked.specs.Offering.{offers_in}
+use Rattle.civl_blocked.specs.inner.Offering.{offers_in}
 use Rattle.civl_blocked.proofs.Offers.{call_so}
 use Rattle.civl_blocked.proofs.offering.call_offers.Goals as goal
 

@@ -5,7 +5,7 @@ use Rattle.civl_tree.specs.declared.action.Choice.{Choice}
 use Rattle.civl_firing.specs.declared.scope.Scope.{Scope}
 use Rattle.civl_firing.specs.Eval.{value_of}
 use Rattle.civl_firing.specs.Settings.{scope_in}
-use Rattle.civl_blocked.specs.Offering.{offers_in}
+use Rattle.civl_blocked.specs.inner.Offering.{offers_in}
 use Rattle.civl_blocked.proofs.offering.offers.Goals as goal
 
 pub returns-after-loop-choice : goal.returns-after-loop-choice

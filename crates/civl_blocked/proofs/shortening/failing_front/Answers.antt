@@ -7,8 +7,8 @@ use Rattle.civl_meaning.specs.Failing.{IsMove}
 use Rattle.civl_reduction.specs.interleavings.Runs.{Opens}
 use Rattle.civl_reduction.specs.gathering.Gathered.{FailsBehind}
 use Rattle.civl_reduction.proofs.interleavings.Staging.{opens_more}
-use Rattle.civl_blocked.specs.Segments.{over}
-use Rattle.civl_blocked.specs.Shortened.{IsFront}
+use Rattle.civl_blocked.specs.inner.Segments.{over}
+use Rattle.civl_blocked.specs.inner.Shortened.{IsFront}
 use Rattle.civl_blocked.proofs.Picking.{if_some, own_left, all_item}
 use Rattle.civl_blocked.proofs.Placing.{inside_is}
 use Rattle.civl_blocked.proofs.Fewer.{failing_from, not_failing, front_so, behind_on}

@@ -3,7 +3,7 @@ use Rattle.civl_reduction.specs.interleavings.Runs.{Opens}
 use Rattle.civl_meaning.specs.Failing.{IsMove}
 use Rattle.civl_reduction.specs.gathering.Gathered.{own, FailsAlong, FailsBehind}
 use Rattle.civl_reduction.specs.gathered.Laws.{by_thread}
-use Rattle.civl_blocked.specs.Segments.{over}
+use Rattle.civl_blocked.specs.inner.Segments.{over}
 use Rattle.civl_blocked.proofs.shortening.failing_front.Given as goal
 
 abbrev pub invariant-loop-chosen : goal.invariant-loop-chosen

@@ -1,7 +1,7 @@
 use Rattle.std.proofs.Common.{◌<◌, ◌≡◌, ◌∙◌, ◌∷◌, [], ◌++◌, ◌+◌, true, take, drop, length, arith, sym, ap, subst}
 use Rattle.civl_meaning.specs.declared.config.Move.{Move}
 use Rattle.civl_reduction.specs.gathering.Gathered.{AllPass, FailsSooner}
-use Rattle.civl_blocked.specs.Segments.{over, IsShortened}
+use Rattle.civl_blocked.specs.inner.Segments.{over, IsShortened}
 use Rattle.civl_blocked.proofs.Strides.{same_end, pass_more}
 use Rattle.civl_blocked.proofs.Picking.{if_some, take_is}
 use Rattle.civl_blocked.proofs.Walks.{if_none}

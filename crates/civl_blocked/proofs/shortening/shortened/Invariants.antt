@@ -1,6 +1,6 @@
 use Rattle.std.proofs.Common.{◌≡◌, take, drop}
 use Rattle.civl_reduction.specs.gathering.Gathered.{AllPass, FailsSooner}
-use Rattle.civl_blocked.specs.Segments.{over}
+use Rattle.civl_blocked.specs.inner.Segments.{over}
 use Rattle.civl_blocked.proofs.shortening.shortened.Given as goal
 
 abbrev pub invariant-loop-at : goal.invariant-loop-at

@@ -5,12 +5,12 @@ use Rattle.std.proofs.lemmas.List.Elements.{All-nil, All-append}
 use Rattle.civl_meaning.specs.declared.config.Move.{Move}
 use Rattle.civl_meaning.specs.declared.config.Config.{Config}
 use Rattle.civl_meaning.specs.Failing.{IsMove}
-use Rattle.civl_reduction.specs.interleavings.Runs.{RunsTo, Staged}
+use Rattle.civl_reduction.specs.interleavings.Runs.{SystemRuns, Staged}
 use Rattle.civl_reduction.proofs.interleavings.Staging.{staged_runs}
 use Rattle.civl_reduction.specs.gathering.Gathered.{others, IsGathered, FailsSooner}
 use Rattle.civl_reduction.specs.gathered.Laws.{by_thread}
-use Rattle.civl_blocked.specs.Segments.{over, program_of, FailsTo}
-use Rattle.civl_blocked.specs.Completed.{IsCompleted}
+use Rattle.civl_blocked.specs.inner.Segments.{over, program_of, FailsTo}
+use Rattle.civl_blocked.specs.inner.Completed.{IsCompleted}
 use Rattle.civl_blocked.proofs.Strides.{runs_join}
 use Rattle.civl_blocked.proofs.Picking.{if_some}
 use Rattle.civl_blocked.proofs.Joinings.{blocks_run}
@@ -117,7 +117,7 @@ returns-in-Spent c bound before room =
     record {
       end = c.args.end;
       are_moves = subst (All IsMove) (sym all) (All-append IsMove t.done.items ms f.standing.done_moves f.are_moves);
-      runs = plain_runs g (t.done.items ++ c.in-Spent.moves.items) (over g).start c.args.end (subst (λ l. RunsTo (over g).steps l (over g).start c.args.end) (sym all) runs);
+      runs = plain_runs g (t.done.items ++ c.in-Spent.moves.items) (over g).start c.args.end (subst (λ l. SystemRuns (over g).steps l (over g).start c.args.end) (sym all) runs);
       fails = plain_fails g c.args.end f.fails;
       late = c.late_threads_step.ensures.stay (program_of g) g.layer g.store.now t.beside.config c.args.end u ms c.requires.ground.checked there f.are_moves (f.standing.late u f.open_is) f.pass;
       steps = w.steps;

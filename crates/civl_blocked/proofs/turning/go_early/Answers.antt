@@ -6,9 +6,9 @@ use Rattle.civl_tree.proofs.Lists.{all_left}
 use Rattle.civl_meaning.specs.Failing.{IsMove}
 use Rattle.civl_reduction.specs.interleavings.Runs.{Staged}
 use Rattle.civl_reduction.proofs.interleavings.Staging.{staged_runs}
-use Rattle.civl_blocked.specs.Segments.{over, place_on, program_of}
-use Rattle.civl_blocked.specs.Turning.{ended, left_of}
-use Rattle.civl_blocked.specs.Walked.{IsToTurn}
+use Rattle.civl_blocked.specs.inner.Segments.{over, place_on, program_of}
+use Rattle.civl_blocked.specs.inner.Turning.{ended, left_of}
+use Rattle.civl_blocked.specs.inner.Walked.{IsToTurn}
 use Rattle.civl_blocked.proofs.Fewer.{failing_from, all_right}
 use Rattle.civl_blocked.proofs.Rooms.{standing_reached, plain_fails, late_or_between}
 use Rattle.civl_blocked.proofs.turning.go_early.Goals as goal

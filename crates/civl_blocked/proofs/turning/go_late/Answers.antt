@@ -4,8 +4,8 @@ use Rattle.std.proofs.lemmas.Option.{same_Some}
 use Rattle.std.proofs.lemmas.List.Elements.{All-head, All-tail}
 use Rattle.civl_tree.proofs.Lists.{all_left}
 use Rattle.civl_meaning.specs.Failing.{IsMove}
-use Rattle.civl_blocked.specs.Segments.{program_of}
-use Rattle.civl_blocked.specs.Walked.{IsToEnd}
+use Rattle.civl_blocked.specs.inner.Segments.{program_of}
+use Rattle.civl_blocked.specs.inner.Walked.{IsToEnd}
 use Rattle.civl_blocked.proofs.Fewer.{all_right}
 use Rattle.civl_blocked.proofs.Rooms.{ok_map, standing_reached, stands_between, counted_end, counted_whole, room_from}
 use Rattle.civl_blocked.proofs.turning.go_late.Goals as goal

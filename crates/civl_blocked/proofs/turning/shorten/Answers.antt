@@ -1,5 +1,5 @@
 use Rattle.std.proofs.Common.{◌∙◌, sym, subst}
-use Rattle.civl_blocked.specs.Segments.{over, IsShortened}
+use Rattle.civl_blocked.specs.inner.Segments.{over, IsShortened}
 use Rattle.civl_blocked.proofs.Goings.{shorter_goes, shorter_bounded}
 use Rattle.civl_blocked.proofs.turning.shorten.Goals as goal
 

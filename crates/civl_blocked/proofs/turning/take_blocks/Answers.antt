@@ -1,7 +1,7 @@
 use Rattle.std.proofs.Common.{ℕ, ◌≡◌, ◌+◌, ◌∙◌, ◌++◌, take, drop, arith, sym, ap, subst, take-append-drop}
 use Rattle.std.specs.Prelude.{All}
 use Rattle.civl_meaning.specs.Failing.{IsMove}
-use Rattle.civl_blocked.specs.Arranged.{IsLonger, count_of}
+use Rattle.civl_blocked.specs.inner.Arranged.{IsLonger, count_of}
 use Rattle.civl_blocked.proofs.Fewer.{all_right}
 use Rattle.civl_blocked.proofs.Wholes.{wholes_next, part_length}
 use Rattle.civl_blocked.proofs.turning.take_blocks.Goals as goal

@@ -1,7 +1,7 @@
 use Rattle.std.proofs.Common.{◌∙◌, sym, inl, inr}
 use Rattle.std.proofs.lemmas.Bool.{false_from_ne_true}
 use Rattle.civl_reduction.specs.blocks.Shadow.{shadowed}
-use Rattle.civl_blocked.specs.Segments.{program_of}
+use Rattle.civl_blocked.specs.inner.Segments.{program_of}
 use Rattle.civl_blocked.proofs.Joinings.{last_runs, taken, same_place, between_late, late_goes, late_bounded, between_goes, between_bounded, between_done}
 use Rattle.civl_blocked.proofs.turning.take_in.Goals as goal
 

@@ -1,7 +1,7 @@
 use Rattle.std.proofs.Common.{◌∙◌, ◌+◌, ◌≤◌, ℕ, length, arith, sym, subst}
 use Rattle.civl_blocked.specs.Blocked.{IsTurned, IsUnended}
-use Rattle.civl_blocked.specs.Segments.{program_of}
-use Rattle.civl_blocked.specs.Turning.{IsNext, measure, ended, left_of}
+use Rattle.civl_blocked.specs.inner.Segments.{program_of}
+use Rattle.civl_blocked.specs.inner.Turning.{IsNext, measure, ended, left_of}
 use Rattle.civl_blocked.proofs.turning.turn.Goals as goal
 
 pub loop-turning-smaller : goal.loop-turning-smaller

@@ -1,5 +1,5 @@
 use Rattle.std.proofs.Common.{ℕ}
-use Rattle.civl_blocked.specs.Turning.{IsGoing, IsTurning, measure}
+use Rattle.civl_blocked.specs.inner.Turning.{IsGoing, IsTurning, measure}
 use Rattle.civl_blocked.proofs.turning.turn.Given as goal
 
 abbrev pub invariant-loop-turning : goal.invariant-loop-turning

@@ -1,6 +1,6 @@
 use Rattle.std.proofs.Common.{◌∙◌, ◌++◌, sym, ap, subst}
 use Rattle.civl_reduction.specs.gathering.Gathered.{AllPass}
-use Rattle.civl_blocked.specs.Segments.{over, FailsTo}
+use Rattle.civl_blocked.specs.inner.Segments.{over, FailsTo}
 use Rattle.civl_blocked.proofs.Strides.{pass_more, rest_fails}
 use Rattle.civl_blocked.proofs.Walks.{split_more, rotated}
 use Rattle.civl_blocked.proofs.Placing.{inside_as}

@@ -1,6 +1,6 @@
 use Rattle.std.proofs.Common.{◌≡◌, ◌++◌, length}
 use Rattle.civl_reduction.specs.gathering.Gathered.{AllPass}
-use Rattle.civl_blocked.specs.Segments.{over, FailsTo}
+use Rattle.civl_blocked.specs.inner.Segments.{over, FailsTo}
 use Rattle.civl_blocked.proofs.walking.to_end.Given as goal
 
 abbrev pub invariant-loop-chosen : goal.invariant-loop-chosen

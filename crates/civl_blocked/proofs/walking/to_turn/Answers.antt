@@ -1,6 +1,6 @@
 use Rattle.std.proofs.Common.{◌∙◌, ◌++◌, sym, ap, subst}
 use Rattle.civl_reduction.specs.gathering.Gathered.{AreEarly}
-use Rattle.civl_blocked.specs.Segments.{over, place_on, FailsTo}
+use Rattle.civl_blocked.specs.inner.Segments.{over, place_on, FailsTo}
 use Rattle.civl_blocked.proofs.Strides.{early_more, rest_fails}
 use Rattle.civl_blocked.proofs.Walks.{split_more, rotated}
 use Rattle.civl_blocked.proofs.walking.to_turn.Goals as goal

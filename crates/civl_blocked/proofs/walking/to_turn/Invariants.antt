@@ -1,6 +1,6 @@
 use Rattle.std.proofs.Common.{◌≡◌, ◌++◌, length}
 use Rattle.civl_reduction.specs.gathering.Gathered.{AreEarly}
-use Rattle.civl_blocked.specs.Segments.{over, place_on, FailsTo}
+use Rattle.civl_blocked.specs.inner.Segments.{over, place_on, FailsTo}
 use Rattle.civl_blocked.proofs.walking.to_turn.Given as goal
 
 abbrev pub invariant-loop-chosen : goal.invariant-loop-chosen

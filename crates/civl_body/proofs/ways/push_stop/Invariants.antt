@@ -1,5 +1,5 @@
 use Rattle.std.specs.Prelude.{◌≡◌, drop}
-use Rattle.civl_body.specs.Ways.{ways_before}
+use Rattle.civl_body.specs.inner.Ways.{ways_before}
 use Rattle.civl_body.proofs.ways.push_stop.Given as goal
 
 abbrev pub invariant-loop-stop : goal.invariant-loop-stop

@@ -7,7 +7,7 @@ use Rattle.civl_layers.specs.declared.cut.Cut.{Cut}
 use Rattle.civl_layers.specs.Cuts.{proc_cuts}
 use Rattle.civl_body.specs.declared.way.Way.{Way}
 use Rattle.civl_body.specs.Walks.{CanTake}
-use Rattle.civl_body.specs.Ways.{ways_from}
+use Rattle.civl_body.specs.inner.Ways.{ways_from}
 use Rattle.civl_body.proofs.Few.{few_cuts}
 use Rattle.civl_body.proofs.Drawn.{ends_are, ways_can, is_walk}
 use Rattle.civl_body.proofs.Sweeping.{begins_ready, ends_can, stops_are, onward_is, drawn}

@@ -1,5 +1,5 @@
 use Rattle.std.specs.Prelude.{◌≡◌, ◌++◌, drop}
-use Rattle.civl_body.specs.Ways.{ways_from}
+use Rattle.civl_body.specs.inner.Ways.{ways_from}
 use Rattle.civl_body.proofs.ways.ways_of.Given as goal
 
 abbrev pub invariant-loop-at : goal.invariant-loop-at

@@ -1,5 +1,5 @@
 use Rattle.std.proofs.Common.{◌≡◌, ◌∙◌, sym, subst, length, List, ℕ}
-use Rattle.civl_cdcl.specs.Analysis.{Sees}
+use Rattle.civl_cdcl.specs.inner.Analysis.{Sees}
 use Rattle.civl_cdcl.proofs.Analysing.{clause_within, analyses_first}
 use Rattle.civl_cdcl.proofs.analysis.analyse.Goals as goal
 

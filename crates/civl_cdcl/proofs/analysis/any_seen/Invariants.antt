@@ -1,5 +1,5 @@
 use Rattle.std.proofs.Common.{◌≤◌, ◌-◌}
-use Rattle.civl_cdcl.specs.Analysis.{IsUnseen}
+use Rattle.civl_cdcl.specs.inner.Analysis.{IsUnseen}
 use Rattle.civl_cdcl.proofs.analysis.any_seen.Given as goal
 
 abbrev pub invariant-loop-at : goal.invariant-loop-at

@@ -1,4 +1,4 @@
-use Rattle.civl_cdcl.specs.Analysis.{AreFound}
+use Rattle.civl_cdcl.specs.inner.Analysis.{AreFound}
 use Rattle.civl_cdcl.proofs.Analysing.{SeesSome}
 use Rattle.civl_cdcl.proofs.analysis.see.Given as goal
 

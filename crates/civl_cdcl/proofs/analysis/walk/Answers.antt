@@ -2,7 +2,7 @@ use Rattle.std.proofs.Common.{arith, ◌-◌, sym, ◌∙◌, subst, length, ◌
 use Rattle.std.specs.Prelude.{All, IsTrue}
 use Rattle.civl_propagation.specs.Trail.{ReasonSays, before}
 use Rattle.civl_propagation.specs.declared.trail.Step.{Step}
-use Rattle.civl_cdcl.specs.Analysis.{IsUnseen, Sees, sees}
+use Rattle.civl_cdcl.specs.inner.Analysis.{IsUnseen, Sees, sees}
 use Rattle.civl_cdcl.proofs.Analysing.{at_walk, step_at, reason_at, steps_within, clause_within, analyses_skip, analyses_resolve, one_left, decided_last}
 use Rattle.civl_cdcl.proofs.analysis.walk.Goals as goal
 

@@ -1,5 +1,5 @@
 use Rattle.std.proofs.Common.{◌≤◌, length}
-use Rattle.civl_cdcl.specs.Analysis.{AreFound, Analyses}
+use Rattle.civl_cdcl.specs.inner.Analysis.{AreFound, Analyses}
 use Rattle.civl_cdcl.proofs.analysis.walk.Given as goal
 
 abbrev pub invariant-loop-seen : goal.invariant-loop-seen

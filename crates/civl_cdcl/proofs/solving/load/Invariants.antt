@@ -1,5 +1,5 @@
 use Rattle.std.proofs.Common.{take}
-use Rattle.civl_rup.specs.Standing.{IsAtRoot}
+use Rattle.civl_rup.specs.inner.Standing.{IsAtRoot}
 use Rattle.civl_cdcl.proofs.solving.load.Given as goal
 
 abbrev pub invariant-loop-at : goal.invariant-loop-at

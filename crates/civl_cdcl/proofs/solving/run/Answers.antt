@@ -1,6 +1,6 @@
 use Rattle.std.proofs.Common.{◌∙◌, subst}
-use Rattle.civl_rup.specs.Standing.{Stands}
-use Rattle.civl_cdcl.specs.Notes.{IsClear}
+use Rattle.civl_rup.specs.inner.Standing.{Stands}
+use Rattle.civl_cdcl.specs.inner.Notes.{IsClear}
 use Rattle.civl_cdcl.proofs.Outcomes.{refutes_at_once}
 use Rattle.civl_cdcl.proofs.solving.run.Goals as goal
 

@@ -6,7 +6,7 @@ use Rattle.civl_cnf.specs.Literal.{Literal}
 use Rattle.civl_cnf.specs.ClauseSet.{IsBelow}
 use Rattle.civl_propagation.specs.Trail.{TrailState}
 use Rattle.civl_propagation.specs.Engine.{IsQuietBelow}
-use Rattle.civl_cdcl.specs.Notes.{IsClear}
+use Rattle.civl_cdcl.specs.inner.Notes.{IsClear}
 use Rattle.civl_cdcl.specs.Turn.{AreBits}
 use Rattle.civl_cdcl.specs.declared.turn.Turn.TheVariants.{Marked, Refuted, Full, Learns}
 use Rattle.civl_cdcl.proofs.Turning.{turned_as}

@@ -1,7 +1,7 @@
 use Rattle.std.proofs.Common.{◌≡◌, ◌≤◌, ◌-◌, ◌++◌, length}
 use Rattle.civl_cnf.specs.ClauseSet.{AreBelow}
 use Rattle.civl_propagation.specs.Engine.{EndsBy}
-use Rattle.civl_cdcl.specs.Notes.{IsClear}
+use Rattle.civl_cdcl.specs.inner.Notes.{IsClear}
 use Rattle.civl_cdcl.specs.Outcome.{HaveLearned}
 use Rattle.civl_cdcl.proofs.solving.search.Given as goal
 

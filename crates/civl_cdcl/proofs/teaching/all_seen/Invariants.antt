@@ -1,7 +1,7 @@
 use Rattle.std.proofs.Common.{◌⊎◌, ◌≡◌, ◌<◌, ℕ, slice_index_or}
 use Rattle.std.specs.Prelude.{IsTrue}
 use Rattle.civl_cnf.specs.Literal.{Literal}
-use Rattle.civl_cdcl.specs.Analysis.{sees}
+use Rattle.civl_cdcl.specs.inner.Analysis.{sees}
 use Rattle.civl_cdcl.proofs.teaching.all_seen.Given as goal
 
 abbrev pub invariant-loop-lit : goal.invariant-loop-lit

@@ -1,6 +1,6 @@
 use Rattle.std.proofs.Common.{◌≡◌, ◌<◌, ◌∙◌, ap, get_or, sym, subst, length, arith, List, ℕ}
 use Rattle.civl_propagation.specs.Trail.{ReasonSays, before}
-use Rattle.civl_cdcl.specs.Analysis.{AreSeen}
+use Rattle.civl_cdcl.specs.inner.Analysis.{AreSeen}
 use Rattle.civl_cdcl.proofs.Analysing.{clause_within, reason_at}
 use Rattle.civl_cdcl.proofs.Lessons.{follows_by}
 use Rattle.civl_cdcl.proofs.teaching.is_redundant.Goals as goal

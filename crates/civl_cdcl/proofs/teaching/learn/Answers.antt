@@ -1,6 +1,6 @@
 use Rattle.std.proofs.Common.{◌<◌, ◌∙◌, sym, subst, length, List, ℕ}
-use Rattle.civl_cdcl.specs.Levels.{FirstSays}
-use Rattle.civl_cdcl.specs.Analysis.{AreFound}
+use Rattle.civl_cdcl.specs.inner.Levels.{FirstSays}
+use Rattle.civl_cdcl.specs.inner.Analysis.{AreFound}
 use Rattle.civl_cdcl.proofs.Lessons.{found_none}
 use Rattle.civl_cdcl.proofs.teaching.learn.Goals as goal
 

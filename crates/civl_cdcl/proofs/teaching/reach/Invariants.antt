@@ -1,4 +1,4 @@
-use Rattle.civl_cdcl.specs.Analysis.{ReachSays}
+use Rattle.civl_cdcl.specs.inner.Analysis.{ReachSays}
 use Rattle.civl_cdcl.proofs.teaching.reach.Given as goal
 
 abbrev pub invariant-loop-lit : goal.invariant-loop-lit

@@ -1,8 +1,8 @@
 use Rattle.std.proofs.Common.{◌∙◌, ◌-◌, ◌≤◌, sym, subst, length, get_or, ◌<◌, List, ℕ}
 use Rattle.std.specs.Prelude.{All}
 use Rattle.civl_cnf.specs.Literal.{Literal}
-use Rattle.civl_cdcl.specs.Levels.{AreBefore}
-use Rattle.civl_cdcl.specs.Analysis.{ReachSays, LearnSays}
+use Rattle.civl_cdcl.specs.inner.Levels.{AreBefore}
+use Rattle.civl_cdcl.specs.inner.Analysis.{ReachSays, LearnSays}
 use Rattle.civl_cdcl.proofs.Placing.{teaches_permuted}
 use Rattle.civl_cdcl.proofs.Lessons.{learned_by, clause_placed, reach_low}
 use Rattle.civl_cdcl.proofs.teaching.teach.Goals as goal

@@ -6,8 +6,8 @@ use Rattle.civl_units.specs.Propagation.{IsFalsified}
 use Rattle.civl_units.specs.Marks.{marked, IsQuiet}
 use Rattle.civl_propagation.specs.Trail.{TrailState, IsAt, IsTrailOver}
 use Rattle.civl_rup.specs.Rup.{HasRup}
-use Rattle.civl_cdcl.specs.Levels.{LastSays}
-use Rattle.civl_cdcl.specs.Propagation.{DescentSays}
+use Rattle.civl_cdcl.specs.inner.Levels.{LastSays}
+use Rattle.civl_cdcl.specs.inner.Propagation.{DescentSays}
 use Rattle.civl_cdcl.proofs.Turning.{refuted_by, full_as, learned_as, learned_by_cut}
 use Rattle.civl_cdcl.proofs.turn.take_turn.Goals as goal
 

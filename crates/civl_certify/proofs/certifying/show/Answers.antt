@@ -2,7 +2,7 @@ use Rattle.std.proofs.Common.{refl, subst}
 use Rattle.civl_verdicts.specs.Formulas.{violation_formula}
 use Rattle.civl_verdicts.proofs.judging.Making.{made_term, few_of_violation}
 use Rattle.civl_verdicts.proofs.judging.Verdicts.{violates}
-use Rattle.civl_certify.specs.Examined.{IsEvidence}
+use Rattle.civl_certify.specs.inner.Examined.{IsEvidence}
 use Rattle.civl_certify.proofs.certifying.show.Goals as goal
 
 pub examine-requires-clause-few : goal.examine-requires-clause-few

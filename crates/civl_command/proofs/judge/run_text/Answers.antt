@@ -3,7 +3,7 @@ use Rattle.civl_frontend.specs.Texts.{IsScriptReading}
 use Rattle.civl_frontend.proofs.Telling.{found_in}
 use Rattle.civl_frontend.proofs.Lawful.{script_numbered, script_few}
 use Rattle.civl_command.specs.Outcome.{Runs, telling}
-use Rattle.civl_command.specs.Replay.{plain_for}
+use Rattle.civl_command.specs.inner.Replay.{plain_for}
 use Rattle.civl_command.proofs.judge.run_text.Goals as goal
 
 pub judge_script-requires-clause-numbered : goal.judge_script-requires-clause-numbered

@@ -1,6 +1,6 @@
 use Rattle.std.proofs.Common.{◌∙◌, subst}
 use Rattle.civl_tree.specs.declared.program.Program.{Program}
-use Rattle.civl_command.specs.Replay.{plain_for}
+use Rattle.civl_command.specs.inner.Replay.{plain_for}
 use Rattle.civl_command.specs.Outcome.{Runs}
 use Rattle.civl_command.specs.Judge.{IsJudged}
 use Rattle.civl_command.proofs.replay.judge_script.Goals as goal

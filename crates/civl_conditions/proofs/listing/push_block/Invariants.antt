@@ -1,5 +1,5 @@
 use Rattle.std.proofs.Common.{◌≡◌, ◌++◌, drop}
-use Rattle.civl_conditions.specs.Placed.{blocks_from}
+use Rattle.civl_conditions.specs.inner.Placed.{blocks_from}
 use Rattle.civl_conditions.proofs.listing.push_block.Given as goal
 
 abbrev pub invariant-loop-target : goal.invariant-loop-target

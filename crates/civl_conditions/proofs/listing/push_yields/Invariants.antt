@@ -1,5 +1,5 @@
 use Rattle.std.proofs.Common.{◌≡◌, ◌++◌, drop, flat_map}
-use Rattle.civl_conditions.specs.Placed.{yield_at}
+use Rattle.civl_conditions.specs.inner.Placed.{yield_at}
 use Rattle.civl_conditions.proofs.listing.push_yields.Given as goal
 
 abbrev pub invariant-loop-place : goal.invariant-loop-place

@@ -1,6 +1,6 @@
 use Rattle.std.proofs.Common.{◌≡◌, ◌++◌, [], ◌∷◌, drop}
 use Rattle.civl_conditions.specs.Steps.{each_at}
-use Rattle.civl_conditions.specs.Placed.{place_of}
+use Rattle.civl_conditions.specs.inner.Placed.{place_of}
 use Rattle.civl_conditions.proofs.places.push_cuts.Given as goal
 
 abbrev pub invariant-loop-at : goal.invariant-loop-at

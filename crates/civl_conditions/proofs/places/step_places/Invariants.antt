@@ -2,7 +2,7 @@ use Rattle.std.proofs.Common.{◌≡◌, ◌++◌, [], ◌∷◌, drop}
 use Rattle.std.specs.Prelude.{if◌then◌else◌}
 use Rattle.civl_layers.specs.Cuts.{proc_cuts}
 use Rattle.civl_conditions.specs.Steps.{each_at, has_layer}
-use Rattle.civl_conditions.specs.Placed.{place_of, step_places}
+use Rattle.civl_conditions.specs.inner.Placed.{place_of, step_places}
 use Rattle.civl_conditions.proofs.places.step_places.Given as goal
 
 abbrev pub invariant-loop-number : goal.invariant-loop-number

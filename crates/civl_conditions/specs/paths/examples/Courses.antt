@@ -1,4 +1,4 @@
--- A program for paths, with this body:
+-- A program for paths, with this body. It keeps not all rules: `Took` gives its output no value (E23).
 --
 --   civl 1; layers 1; permissions 1;
 --   global x : word(8) layers 0 to 1;

@@ -114,6 +114,7 @@ abbrev pub FromInside : Type 0
 FromInside = path_from (course waits) (cut 3 Yield) (before (0, 0) (5, 0, 1)) ≡ Comes 0 (before (0, 0) (5, 0, 1))
 
 -- 0 while rank (v != 0:8) by v inv true { 1 v := (v - 1:8); 2 while yield false inv true { } }
+-- (E51 refuses a loop in a rank loop; paths are defined all the same)
 abbrev ranked : List Stmt
 ranked = stmt.RankLoop (expr.Two Ne v (lit 0 8)) v expr.True (set_v (expr.Two Sub v (lit 1 8)) ∷ stmt.YieldLoop expr.False expr.True [] ∷ []) ∷ []
 

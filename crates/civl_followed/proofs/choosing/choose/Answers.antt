@@ -1,7 +1,7 @@
 use Rattle.std.proofs.Common.{◌∙◌, List, sym, ap, subst, arith, inl, inr}
 use Rattle.civl_bits.specs.declared.value.Value.{Value}
 use Rattle.civl_reduction.specs.simulation.Refined.{with_values}
-use Rattle.civl_followed.specs.Along.{Does}
+use Rattle.civl_followed.specs.inner.Along.{Does}
 use Rattle.civl_followed.proofs.Codes.{next_not}
 use Rattle.civl_followed.proofs.choosing.choose.Goals as goal
 

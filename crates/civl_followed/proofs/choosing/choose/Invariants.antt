@@ -1,6 +1,6 @@
 use Rattle.std.proofs.Common.{ℕ, ◌<◌, List, get_or}
 use Rattle.civl_bits.specs.declared.value.Value.{Value}
-use Rattle.civl_followed.specs.Along.{Does}
+use Rattle.civl_followed.specs.inner.Along.{Does}
 use Rattle.civl_followed.proofs.choosing.choose.Given as goal
 
 abbrev pub invariant-loop-at : goal.invariant-loop-at

@@ -3,7 +3,7 @@ use Rattle.civl_tree.specs.declared.program.Proc.{Proc}
 use Rattle.civl_meaning.specs.declared.config.Activation.{Activation}
 use Rattle.civl_reduction.specs.simulation.Refined.{last_frame}
 use Rattle.civl_shadows.specs.Shadows.{done_in}
-use Rattle.civl_followed.specs.Frames.{IsKept}
+use Rattle.civl_followed.specs.inner.Frames.{IsKept}
 use Rattle.civl_followed.proofs.Closes.{closes_outside, closes_quietly, closes_by}
 use Rattle.civl_followed.proofs.closing.close.Goals as goal
 

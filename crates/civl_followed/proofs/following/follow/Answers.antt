@@ -2,7 +2,7 @@ use Rattle.std.proofs.Common.{List, ap, subst}
 use Rattle.civl_tree.specs.declared.program.Program.{Program}
 use Rattle.civl_meaning.specs.declared.config.Move.{Move}
 use Rattle.civl_meaning.specs.declared.config.Plain.{Plain}
-use Rattle.civl_followed.specs.Along.{Grounds}
+use Rattle.civl_followed.specs.inner.Along.{Grounds}
 use Rattle.civl_followed.specs.Followed.{FailsInBlocks, FollowsBlocks}
 use Rattle.civl_followed.proofs.following.follow.Goals as goal
 

@@ -1,6 +1,6 @@
 use Rattle.std.proofs.Common.{◌∙◌, drop, sym, subst, arith}
 use Rattle.std.proofs.lemmas.List.{drop_all}
-use Rattle.civl_followed.specs.Along.{AlongAt}
+use Rattle.civl_followed.specs.inner.Along.{AlongAt}
 use Rattle.civl_followed.proofs.Walking.{challenged_along, ends_along}
 use Rattle.civl_followed.proofs.following.follow_all.Goals as goal
 

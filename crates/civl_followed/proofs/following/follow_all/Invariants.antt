@@ -1,6 +1,6 @@
 use Rattle.std.proofs.Common.{◌≡◌, ◌-◌, ◌≤◌, length, drop}
 use Rattle.civl_firing.specs.declared.store.Store.{Store}
-use Rattle.civl_followed.specs.Along.{Grounds, AlongAt}
+use Rattle.civl_followed.specs.inner.Along.{Grounds, AlongAt}
 use Rattle.civl_followed.proofs.following.follow_all.Given as goal
 
 abbrev pub invariant-loop-at : goal.invariant-loop-at

@@ -2,7 +2,7 @@ use Rattle.std.proofs.Common.{◌∙◌, ◌+◌, List, drop, sym, ap, subst, ar
 use Rattle.civl_meaning.specs.declared.config.Move.{Move}
 use Rattle.civl_meaning.specs.declared.config.Running.{Running}
 use Rattle.civl_reduction.specs.blocks.Cuts.{frame_at}
-use Rattle.civl_followed.specs.Frames.{IsKept}
+use Rattle.civl_followed.specs.inner.Frames.{IsKept}
 use Rattle.civl_followed.proofs.Rounds.{ready_so, none_waits, shows_so}
 use Rattle.civl_followed.proofs.Stepping.{goes_on}
 use Rattle.civl_followed.proofs.following.follow_block.Goals as goal

@@ -1,5 +1,5 @@
 use Rattle.std.proofs.Common.{◌≡◌, length}
-use Rattle.civl_followed.specs.Along.{Waits}
+use Rattle.civl_followed.specs.inner.Along.{Waits}
 use Rattle.civl_followed.proofs.following.follow_block.Given as goal
 
 abbrev pub invariant-loop-at : goal.invariant-loop-at

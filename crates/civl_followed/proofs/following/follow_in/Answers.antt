@@ -4,7 +4,7 @@ use Rattle.civl_meaning.specs.declared.config.Move.{Move}
 use Rattle.civl_meaning.specs.declared.config.Plain.{Plain}
 use Rattle.civl_meaning.specs.Layers.{program_at}
 use Rattle.civl_meaning.specs.Step.{start}
-use Rattle.civl_followed.specs.Along.{AlongAt}
+use Rattle.civl_followed.specs.inner.Along.{AlongAt}
 use Rattle.civl_followed.specs.Followed.{FollowsBlocks}
 use Rattle.civl_followed.proofs.Walking.{begins_along}
 use Rattle.civl_followed.proofs.following.follow_in.Goals as goal

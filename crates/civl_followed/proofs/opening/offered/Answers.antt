@@ -5,7 +5,7 @@ use Rattle.civl_shadows.specs.declared.frames.Framed.{Framed}
 use Rattle.civl_meaning.specs.declared.remaining.Numbered.{Numbered}
 use Rattle.civl_shadows.specs.Frames.{framed_of}
 use Rattle.civl_meaning.specs.Remaining.{rest_of}
-use Rattle.civl_followed.specs.Along.{IsOffered}
+use Rattle.civl_followed.specs.inner.Along.{IsOffered}
 use Rattle.civl_followed.proofs.Codes.{offered_so}
 use Rattle.civl_followed.proofs.opening.offered.Goals as goal
 

@@ -6,7 +6,7 @@ use Rattle.civl_terms.proofs.Growing.{grows_trans}
 use Rattle.civl_conditions.specs.Permissions.{in_store, of_held}
 use Rattle.civl_states.proofs.formula_parts.Saying.{sort_stays, test_stays, test_as}
 use Rattle.civl_goals.specs.Outlines.{invariant_holds, note_holds}
-use Rattle.civl_goal_terms.specs.Settings.{frame_at}
+use Rattle.civl_goal_terms.specs.inner.Settings.{frame_at}
 use Rattle.civl_goal_terms.proofs.Assuming.{can_stay, says_stays, owned_is, assumed_is}
 use Rattle.civl_goal_terms.proofs.assumed.assumed_at.Goals as goal
 

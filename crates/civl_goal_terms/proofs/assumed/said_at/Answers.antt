@@ -4,7 +4,7 @@ use Rattle.civl_terms.proofs.Growing.{grows_trans}
 use Rattle.civl_states.proofs.formula_parts.Saying.{sort_stays, test_stays}
 use Rattle.civl_states.proofs.formula_parts.Listing.{sorts_stay, said_stay}
 use Rattle.civl_goals.specs.Outlines.{invariant_holds, note_holds}
-use Rattle.civl_goal_terms.specs.Settings.{frame_at}
+use Rattle.civl_goal_terms.specs.inner.Settings.{frame_at}
 use Rattle.civl_goal_terms.proofs.assumed.said_at.Goals as goal
 
 pub holds_at-requires-clause-globals : goal.holds_at-requires-clause-globals

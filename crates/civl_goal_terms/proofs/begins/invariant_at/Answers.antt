@@ -2,7 +2,7 @@ use Rattle.std.proofs.Common.{arith}
 use Rattle.civl_tree.specs.declared.expr.Sort.TheVariants.{Bool as Truth}
 use Rattle.civl_tree.specs.rules.Scopes.{global_scope}
 use Rattle.civl_terms.proofs.Growing.{grows_trans}
-use Rattle.civl_conditions.specs.Invariants.{is_initial}
+use Rattle.civl_conditions.specs.Invariants.{meets_init}
 use Rattle.civl_states.proofs.formula_parts.Saying.{sort_stays, test_stays}
 use Rattle.civl_states.proofs.formula_parts.Listing.{sorts_stay, said_stay}
 use Rattle.civl_states.proofs.Weighing.{weighs_some}
@@ -19,8 +19,8 @@ pub returns-clause-tells : goal.returns-clause-tells
 returns-clause-tells c = λ g s.
     let p = c.args.program.now in
     let o = c.args.outline.now in
-    c.in_ok-id.ensures.test (λ env. is_initial p (g env)) (λ env. invariant_holds p o (g env))
-    (test_stays _ _ _ (λ env. is_initial p (g env)) c.in_ok-holds.ensures.grows (c.in_ok-initial.ensures.tells g s))
+    c.in_ok-id.ensures.test (λ env. meets_init p (g env)) (λ env. invariant_holds p o (g env))
+    (test_stays _ _ _ (λ env. meets_init p (g env)) c.in_ok-holds.ensures.grows (c.in_ok-initial.ensures.tells g s))
     (c.in_ok-holds.ensures.tells g (said_stay _ _ _ _ _ c.in_ok-initial.ensures.grows s))
 
 pub returns-clause-weighs : goal.returns-clause-weighs

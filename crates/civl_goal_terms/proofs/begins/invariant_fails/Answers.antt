@@ -3,7 +3,7 @@ use Rattle.std.proofs.Common.{◌∙◌, sym, ap, subst, arith}
 use Rattle.civl_tree.specs.declared.expr.Sort.{Sort}
 use Rattle.civl_firing.specs.declared.store.Store.{Store}
 use Rattle.civl_terms.proofs.Growing.{lengthens_trans, lengthened}
-use Rattle.civl_conditions.specs.Invariants.{is_initial}
+use Rattle.civl_conditions.specs.Invariants.{meets_init}
 use Rattle.civl_states.specs.formula_parts.Given.{given, bits_of_sorts, AreVariablesOf}
 use Rattle.civl_states.proofs.formula_parts.Giving.{variables_kept}
 use Rattle.civl_states.proofs.formula_parts.Saying.{test_as}
@@ -52,7 +52,7 @@ returns-clause-says c =
     (variables_kept n1 n2 sorts c.in_ok-id.ensures.grows (subst (AreVariablesOf n1) c.requires.sorts c.in_ok-globals.ensures.variables))
     (test_as n2 c.in_ok-id.id _ _
     (λ env.
-    ap (λ (g : Store). is_initial p g && not (invariant_holds p o g)) (all_store p env)
+    ap (λ (g : Store). meets_init p g && not (invariant_holds p o g)) (all_store p env)
     ∙ (invariant_is p o (given env 0 (length (global_sorts p))) ∙ ap (λ (ss : List Sort). failed p o named.Invariant (given env 0 (length ss))) (sym same)))
     (c.in_ok-id.ensures.tells _ c.in_ok-globals.ensures.store))
 

@@ -13,7 +13,7 @@ use Rattle.civl_states.proofs.formula_parts.Listing.{sorts_stay, said_stay}
 use Rattle.civl_states.specs.Stores.{AreGlobals, AreStore}
 use Rattle.civl_movers.specs.interfere.Arguments.{arg_sorts}
 use Rattle.civl_movers.proofs.interfere.Arguing.{callable}
-use Rattle.civl_goal_terms.specs.Frames.{named_sorts}
+use Rattle.civl_goal_terms.specs.inner.Frames.{named_sorts}
 use Rattle.civl_goal_terms.proofs.Beginning.{args_named}
 use Rattle.civl_goal_terms.proofs.begins.thread_astray.Goals as goal
 

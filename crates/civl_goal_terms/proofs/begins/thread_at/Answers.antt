@@ -5,7 +5,7 @@ use Rattle.civl_tree.specs.declared.program.Thread.{Thread as Declared}
 use Rattle.civl_tree.specs.rules.Scopes.{global_scope}
 use Rattle.civl_meaning.specs.Meaning.{proc_number}
 use Rattle.civl_terms.proofs.Growing.{grows_trans}
-use Rattle.civl_conditions.specs.Invariants.{is_initial}
+use Rattle.civl_conditions.specs.Invariants.{meets_init}
 use Rattle.civl_states.specs.formula_parts.Said.{IsTest}
 use Rattle.civl_states.proofs.formula_parts.Saying.{sort_stays, test_stays}
 use Rattle.civl_states.proofs.formula_parts.Listing.{sorts_stay, said_stay}
@@ -33,9 +33,9 @@ returns-clause-tells c = λ t e g s.
     let p = c.args.program.now in
     let o = c.args.outline.now in
     let same = same_some _ c.get-thread.result.now t c.get-thread.ensures e in
-    subst (λ (d : Declared). IsTest c.both.new.terms c.in_ok-id.id (λ env. is_initial p (g env) && thread_fails p o (g env) d)) same
-    (c.in_ok-id.ensures.test (λ env. is_initial p (g env)) (λ env. thread_fails p o (g env) c.get-thread.result.now)
-    (test_stays _ _ _ (λ env. is_initial p (g env)) c.in_ok-astray.ensures.grows (c.in_ok-initial.ensures.tells g s))
+    subst (λ (d : Declared). IsTest c.both.new.terms c.in_ok-id.id (λ env. meets_init p (g env) && thread_fails p o (g env) d)) same
+    (c.in_ok-id.ensures.test (λ env. meets_init p (g env)) (λ env. thread_fails p o (g env) c.get-thread.result.now)
+    (test_stays _ _ _ (λ env. meets_init p (g env)) c.in_ok-astray.ensures.grows (c.in_ok-initial.ensures.tells g s))
     (c.in_ok-astray.ensures.tells g (said_stay _ _ _ _ _ c.in_ok-initial.ensures.grows s)))
 
 pub returns-clause-weighs : goal.returns-clause-weighs

@@ -4,7 +4,7 @@ use Rattle.civl_tree.specs.declared.expr.Sort.{Sort}
 use Rattle.civl_tree.proofs.Lists.{get_there}
 use Rattle.civl_firing.specs.declared.store.Store.{Store}
 use Rattle.civl_terms.proofs.Growing.{lengthens_trans, lengthened}
-use Rattle.civl_conditions.specs.Invariants.{is_initial}
+use Rattle.civl_conditions.specs.Invariants.{meets_init}
 use Rattle.civl_states.specs.formula_parts.Given.{given, bits_of_sorts, AreVariablesOf}
 use Rattle.civl_states.proofs.formula_parts.Giving.{variables_kept}
 use Rattle.civl_states.proofs.formula_parts.Saying.{test_as}
@@ -54,7 +54,7 @@ returns-clause-says c =
     (variables_kept n1 n2 sorts c.in_ok-id.ensures.grows (subst (AreVariablesOf n1) c.requires.sorts c.in_ok-globals.ensures.variables))
     (test_as n2 c.in_ok-id.id _ _
     (λ env.
-    ap (λ (g : Store). is_initial p g && thread_fails p o g one.0) (all_store p env)
+    ap (λ (g : Store). meets_init p g && thread_fails p o g one.0) (all_store p env)
     ∙ (thread_is p o i one.0 (given env 0 (length (global_sorts p))) one.1 ∙ ap (λ (ss : List Sort). failed p o (named.Thread i) (given env 0 (length ss))) (sym same)))
     (c.in_ok-id.ensures.tells one.0 one.1 _ c.in_ok-globals.ensures.store))
 

@@ -3,7 +3,7 @@ use Rattle.civl_terms.proofs.Growing.{grows_trans}
 use Rattle.civl_states.proofs.formula_parts.Listing.{sorts_stay, said_stay}
 use Rattle.civl_states.proofs.formula_parts.Saying.{sort_stays, test_as, test_stays}
 use Rattle.civl_goals.specs.Outlines.{note_holds}
-use Rattle.civl_goal_terms.specs.Told.{frame}
+use Rattle.civl_goal_terms.specs.inner.Told.{frame}
 use Rattle.civl_goal_terms.proofs.Branching.{same_place, either_place}
 use Rattle.civl_goal_terms.proofs.failing.either_note.Goals as goal
 

@@ -12,7 +12,7 @@ use Rattle.civl_states.proofs.formula_parts.Saying.{test_as}
 use Rattle.civl_moves.specs.Expressions.{IsBodyTerm}
 use Rattle.civl_goals.specs.Outlines.{note_holds}
 use Rattle.civl_goals.specs.Weights.{note_before_weight, summed_at}
-use Rattle.civl_goal_terms.specs.Told.{frame}
+use Rattle.civl_goal_terms.specs.inner.Told.{frame}
 use Rattle.civl_goal_terms.proofs.Branching.{fork_suits, fork_weighs, fork_tells}
 use Rattle.civl_goal_terms.proofs.Leading.{forks_is}
 use Rattle.civl_goal_terms.proofs.Stepping.{can_stay, says_stay}

@@ -1,6 +1,6 @@
 use Rattle.std.proofs.Common.{◌∙◌, ap, sym, arith}
 use Rattle.civl_goals.specs.Weights.{note_before_weight}
-use Rattle.civl_goal_terms.specs.Places.{told}
+use Rattle.civl_goal_terms.specs.inner.Places.{told}
 use Rattle.civl_goal_terms.proofs.Branching.{reaches_next}
 use Rattle.civl_goal_terms.proofs.failing.leads_at.Goals as goal
 

@@ -3,7 +3,7 @@ use Rattle.civl_tree.specs.declared.expr.Sort.TheVariants.{Bool as Truth}
 use Rattle.civl_terms.proofs.Growing.{grows_trans}
 use Rattle.civl_states.proofs.formula_parts.Saying.{sort_stays, test_as, test_stays}
 use Rattle.civl_goals.specs.Outlines.{invariant_holds}
-use Rattle.civl_goal_terms.specs.Steps.{swept_by}
+use Rattle.civl_goal_terms.specs.inner.Steps.{swept_by}
 use Rattle.civl_goal_terms.proofs.Leading.{loses_is}
 use Rattle.civl_goal_terms.proofs.failing.loses_at.Goals as goal
 

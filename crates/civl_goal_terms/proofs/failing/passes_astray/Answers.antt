@@ -3,8 +3,8 @@ use Rattle.civl_tree.specs.declared.expr.Sort.TheVariants.{Bool as Truth}
 use Rattle.civl_terms.proofs.Growing.{grows_trans}
 use Rattle.civl_states.proofs.formula_parts.Saying.{sort_stays, test_as, test_stays}
 use Rattle.civl_goals.specs.Outlines.{note_holds}
-use Rattle.civl_goal_terms.specs.Told.{frame}
-use Rattle.civl_goal_terms.specs.Steps.{swept_by}
+use Rattle.civl_goal_terms.specs.inner.Told.{frame}
+use Rattle.civl_goal_terms.specs.inner.Steps.{swept_by}
 use Rattle.civl_goal_terms.proofs.Leading.{leads_is}
 use Rattle.civl_goal_terms.proofs.failing.passes_astray.Goals as goal
 

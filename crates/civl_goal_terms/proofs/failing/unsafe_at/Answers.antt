@@ -2,7 +2,7 @@ use Rattle.std.proofs.Common.{◌∙◌, not, arith}
 use Rattle.std.proofs.Math.Bool.{not-not}
 use Rattle.civl_terms.proofs.Growing.{grows_trans}
 use Rattle.civl_states.proofs.formula_parts.Saying.{test_as}
-use Rattle.civl_goal_terms.specs.Steps.{swept_by}
+use Rattle.civl_goal_terms.specs.inner.Steps.{swept_by}
 use Rattle.civl_goal_terms.proofs.Leading.{unsafe_is}
 use Rattle.civl_goal_terms.proofs.failing.unsafe_at.Goals as goal
 

@@ -5,8 +5,8 @@ use Rattle.civl_terms.proofs.Growing.{grows_trans}
 use Rattle.civl_states.proofs.formula_parts.Saying.{sort_stays, test_stays}
 use Rattle.civl_states.proofs.formula_parts.Listing.{sorts_stay, said_stay}
 use Rattle.civl_goals.specs.Outlines.{invariant_holds, note_holds}
-use Rattle.civl_goal_terms.specs.Others.{other_frame}
-use Rattle.civl_goal_terms.specs.Settings.{frame_at}
+use Rattle.civl_goal_terms.specs.inner.Others.{other_frame}
+use Rattle.civl_goal_terms.specs.inner.Settings.{frame_at}
 use Rattle.civl_goal_terms.proofs.others.both_said.Goals as goal
 
 pub note_at-requires-clause-proc : goal.note_at-requires-clause-proc

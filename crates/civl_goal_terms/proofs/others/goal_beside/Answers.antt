@@ -7,8 +7,8 @@ use Rattle.civl_conditions.specs.Permissions.{in_store, of_held}
 use Rattle.civl_states.proofs.formula_parts.Saying.{sort_stays, test_stays, test_as}
 use Rattle.civl_states.proofs.formula_parts.Listing.{sorts_stay, said_stay}
 use Rattle.civl_goals.specs.Outlines.{invariant_holds, note_holds}
-use Rattle.civl_goal_terms.specs.Others.{other_frame, loses_note, violated_beside}
-use Rattle.civl_goal_terms.specs.Settings.{frame_at, done_by}
+use Rattle.civl_goal_terms.specs.inner.Others.{other_frame, loses_note, violated_beside}
+use Rattle.civl_goal_terms.specs.inner.Settings.{frame_at, done_by}
 use Rattle.civl_goal_terms.proofs.Assuming.{can_stay, says_stays, owned_is}
 use Rattle.civl_goal_terms.proofs.OthersBeside.{beside_is}
 use Rattle.civl_goal_terms.proofs.others.goal_beside.Goals as goal

@@ -7,8 +7,8 @@ use Rattle.civl_states.specs.formula_parts.Said.{Env}
 use Rattle.civl_states.proofs.formula_parts.Saying.{sort_stays, test_stays, test_as}
 use Rattle.civl_states.proofs.formula_parts.Listing.{sorts_stay, said_stay}
 use Rattle.civl_goals.specs.Outlines.{note_holds}
-use Rattle.civl_goal_terms.specs.Others.{other_frame}
-use Rattle.civl_goal_terms.specs.Steps.{swept_by}
+use Rattle.civl_goal_terms.specs.inner.Others.{other_frame}
+use Rattle.civl_goal_terms.specs.inner.Steps.{swept_by}
 use Rattle.civl_goal_terms.proofs.OthersFiring.{call_fires}
 use Rattle.civl_goal_terms.proofs.others.loses_note.Goals as goal
 

@@ -4,7 +4,7 @@ use Rattle.civl_tree.specs.rules.Rules.{Keeps}
 use Rattle.civl_yields.specs.YieldRules.{yield_rules}
 use Rattle.civl_conditions.specs.Steps.{of_proc}
 use Rattle.civl_goals.specs.Failed.{held_before}
-use Rattle.civl_goal_terms.specs.There.{HasStatement}
+use Rattle.civl_goal_terms.specs.inner.There.{HasStatement}
 use Rattle.civl_goal_terms.proofs.OthersBeside.{held_there}
 use Rattle.civl_goal_terms.proofs.others.other_fails.Goals as goal
 

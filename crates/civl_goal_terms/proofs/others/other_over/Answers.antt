@@ -11,7 +11,7 @@ use Rattle.civl_states.proofs.Formulas.{formula_of}
 use Rattle.civl_goals.specs.declared.goal.Goal.TheVariants as named
 use Rattle.civl_goals.specs.Failed.{failed}
 use Rattle.civl_goal_terms.specs.Formulas.{sorts_of}
-use Rattle.civl_goal_terms.specs.Given.{behind_chosen, here_from}
+use Rattle.civl_goal_terms.specs.inner.Given.{behind_chosen, here_from}
 use Rattle.civl_goal_terms.proofs.Assuming.{can_says, says_after}
 use Rattle.civl_goal_terms.proofs.OthersVariables.{sorted_all, counted_all, other_sorted, other_said, bits_all, limited_all, small_all, other_is, other_weighs}
 use Rattle.civl_goal_terms.proofs.others.other_over.Goals as goal

@@ -1,7 +1,7 @@
 use Rattle.std.proofs.Common.{◌∙◌, ◌++◌, List, ap}
 use Rattle.civl_tree.specs.declared.expr.Sort.{Sort}
 use Rattle.civl_tree.specs.declared.program.Program.{Program}
-use Rattle.civl_goal_terms.specs.Sorted.{grouped_sorts}
+use Rattle.civl_goal_terms.specs.inner.Sorted.{grouped_sorts}
 use Rattle.civl_goal_terms.proofs.Sorting.{grouped_are}
 use Rattle.civl_goal_terms.proofs.sorts.goal_sorts.Goals as goal
 

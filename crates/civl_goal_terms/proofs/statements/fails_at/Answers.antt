@@ -1,6 +1,6 @@
 use Rattle.std.proofs.Common.{sym, ap}
 use Rattle.civl_goals.specs.Failed.{loses_invariant, begins_badly, leads_astray}
-use Rattle.civl_goal_terms.specs.Fails.{is_unsafe, fails_of}
+use Rattle.civl_goal_terms.specs.inner.Fails.{is_unsafe, fails_of}
 use Rattle.civl_goal_terms.proofs.Concluding.{fails_safe, tells_as}
 use Rattle.civl_goal_terms.proofs.statements.fails_at.Goals as goal
 

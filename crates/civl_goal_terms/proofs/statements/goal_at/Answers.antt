@@ -3,8 +3,8 @@ use Rattle.civl_tree.specs.declared.expr.Sort.TheVariants.{Bool as Truth}
 use Rattle.civl_terms.proofs.Growing.{grows_trans}
 use Rattle.civl_states.proofs.formula_parts.Saying.{sort_stays, test_stays}
 use Rattle.civl_goals.specs.Failed.{assumed}
-use Rattle.civl_goal_terms.specs.Settings.{frame_at, done_by}
-use Rattle.civl_goal_terms.specs.Fails.{fails_of}
+use Rattle.civl_goal_terms.specs.inner.Settings.{frame_at, done_by}
+use Rattle.civl_goal_terms.specs.inner.Fails.{fails_of}
 use Rattle.civl_goal_terms.proofs.Stepping.{can_stay, says_stay}
 use Rattle.civl_goal_terms.proofs.statements.goal_at.Goals as goal
 

@@ -8,8 +8,8 @@ use Rattle.civl_states.proofs.formula_parts.Saying.{test_as}
 use Rattle.civl_states.proofs.Formulas.{formula_of}
 use Rattle.civl_goals.specs.Failed.{failed}
 use Rattle.civl_goal_terms.specs.Formulas.{sorts_of}
-use Rattle.civl_goal_terms.specs.Given.{here_from}
-use Rattle.civl_goal_terms.specs.Fails.{fails_of}
+use Rattle.civl_goal_terms.specs.inner.Given.{here_from}
+use Rattle.civl_goal_terms.specs.inner.Fails.{fails_of}
 use Rattle.civl_goal_terms.proofs.Standing.{step_there, goal_weighs, three_bits, whole_long, whole_few, whole_are, can_begin}
 use Rattle.civl_goal_terms.proofs.Concluding.{own_sorts, own_failed, own_weighs}
 use Rattle.civl_goal_terms.proofs.statements.goal_over.Goals as goal

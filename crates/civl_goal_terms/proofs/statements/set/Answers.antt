@@ -4,8 +4,8 @@ use Rattle.civl_meaning.specs.Config.{frame_sorts}
 use Rattle.civl_terms.proofs.Growing.{lengthens_trans}
 use Rattle.civl_states.proofs.formula_parts.Listing.{said_after}
 use Rattle.civl_states.proofs.Given.{stand_within}
-use Rattle.civl_goal_terms.specs.Given.{top_count, chosen_from}
-use Rattle.civl_goal_terms.specs.Settings.{sorts_at}
+use Rattle.civl_goal_terms.specs.inner.Given.{top_count, chosen_from}
+use Rattle.civl_goal_terms.specs.inner.Settings.{sorts_at}
 use Rattle.civl_goal_terms.proofs.Standing.{top_few, frame_few, chosen_few, chosen_long, top_stand, frame_stand, chosen_stand, placed_said, placed_bits}
 use Rattle.civl_goal_terms.proofs.statements.set.Goals as goal
 

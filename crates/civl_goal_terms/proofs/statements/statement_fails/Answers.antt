@@ -3,9 +3,9 @@ use Rattle.civl_tree.specs.declared.program.Program.{Program}
 use Rattle.civl_tree.specs.rules.Rules.{Keeps}
 use Rattle.civl_yields.specs.YieldRules.{yield_rules}
 use Rattle.civl_goals.specs.Weights.{weight}
-use Rattle.civl_goal_terms.specs.There.{HasStatement, IsThere}
+use Rattle.civl_goal_terms.specs.inner.There.{HasStatement, IsThere}
 use Rattle.civl_goal_terms.specs.Formulas.{sorts_of, IsViolation}
-use Rattle.civl_goal_terms.specs.Outlined.{IsOutlined}
+use Rattle.civl_goal_terms.specs.inner.Outlined.{IsOutlined}
 use Rattle.civl_goal_terms.proofs.Concluding.{owned, stands, held_there}
 use Rattle.civl_goal_terms.proofs.statements.statement_fails.Goals as goal
 

@@ -3,7 +3,7 @@ use Rattle.civl_actions.specs.Actions.{values_at}
 use Rattle.civl_actions.proofs.Staying.{are_stay}
 use Rattle.civl_terms.proofs.Growing.{grows_trans}
 use Rattle.civl_states.proofs.formula_parts.Listing.{said_stay}
-use Rattle.civl_goal_terms.specs.Steps.{moved_at, swept_by}
+use Rattle.civl_goal_terms.specs.inner.Steps.{moved_at, swept_by}
 use Rattle.civl_goal_terms.proofs.Stepping.{says_swept}
 use Rattle.civl_goal_terms.proofs.steps.passed.Goals as goal
 

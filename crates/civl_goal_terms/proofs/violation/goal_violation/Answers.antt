@@ -1,7 +1,7 @@
 use Rattle.std.proofs.Common.{sym, subst}
 use Rattle.civl_tree.specs.declared.program.Program.{Program}
 use Rattle.civl_goals.specs.declared.goal.Goal.TheVariants as kind
-use Rattle.civl_goal_terms.specs.There.{IsThere}
+use Rattle.civl_goal_terms.specs.inner.There.{IsThere}
 use Rattle.civl_goal_terms.proofs.Listing.{listed_there}
 use Rattle.civl_goal_terms.proofs.Outlining.{outlined_there, outlined_here}
 use Rattle.civl_goal_terms.proofs.violation.goal_violation.Goals as goal

@@ -1,6 +1,6 @@
 use Rattle.std.proofs.Common.{ap, ◌∙◌}
 use Rattle.civl_tree.specs.rules.Sorts.{is_truth}
-use Rattle.civl_goals.specs.Sayings.{scope_of}
+use Rattle.civl_goals.specs.inner.Sayings.{scope_of}
 use Rattle.civl_goals.proofs.Fitting.{says_is}
 use Rattle.civl_goals.proofs.sayings.says.Goals as goal
 

@@ -2,7 +2,7 @@ use Rattle.std.proofs.Common.{◌≡◌, drop}
 use Rattle.std.specs.Prelude.{◌||◌}
 use Rattle.std.specs.List.{list_any}
 use Rattle.civl_layers.specs.Names.{uses}
-use Rattle.civl_layers.specs.Spans.{hidden_by}
+use Rattle.civl_layers.specs.inner.Spans.{hidden_by}
 use Rattle.civl_layers.proofs.hidden.updates_hidden.Given as goal
 
 abbrev pub invariant-loop-update : goal.invariant-loop-update

@@ -1,5 +1,5 @@
 use Rattle.std.proofs.Common.{◌∙◌, sym, ap, arith}
-use Rattle.civl_lex.specs.Front.{behind_gap}
+use Rattle.civl_lex.specs.inner.Front.{behind_gap}
 use Rattle.civl_lex.proofs.Gaps.{comment_skipped}
 use Rattle.civl_lex.proofs.gap.gap_end.Goals as goal
 

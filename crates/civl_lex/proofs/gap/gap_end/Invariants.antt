@@ -1,5 +1,5 @@
 use Rattle.std.proofs.Common.{◌≡◌, ◌≤◌, ◌-◌, length, drop}
-use Rattle.civl_lex.specs.Front.{behind_gap}
+use Rattle.civl_lex.specs.inner.Front.{behind_gap}
 use Rattle.civl_lex.proofs.gap.gap_end.Given as goal
 
 abbrev pub invariant-loop-at : goal.invariant-loop-at

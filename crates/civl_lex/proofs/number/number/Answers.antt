@@ -2,7 +2,7 @@ use Rattle.std.proofs.Common.{◌≡◌, ◌<◌, ℕ, length, take, sym, ap, re
 use Rattle.std.specs.Char.{is_ascii_digit}
 use Rattle.std.specs.List.{take_while}
 use Rattle.std.proofs.lemmas.List.Folds.{length-prefix_len}
-use Rattle.civl_lex.specs.Front.{number_of}
+use Rattle.civl_lex.specs.inner.Front.{number_of}
 use Rattle.civl_lex.proofs.Numbers.{decimal-number_of}
 use Rattle.civl_lex.proofs.Runs.{run_all}
 use Rattle.civl_lex.proofs.number.number.Goals as goal

@@ -1,6 +1,6 @@
 use Rattle.std.proofs.Common.{◌≡◌, ◌++◌, drop, map}
 use Rattle.civl_linear.specs.Modes.{passed_names}
-use Rattle.civl_linear.specs.Wants.{wants}
+use Rattle.civl_linear.specs.inner.Wants.{wants}
 use Rattle.civl_linear.specs.Held.{without_names}
 use Rattle.civl_linear.proofs.calls.without_names.Given as goal
 

@@ -1,7 +1,7 @@
 use Rattle.std.proofs.Common.{◌≡◌, drop}
 use Rattle.civl_tree.specs.rules.Names.{has_name}
 use Rattle.civl_linear.specs.Modes.{passed_names}
-use Rattle.civl_linear.specs.Wants.{wants}
+use Rattle.civl_linear.specs.inner.Wants.{wants}
 use Rattle.civl_linear.proofs.passing.is_passed_name.Given as goal
 
 abbrev pub invariant-loop-at : goal.invariant-loop-at

@@ -1,7 +1,7 @@
 use Rattle.std.proofs.Common.{◌≡◌, ◌+◌, ◌*◌, ◌≤◌, take, drop, length}
 use Rattle.civl_tree.specs.Numbering.{size_of, sizes_of}
 use Rattle.civl_meaning.specs.Found.{spot, Fits}
-use Rattle.civl_meaning.specs.Filled.{Filled}
+use Rattle.civl_meaning.specs.inner.Filled.{Filled}
 use Rattle.civl_meaning.specs.Places.{start_of, first_in, spot_among}
 use Rattle.civl_meaning.proofs.filling.+fill.Given as goal
 

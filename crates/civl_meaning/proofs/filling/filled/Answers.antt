@@ -5,7 +5,7 @@ use Rattle.civl_tree.specs.Numbering.{sizes_of}
 use Rattle.civl_meaning.specs.declared.found.Found.{Found}
 use Rattle.civl_meaning.specs.Places.{spot_at, spot_among}
 use Rattle.civl_meaning.specs.Table.{IsFound, entry}
-use Rattle.civl_meaning.specs.Filled.{Filled}
+use Rattle.civl_meaning.specs.inner.Filled.{Filled}
 use Rattle.civl_meaning.proofs.Tables.{body_is_filled}
 use Rattle.civl_meaning.proofs.filling.filled.Goals as goal
 

@@ -2,7 +2,7 @@ use Rattle.std.proofs.Common.{◌+◌, ◌-◌, ◌∙◌, ℕ, List, drop, sym,
 use Rattle.std.specs.Prelude.{option_copied}
 use Rattle.std.proofs.lemmas.List.{drop_all, take_rest}
 use Rattle.civl_tree.specs.declared.stmt.Stmt.{Stmt}
-use Rattle.civl_meaning.specs.Left.{first_left, among_left, inside_left}
+use Rattle.civl_meaning.specs.inner.Left.{first_left, among_left, inside_left}
 use Rattle.civl_meaning.proofs.Shifting.{here_left, within_left, past_left, none_left}
 use Rattle.civl_meaning.proofs.seeking.+seek.Goals as goal
 

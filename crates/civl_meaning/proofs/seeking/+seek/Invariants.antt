@@ -1,6 +1,6 @@
 use Rattle.std.proofs.Common.{◌≡◌, drop}
 use Rattle.std.specs.Prelude.{option_copied}
-use Rattle.civl_meaning.specs.Left.{among_left}
+use Rattle.civl_meaning.specs.inner.Left.{among_left}
 use Rattle.civl_meaning.proofs.seeking.+seek.Given as goal
 
 abbrev pub invariant-seek-loop-i : goal.invariant-seek-loop-i

@@ -3,7 +3,7 @@ use Rattle.std.specs.Prelude.{option_copied}
 use Rattle.std.proofs.lemmas.List.{drop_all}
 use Rattle.civl_tree.specs.declared.stmt.Stmt.{Stmt}
 use Rattle.civl_tree.proofs.Lists.{drop_is}
-use Rattle.civl_meaning.specs.Left.{first_left}
+use Rattle.civl_meaning.specs.inner.Left.{first_left}
 use Rattle.civl_meaning.proofs.Shifting.{first_here, first_skipped, first_none}
 use Rattle.civl_meaning.proofs.seeking.first.Goals as goal
 

@@ -8,7 +8,7 @@ use Rattle.civl_states.proofs.formula_parts.Saying.{IsBool, sort_stays, test_sta
 use Rattle.civl_states.proofs.formula_parts.Listing.{sorts_stay, said_stay}
 use Rattle.civl_states.specs.Runs.{out_sorts}
 use Rattle.civl_states.specs.Same.{layer_sorts, same_weight}
-use Rattle.civl_movers.specs.Ends.{end_alike}
+use Rattle.civl_movers.specs.inner.Ends.{end_alike}
 use Rattle.civl_states.proofs.Runs.{ready_stays, invoked_stays, run_stays}
 use Rattle.civl_states.proofs.Choosing.{same_weighs}
 use Rattle.civl_movers.proofs.Alike.{six_bools}

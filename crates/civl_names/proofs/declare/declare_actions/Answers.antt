@@ -5,7 +5,7 @@ use Rattle.civl_tree.specs.rules.Names.{has_name}
 use Rattle.civl_tree.specs.rules.Codes.{E10}
 use Rattle.civl_tree.specs.rules.Rules.{action_places, refusal_at, first_of}
 use Rattle.civl_tree.specs.rules.Typing.{twice_rule}
-use Rattle.civl_names.specs.NameSets.{names_in}
+use Rattle.civl_names.specs.inner.NameSets.{names_in}
 use Rattle.civl_names.proofs.walks.Placing.{found_item, found_behind, found_none}
 use Rattle.civl_names.proofs.Declares.{within, stands, set_more, set_all, action_new}
 use Rattle.civl_names.proofs.declare.declare_actions.Goals as goal

@@ -5,7 +5,7 @@ use Rattle.civl_tree.specs.rules.Names.{has_name, global_names}
 use Rattle.civl_tree.specs.rules.Codes.{E10}
 use Rattle.civl_tree.specs.rules.Rules.{global_places, refusal_at}
 use Rattle.civl_tree.specs.rules.Typing.{twice_rule}
-use Rattle.civl_names.specs.NameSets.{names_in}
+use Rattle.civl_names.specs.inner.NameSets.{names_in}
 use Rattle.civl_names.proofs.walks.Placing.{found_item, found_behind, found_none}
 use Rattle.civl_names.proofs.Declares.{within, stands, set_more, set_all, global_found, global_kept}
 use Rattle.civl_names.proofs.declare.declare_globals.Goals as goal

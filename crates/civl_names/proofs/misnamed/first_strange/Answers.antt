@@ -1,7 +1,7 @@
 use Rattle.std.proofs.Common.{◌≡◌, ℕ, ◌+◌, ◌∙◌, ap, ap₂, sym, length}
 use Rattle.std.specs.Prelude.{not}
 use Rattle.civl_tree.specs.Numbering.{init_item, invariant_item, proc_item}
-use Rattle.civl_names.specs.Strange.{declared_in, invariant_strange, action_strange, thread_strange}
+use Rattle.civl_names.specs.inner.Strange.{declared_in, invariant_strange, action_strange, thread_strange}
 use Rattle.civl_names.proofs.Same.{item_kept}
 use Rattle.civl_names.proofs.Telling.{moved, all_past}
 use Rattle.civl_names.proofs.misnamed.first_strange.Goals as goal

@@ -1,5 +1,5 @@
 use Rattle.std.proofs.Common.{◌∙◌}
-use Rattle.civl_names.specs.NameSets.{names_in}
+use Rattle.civl_names.specs.inner.NameSets.{names_in}
 use Rattle.civl_names.proofs.Parts.{unknown_in_parts}
 use Rattle.civl_names.proofs.misnamed.first_unknown.Goals as goal
 

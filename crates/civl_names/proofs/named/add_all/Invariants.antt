@@ -1,5 +1,5 @@
 use Rattle.std.proofs.Common.{◌≡◌, drop, map}
-use Rattle.civl_names.specs.NameSets.{names_in, with_names}
+use Rattle.civl_names.specs.inner.NameSets.{names_in, with_names}
 use Rattle.civl_names.proofs.named.add_all.Given as goal
 
 abbrev pub invariant-loop-item : goal.invariant-loop-item

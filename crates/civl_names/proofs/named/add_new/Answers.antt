@@ -1,6 +1,6 @@
 use Rattle.std.proofs.Common.{◌≡◌, ◌++◌, ◌∷◌, [], ◌∙◌, true, false, ap, map, take}
 use Rattle.civl_tree.specs.rules.Names.{has_name, any_twice}
-use Rattle.civl_names.specs.NameSets.{names_in, with_name}
+use Rattle.civl_names.specs.inner.NameSets.{names_in, with_name}
 use Rattle.civl_names.proofs.Repeats.{twice_at, twice_more, with_new, names_more}
 use Rattle.civl_names.proofs.named.add_new.Goals as goal
 

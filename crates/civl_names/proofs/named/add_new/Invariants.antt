@@ -1,6 +1,6 @@
 use Rattle.std.proofs.Common.{◌≡◌, ◌++◌, take, map, false}
 use Rattle.civl_tree.specs.rules.Names.{any_twice}
-use Rattle.civl_names.specs.NameSets.{names_in}
+use Rattle.civl_names.specs.inner.NameSets.{names_in}
 use Rattle.civl_names.proofs.named.add_new.Given as goal
 
 abbrev pub invariant-loop-item : goal.invariant-loop-item

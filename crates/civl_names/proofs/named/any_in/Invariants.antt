@@ -1,7 +1,7 @@
 use Rattle.std.proofs.Common.{◌≡◌, drop, map}
 use Rattle.std.specs.List.{list_any}
 use Rattle.civl_tree.specs.rules.Names.{has_name}
-use Rattle.civl_names.specs.NameSets.{names_in}
+use Rattle.civl_names.specs.inner.NameSets.{names_in}
 use Rattle.civl_names.proofs.named.any_in.Given as goal
 
 abbrev pub invariant-loop-item : goal.invariant-loop-item

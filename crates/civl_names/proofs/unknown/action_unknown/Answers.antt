@@ -4,8 +4,8 @@ use Rattle.std.specs.List.{list_any}
 use Rattle.civl_tree.specs.declared.action.Choice.{Choice}
 use Rattle.civl_tree.specs.declared.action.Update.{Update}
 use Rattle.civl_tree.specs.rules.Names.{has_name}
-use Rattle.civl_names.specs.NameSets.{names_in, with_names}
-use Rattle.civl_names.specs.Strange.{declared_in}
+use Rattle.civl_names.specs.inner.NameSets.{names_in, with_names}
+use Rattle.civl_names.specs.inner.Strange.{declared_in}
 use Rattle.civl_names.proofs.Telling.{targets_first, gate_next, guard_last}
 use Rattle.civl_names.proofs.unknown.action_unknown.Goals as goal
 

@@ -2,7 +2,7 @@ use Rattle.std.proofs.Common.{◌+◌, ◌∙◌, sym, ap, Some}
 use Rattle.civl_tree.specs.declared.refusal.Refusal.{Refusal}
 use Rattle.civl_tree.specs.rules.Codes.{E11}
 use Rattle.civl_tree.specs.rules.Rules.{refusal_at}
-use Rattle.civl_names.specs.Strange.{declared_in, broken_items}
+use Rattle.civl_names.specs.inner.Strange.{declared_in, broken_items}
 use Rattle.civl_names.proofs.walks.Placing.{found_item, found_behind, found_none}
 use Rattle.civl_names.proofs.Same.{item_found, item_kept}
 use Rattle.civl_names.proofs.unknown.first_item.Goals as goal

@@ -1,7 +1,7 @@
 use Rattle.std.proofs.Common.{◌≡◌, drop, map}
 use Rattle.civl_tree.specs.rules.Codes.{E11}
 use Rattle.civl_tree.specs.rules.Rules.{refusal_at, each_place, first_of}
-use Rattle.civl_names.specs.Strange.{declared_in, broken_items}
+use Rattle.civl_names.specs.inner.Strange.{declared_in, broken_items}
 use Rattle.civl_names.proofs.unknown.first_item.Given as goal
 
 abbrev pub invariant-loop-place : goal.invariant-loop-place

@@ -1,5 +1,5 @@
 use Rattle.std.proofs.Common.{◌≡◌, ℕ, drop, subst, arith}
-use Rattle.civl_outlined.specs.Notes.{AreNotes}
+use Rattle.civl_outlined.specs.inner.Notes.{AreNotes}
 use Rattle.civl_outlined.proofs.Noted.{no_notes, one_more}
 use Rattle.civl_outlined.proofs.notes.notes_of.Goals as goal
 

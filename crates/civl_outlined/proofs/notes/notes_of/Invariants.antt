@@ -1,5 +1,5 @@
 use Rattle.std.proofs.Common.{◌≤◌, drop, length}
-use Rattle.civl_outlined.specs.Notes.{AreNotes}
+use Rattle.civl_outlined.specs.inner.Notes.{AreNotes}
 use Rattle.civl_outlined.proofs.notes.notes_of.Given as goal
 
 abbrev pub invariant-loop-left : goal.invariant-loop-left

@@ -1,7 +1,7 @@
 use Rattle.std.proofs.Common.{◌≡◌, ◌+◌, ◌*◌, ◌++◌, map, take}
 use Rattle.civl_tree.specs.Numbering.{size_of, sizes_of, statements_of}
 use Rattle.civl_meaning.specs.Places.{spot_among}
-use Rattle.civl_outlined.specs.Places.{Own}
+use Rattle.civl_outlined.specs.inner.Places.{Own}
 use Rattle.civl_outlined.proofs.places.+places.Given as goal
 
 abbrev pub invariant-add_all-loop-index : goal.invariant-add_all-loop-index

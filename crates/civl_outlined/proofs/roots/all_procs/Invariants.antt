@@ -1,5 +1,5 @@
 use Rattle.std.proofs.Common.{◌≡◌, length}
-use Rattle.civl_outlined.specs.Sums.{AreProcs}
+use Rattle.civl_outlined.specs.inner.Sums.{AreProcs}
 use Rattle.civl_outlined.proofs.roots.all_procs.Given as goal
 
 abbrev pub invariant-loop-number : goal.invariant-loop-number

@@ -4,7 +4,7 @@ use Rattle.civl_tree.specs.rules.Rules.{Keeps}
 use Rattle.civl_yields.specs.YieldRules.{yield_rules}
 use Rattle.civl_goals.proofs.Plain.{roots_are_plain}
 use Rattle.civl_outlined.specs.declared.places.Place.{Place}
-use Rattle.civl_outlined.specs.Places.{ArePlaces}
+use Rattle.civl_outlined.specs.inner.Places.{ArePlaces}
 use Rattle.civl_outlined.proofs.Stating.{places_are_few}
 use Rattle.civl_outlined.proofs.Plain.{few_statements, counts_are}
 use Rattle.civl_outlined.proofs.roots.root_statements.Goals as goal

@@ -1,5 +1,5 @@
 use Rattle.std.proofs.Common.{◌≡◌, length}
-use Rattle.civl_outlined.specs.Sums.{AreThere}
+use Rattle.civl_outlined.specs.inner.Sums.{AreThere}
 use Rattle.civl_outlined.proofs.roots.statement_list.Given as goal
 
 abbrev pub invariant-loop-number : goal.invariant-loop-number

@@ -3,7 +3,7 @@ use Rattle.civl_tree.specs.declared.expr.Expr.{Expr}
 use Rattle.civl_outlines.specs.declared.outline.Note.{Note}
 use Rattle.civl_conditions.specs.Weights.{weights_of, global_weight}
 use Rattle.civl_weighing.proofs.Capping.{weighs_same}
-use Rattle.civl_outlined.specs.Notes.{AreNotes}
+use Rattle.civl_outlined.specs.inner.Notes.{AreNotes}
 use Rattle.civl_outlined.proofs.said.weighed_outline.Goals as goal
 
 pub returns-clause-said : goal.returns-clause-said

@@ -3,7 +3,7 @@ use Rattle.civl_tree.specs.declared.stmt.Stmt.{out-Stmt}
 use Rattle.civl_goals.specs.Weights.{note_before_weight, form_reaches, summed_at}
 use Rattle.civl_weighing.proofs.Capping.{weighs_same}
 use Rattle.civl_outlined.specs.declared.weights.Found.{Found}
-use Rattle.civl_outlined.specs.Sums.{IsFound}
+use Rattle.civl_outlined.specs.inner.Sums.{IsFound}
 use Rattle.civl_outlined.proofs.Totals.{next_is}
 use Rattle.civl_outlined.proofs.weights.next.Goals as goal
 

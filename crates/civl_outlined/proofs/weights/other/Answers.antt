@@ -1,6 +1,6 @@
 use Rattle.std.proofs.Common.{Option, subst}
 use Rattle.civl_outlined.specs.declared.weights.Found.{Found}
-use Rattle.civl_outlined.specs.Sums.{IsFound}
+use Rattle.civl_outlined.specs.inner.Sums.{IsFound}
 use Rattle.civl_outlined.proofs.weights.other.Goals as goal
 
 pub returns-in-Some-look_up : goal.returns-in-Some-look_up

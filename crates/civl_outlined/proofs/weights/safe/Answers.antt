@@ -1,7 +1,7 @@
 use Rattle.std.proofs.Common.{Option, subst}
 use Rattle.civl_weighing.proofs.Capping.{weighs_same}
 use Rattle.civl_outlined.specs.declared.weights.Found.{Found}
-use Rattle.civl_outlined.specs.Sums.{IsFound}
+use Rattle.civl_outlined.specs.inner.Sums.{IsFound}
 use Rattle.civl_outlined.proofs.Totals.{safe_is}
 use Rattle.civl_outlined.proofs.weights.safe.Goals as goal
 

@@ -1,5 +1,5 @@
 use Rattle.std.proofs.Common.{arith, ◌<◌, ◌≤◌, length, subst}
-use Rattle.civl_portfolio.specs.Heard.{HeardSays}
+use Rattle.civl_portfolio.specs.inner.Heard.{HeardSays}
 use Rattle.civl_portfolio.proofs.Rounds.{started, next, passed, removed, ended, cut_at, housed, cut_behind, on_err}
 use Rattle.civl_portfolio.proofs.asking.ask.Goals as goal
 

@@ -1,5 +1,5 @@
 use Rattle.civl_proofs.specs.Text.{most_clauses}
-use Rattle.civl_proofs.specs.Reading.{Count, IsReadTo, IsWithin}
+use Rattle.civl_proofs.specs.inner.Reading.{Count, IsReadTo, IsWithin}
 use Rattle.civl_proofs.proofs.heading.read_count.Given as goal
 
 abbrev pub invariant-loop-at : goal.invariant-loop-at

@@ -1,5 +1,5 @@
 use Rattle.civl_proofs.specs.Text.{most_variables}
-use Rattle.civl_proofs.specs.Reading.{Variables, IsReadTo, IsWithin}
+use Rattle.civl_proofs.specs.inner.Reading.{Variables, IsReadTo, IsWithin}
 use Rattle.civl_proofs.proofs.heading.read_variables.Given as goal
 
 abbrev pub invariant-loop-at : goal.invariant-loop-at

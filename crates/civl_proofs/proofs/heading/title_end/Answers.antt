@@ -1,7 +1,7 @@
 use Rattle.std.proofs.Common.{refl}
 use Rattle.std.specs.Prelude.{codes, None}
 use Rattle.std.proofs.lemmas.Result.{err_from_is_err_and}
-use Rattle.civl_proofs.specs.Reading.{Title, Variables}
+use Rattle.civl_proofs.specs.inner.Reading.{Title, Variables}
 use Rattle.civl_proofs.proofs.heading.title_end.Goals as goal
 
 pub returns-in_err-first-clause-fault : goal.returns-in_err-first-clause-fault

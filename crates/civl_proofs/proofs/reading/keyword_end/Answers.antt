@@ -1,7 +1,7 @@
 use Rattle.std.proofs.Common.{refl, []}
 use Rattle.std.specs.Prelude.{codes}
 use Rattle.std.proofs.lemmas.Result.{err_from_is_err_and}
-use Rattle.civl_proofs.specs.Reading.{Keyword}
+use Rattle.civl_proofs.specs.inner.Reading.{Keyword}
 use Rattle.civl_proofs.proofs.reading.keyword_end.Goals as goal
 
 pub returns-in_err-middle-clause-fault : goal.returns-in_err-middle-clause-fault

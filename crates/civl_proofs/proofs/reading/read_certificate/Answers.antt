@@ -1,6 +1,6 @@
 use Rattle.std.proofs.Common.{ap, Err}
 use Rattle.std.proofs.lemmas.Result.{err_from_is_err_and}
-use Rattle.civl_proofs.specs.Reading.{whole_of}
+use Rattle.civl_proofs.specs.inner.Reading.{whole_of}
 use Rattle.civl_proofs.proofs.Answering.{fault_first, no_certificate, that_fault, certificate_found, same_certificate, no_fault}
 use Rattle.civl_proofs.proofs.reading.read_certificate.Goals as goal
 

@@ -1,4 +1,4 @@
-use Rattle.civl_proofs.specs.Reading.{Logging, IsReadTo, IsSoundWord}
+use Rattle.civl_proofs.specs.inner.Reading.{Logging, IsReadTo, IsSoundWord}
 use Rattle.civl_proofs.proofs.reading.read_log.Given as goal
 
 abbrev pub invariant-bytes : goal.invariant-bytes

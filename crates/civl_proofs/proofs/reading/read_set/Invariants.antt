@@ -1,6 +1,6 @@
 use Rattle.std.proofs.Common.{◌≡◌}
 use Rattle.civl_cnf.specs.ClauseSet.{IsBelow}
-use Rattle.civl_proofs.specs.Reading.{Setting, IsReadTo, IsSoundWord}
+use Rattle.civl_proofs.specs.inner.Reading.{Setting, IsReadTo, IsSoundWord}
 use Rattle.civl_proofs.proofs.reading.read_set.Given as goal
 
 abbrev pub invariant-bytes : goal.invariant-bytes

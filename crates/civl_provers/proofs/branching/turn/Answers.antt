@@ -1,8 +1,8 @@
 use Rattle.std.proofs.Common.{◌≡◌, ◌∙◌, ◌++◌, ◌∷◌, [], ◌+◌, ℕ, List, get_or, sym, ap, subst, arith}
 use Rattle.std.specs.Prelude.{None}
 use Rattle.civl_cnf.specs.Literal.{Literal, opposite}
-use Rattle.civl_provers.specs.Node.{HaveValuesFrom}
-use Rattle.civl_provers.specs.Standing.{LookSays}
+use Rattle.civl_provers.specs.inner.Node.{HaveValuesFrom}
+use Rattle.civl_provers.specs.inner.Standing.{LookSays}
 use Rattle.civl_provers.proofs.Standings.{levels_at, turns_sizes, turns_last, turns_choice, at_cut, behind_cut, open_at}
 use Rattle.civl_provers.proofs.branching.turn.Goals as goal
 

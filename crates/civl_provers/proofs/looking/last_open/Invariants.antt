@@ -1,5 +1,5 @@
 use Rattle.std.proofs.Common.{◌≤◌}
-use Rattle.civl_provers.specs.Node.{HaveValuesFrom}
+use Rattle.civl_provers.specs.inner.Node.{HaveValuesFrom}
 use Rattle.civl_provers.proofs.looking.last_open.Given as goal
 
 abbrev pub invariant-loop-at : goal.invariant-loop-at

@@ -5,8 +5,8 @@ use Rattle.std.proofs.lemmas.List.{length_push}
 use Rattle.civl_cnf.specs.Literal.{Literal}
 use Rattle.civl_units.specs.Marks.{marked, IsQuiet}
 use Rattle.civl_provers.specs.Splitter.{IsSplit, AfterRefuted, left}
-use Rattle.civl_provers.specs.Standing.{LookSays, IsTurning}
-use Rattle.civl_provers.specs.Node.{JudgeSays, HaveValuesFrom, EndSays}
+use Rattle.civl_provers.specs.inner.Standing.{LookSays, IsTurning}
+use Rattle.civl_provers.specs.inner.Node.{JudgeSays, HaveValuesFrom, EndSays}
 use Rattle.civl_provers.specs.declared.looking.Node.TheVariants.{Open, Stuck}
 use Rattle.civl_provers.proofs.Branches.{chosen, refuted_by}
 use Rattle.civl_provers.proofs.Nodes.{node_by}

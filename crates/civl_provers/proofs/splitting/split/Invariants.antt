@@ -1,6 +1,6 @@
 use Rattle.std.proofs.Common.{◌≤◌, length}
 use Rattle.civl_provers.specs.Splitter.{IsSplit, left}
-use Rattle.civl_provers.specs.Standing.{LookSays}
+use Rattle.civl_provers.specs.inner.Standing.{LookSays}
 use Rattle.civl_provers.proofs.splitting.split.Given as goal
 
 abbrev pub invariant-branches : goal.invariant-branches

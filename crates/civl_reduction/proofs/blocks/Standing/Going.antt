@@ -33,8 +33,8 @@ use Rattle.civl_yields.specs.Movers.{turns}
 use Rattle.civl_layers.specs.Movers.{is_left}
 use Rattle.civl_yields.specs.Places.{form_misplaced, stmt_misplaced}
 use Rattle.civl_yields.specs.YieldRules.{commit_rule, yield_rules}
-use Rattle.civl_reduction.specs.exchanges.Doing.{Doing, call_doing, layer_doing}
-use Rattle.civl_reduction.specs.exchanges.Doing as does
+use Rattle.civl_meaning.specs.Change.{Doing, call_doing, statement_doing}
+use Rattle.civl_meaning.specs.Change as does
 use Rattle.civl_reduction.specs.blocks.Blocks.{layer_at_yield, at_yield}
 use Rattle.civl_reduction.specs.blocks.Ahead.{ahead_in}
 use Rattle.civl_reduction.proofs.blocks.Standing.Turning.{IsClean, enters_clean, StaysLate, stays_late, nothing_ahead}
@@ -109,7 +109,7 @@ module _ (program : Program) (layer : ℕ) (src : IsLayered program) (ok : IsPla
       go Missing d r l = d
 
   late_layer : (d : Stmt-F Stmt) (s : Stmt) (place : ℕ) (k : Rest) (locals : List Value) → out-Stmt s ≡ d → skip_layer d ≡ false → layer_at_yield d (at_yield k) ≡ false → statement_at proc.body place ≡ Some s → Belongs proc.body ((place, s) ∷ k) → StaysLate program d place s k
-      → AfterLate program proc (layer_doing plain proc locals place (place_in (sizes_of proc.body) k) d)
+      → AfterLate program proc (statement_doing plain proc locals place (place_in (sizes_of proc.body) k) d)
   late_layer (Assign x e) s place k locals o sk y here b l = at_next k b.1 l
   late_layer (Assert e) s place k locals o sk y here b l = late_assert _ locals (place_in (sizes_of proc.body) k) (at_next k b.1 l)
   late_layer (If e xs ys) s place k locals o sk y here b l =
@@ -136,7 +136,7 @@ module _ (program : Program) (layer : ℕ) (src : IsLayered program) (ok : IsPla
 
   -- before a statement, at no yield, with nothing ahead
   pub late_goes_on : (s : Stmt) (place : ℕ) (k : Rest) (locals : List Value) → skip_layer (out-Stmt s) ≡ false → at_yield ((place, s) ∷ k) ≡ false → statement_at proc.body place ≡ Some s → Belongs proc.body ((place, s) ∷ k) → ahead_in program ((place, s) ∷ k) ≡ false
-      → AfterLate program proc (layer_doing plain proc locals place (place_in (sizes_of proc.body) k) (out-Stmt s))
+      → AfterLate program proc (statement_doing plain proc locals place (place_in (sizes_of proc.body) k) (out-Stmt s))
   late_goes_on s place k locals sk y here b e = late_layer (out-Stmt s) s place k locals refl sk y here b (stays_late program s place k e (out-Stmt s) refl)
 
   -- ---- at any place of a body whose calls come in order

@@ -26,7 +26,7 @@ use Rattle.civl_meaning.specs.Places.{Spot, spot_at}
 use Rattle.civl_meaning.specs.Rest.{Rest, rest_at}
 use Rattle.civl_meaning.specs.Meaning.{Meaning, Does, Runs, Missing, called, meaning_of}
 use Rattle.civl_meaning.specs.Layers.{program_at}
-use Rattle.civl_meaning.specs.Change.{caller_of, outs_in, returned_at, returned_in, returned}
+use Rattle.civl_meaning.specs.Change.{caller_of, outs_in, returned_at, returned_in, returned, Doing, call_doing, statement_doing, leaving, spot_doing, proc_doing, state_doing}
 use Rattle.civl_meaning.specs.Config.{IsPlain, IsBodyOf, LayerCalls, SpotCalls, ProcCalls, Waits, AreWaiting, StateIsStacked}
 use Rattle.civl_layers.specs.Layered.{IsLayered}
 use Rattle.civl_layers.proofs.PlainPrograms.{layered_is_plain}
@@ -36,8 +36,7 @@ use Rattle.civl_yields.specs.Movers.{turns}
 use Rattle.civl_yields.specs.Phases.{called_phase}
 use Rattle.civl_yields.specs.YieldRules.{yield_rules}
 use Rattle.civl_reduction.specs.interleavings.Reduction.{Place, Between, Early, Late}
-use Rattle.civl_reduction.specs.exchanges.Doing.{Doing, call_doing, layer_doing, leaving, spot_doing, proc_doing, state_doing}
-use Rattle.civl_reduction.specs.exchanges.Doing as does
+use Rattle.civl_meaning.specs.Change as does
 use Rattle.civl_reduction.specs.exchanges.Interleavings.{whole}
 use Rattle.civl_reduction.specs.blocks.Blocks.{at_yield, framed_in, framed_state, block_in}
 use Rattle.civl_reduction.specs.blocks.Ahead.{ahead_in}
@@ -193,8 +192,8 @@ module _ (program : Program) (layer : ℕ) where
         let lead = led program proc.body top.place s at in
         let too = lead.too l.open_block in
         let low = l.layered in
-        late_whole below top proc there (layer_doing plain proc top.locals s.number s.next (out-Stmt s.stmt))
-        (subst (λ (next : ℕ). AfterLate program proc (layer_doing plain proc top.locals s.number next (out-Stmt s.stmt))) (sym lead.next)
+        late_whole below top proc there (statement_doing plain proc top.locals s.number s.next (out-Stmt s.stmt))
+        (subst (λ (next : ℕ). AfterLate program proc (statement_doing plain proc top.locals s.number next (out-Stmt s.stmt))) (sym lead.next)
         (late_goes_on program layer src ok yields top.procedure proc l.refines there l.refined (omega (arith, low)) s.stmt s.number lead.rest top.locals lead.plain too.1 (stands_there program proc.body top.place s at) (spot_belongs program proc.body top.place s at) (sym too.0 ∙ l.nothing)))
 
     pub late_does : (state : State) → StateIsStacked plain callee state → state_stands state ≡ Late → LateDoes program layer (whole (at_state state) (state_doing plain (at_state state) state))
@@ -241,7 +240,7 @@ module _ (program : Program) (layer : ℕ) where
       any_assert true next = tt
       any_assert false next = tt
 
-      any_layer : (s : Spot) → spot_at proc.body top.place ≡ Some s → (d : Stmt-F Stmt) → out-Stmt s.stmt ≡ d → AnyDoes program layer (whole (at_state (Inside below top)) (layer_doing plain proc top.locals s.number s.next d))
+      any_layer : (s : Spot) → spot_at proc.body top.place ≡ Some s → (d : Stmt-F Stmt) → out-Stmt s.stmt ≡ d → AnyDoes program layer (whole (at_state (Inside below top)) (statement_doing plain proc top.locals s.number s.next d))
       any_layer s at (Call g es rs) form = any_call s at g es rs form _ _ (called plain g) refl
       any_layer s at (Assert e) form = any_assert (is_true (value_of (frame_values program.globals proc top.locals) e)) s.next
       any_layer s at (Spawn g es) form =

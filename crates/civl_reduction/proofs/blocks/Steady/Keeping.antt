@@ -16,7 +16,7 @@ use Rattle.civl_conditions.specs.declared.condition.Target.{Target}
 use Rattle.civl_conditions.specs.Steps.{step_invariants}
 use Rattle.civl_conditions.specs.Listed.{targets}
 use Rattle.civl_conditions.specs.Permissions.{in_store, of_inputs}
-use Rattle.civl_conditions.specs.Invariants.{holds_of_globals, invariant_lost, invariants_hold, is_initial}
+use Rattle.civl_conditions.specs.Invariants.{holds_of_globals, invariant_lost, invariants_hold, meets_init}
 use Rattle.civl_conditions.specs.Movers.{on_some, gate_of}
 use Rattle.civl_conditions.specs.Assumed.{owned, assumed}
 use Rattle.civl_conditions.specs.Parts.{outcome_of}
@@ -31,9 +31,9 @@ use Rattle.civl_reduction.proofs.blocks.Steady.Losing.{all_of, is_steady}
 pub invariants_begin : InvariantsBegin
 invariants_begin program step store h initial = all_of (holds_of_globals program store) (step_invariants program step) (λ i e at.
     let says = (actions_of_states program h.layered).starts step i store (h.hold (Start step i) (start_listed program step h.low h.high i e at)) initial.store_fits in
-    let is : is_initial program store ≡ true = ap (λ (b : Bool). b && pairwise_disjoint (initial_permissions program store)) initial.init_holds ∙ initial.disjoint in
+    let is : meets_init program store ≡ true = ap (λ (b : Bool). b && pairwise_disjoint (initial_permissions program store)) initial.init_holds ∙ initial.disjoint in
     not-false (holds_of_globals program store e)
-    (sym (ap (λ (o : Option Expr). option_map_or (λ x. not (holds_of_globals program store x)) o false) at) ∙ not_second (is_initial program store) (invariant_lost program step i store) is says))
+    (sym (ap (λ (o : Option Expr). option_map_or (λ x. not (holds_of_globals program store x)) o false) at) ∙ not_second (meets_init program store) (invariant_lost program step i store) is says))
 
 pub actions_are_steady : ActionsAreSteady
 actions_are_steady program step number store x after h fit is through holds gate fires = is_steady program step (in_store program store ++ of_inputs x) store after.0 keeps

@@ -24,18 +24,18 @@ use Rattle.civl_firing.specs.Fired.{gate_holds, choices_fit, fired}
 use Rattle.civl_firing.specs.values.Values.{is_true}
 use Rattle.civl_meaning.specs.declared.config.Plain.{Plain}
 use Rattle.civl_meaning.specs.declared.config.Activation.{Activation}
-use Rattle.civl_meaning.specs.declared.config.State.TheVariants.{Inside}
 use Rattle.civl_meaning.specs.declared.config.Stepped.TheVariants as answer
 use Rattle.civl_meaning.specs.declared.config.Change.{Change}
 use Rattle.civl_meaning.specs.declared.config.Change.TheVariants.{Stays, Goes, Acts, Enters, Leaves, Spawns}
 use Rattle.civl_meaning.specs.Meaning.{Meaning, Does, Runs, Missing, called}
 use Rattle.civl_meaning.specs.Places.{Spot, start_of, spot_at}
 use Rattle.civl_meaning.specs.Rest.{Rest, rest_at, place_in, head_of}
-use Rattle.civl_meaning.specs.Change.{acted, call_change, layer_change, spot_change, proc_change}
-use Rattle.civl_meaning.specs.Failing.{spot_fails, proc_fails, answers_failing}
+use Rattle.civl_meaning.specs.Change.{acted, done_by, call_doing, statement_doing}
+use Rattle.civl_meaning.specs.Change as does
+use Rattle.civl_meaning.specs.Failing.{fails_at, answers_failing}
 use Rattle.civl_meaning.specs.Layers.{program_at}
 use Rattle.civl_meaning.proofs.Rests.{spot_of_rest}
-use Rattle.civl_meaning.proofs.Failures.{failing_is_answered}
+use Rattle.civl_meaning.proofs.Failures.{failing_is_done}
 use Rattle.civl_layers.specs.declared.cut.Cut.{Cut}
 use Rattle.civl_layers.specs.Layered.{IsLayered}
 use Rattle.civl_conditions.specs.footprints.Agreement.{StoresAgree, exists_at}
@@ -87,7 +87,7 @@ module _ (plain : Plain) (store : Store) (chosen : List Value) (proc : Proc) (lo
   by_branch true a b x y = x
   by_branch false a b x y = y
 
-  by_assert : (b : Bool) (p : ℕ) → IsNotBelow (n + 1) (spot_at proc.body p) → GoesForward proc.body n (if b then Goes locals p else Stays answer.Failing)
+  by_assert : (b : Bool) (p : ℕ) → IsNotBelow (n + 1) (spot_at proc.body p) → GoesForward proc.body n (done_by plain store chosen (if b then does.Goes locals p else does.Fails))
   by_assert true p h = h
   by_assert false p h = tt
 
@@ -101,7 +101,7 @@ module _ (plain : Plain) (store : Store) (chosen : List Value) (proc : Proc) (lo
   by_tests true false names rs p f h = tt
   by_tests false fit names rs p f h = tt
 
-  by_call : (m : Meaning) (names : List Name) (rs : List Name) (args : List Value) (p : ℕ) → IsNotBelow (n + 1) (spot_at proc.body p) → GoesForward proc.body n (call_change plain store chosen names locals rs n p m args)
+  by_call : (m : Meaning) (names : List Name) (rs : List Name) (args : List Value) (p : ℕ) → IsNotBelow (n + 1) (spot_at proc.body p) → GoesForward proc.body n (done_by plain store chosen (call_doing names locals rs n p m args))
   by_call (Does action) names rs args p h = by_tests (gate_holds plain.program.globals store action args) (choices_fit action chosen) names rs p (fired plain.program.globals store action args chosen) h
   by_call (Runs number callee) names rs args p h = tt
   by_call Missing names rs args p h = tt
@@ -109,7 +109,7 @@ module _ (plain : Plain) (store : Store) (chosen : List Value) (proc : Proc) (lo
   loop_forward : (a : List Stmt) (t : Bool) → form_loops (out-Stmt s) ≡ true → Belongs proc.body (numbered (n + 1) a ++ (n, s) ∷ k) → IsNotBelow (n + 1) (spot_at proc.body (if t then start_of a (n + 1) n else next))
   loop_forward a t loops b = by_branch t (start_of a (n + 1) n) next (begins a (n + 1) ((n, s) ∷ k) (omega arith) b (inr loops) (inr loops) onward) behind
 
-  pub forward : (d : stmt.Stmt-F Stmt) → out-Stmt s ≡ d → GoesForward proc.body n (layer_change plain store chosen proc locals n (place_in (sizes_of proc.body) k) d)
+  pub forward : (d : stmt.Stmt-F Stmt) → out-Stmt s ≡ d → GoesForward proc.body n (done_by plain store chosen (statement_doing plain proc locals n (place_in (sizes_of proc.body) k) d))
   forward (stmt.Assign x v) e = behind
   forward (stmt.Assert f) e = by_assert (is_true (value_of (frame_values plain.program.globals proc locals) f)) next behind
   forward (stmt.If t a b) e =
@@ -154,13 +154,8 @@ failing_agrees program step a (Spawns t p) g e = absurd (false≢true e)
 
 module _ (program : Program) (number step : ℕ) (proc : Proc) (of : IsProcOf program number step proc) (store : Store) (frame : Activation) (s : Spot) (there : spot_at proc.body frame.place ≡ Some s) where
   -- whether a step fails is told by the gate or the assert alone
-  fails_by : (v : List Value) → answers_failing (frame_does program step proc store v frame s) ≡ spot_fails (program_at program (step - 1)) store frame proc (Some s)
-  fails_by v =
-      let own : Activation = record { procedure = number; place = frame.place; locals = frame.locals } in
-      let plain = program_at program (step - 1) in
-      let said = failing_is_answered plain store v (record { callee = 0; args = []; state = Inside [] own }) in
-      subst (λ (o : Option Spot). answers_failing (spot_change plain store v None own proc o) ≡ spot_fails plain store own proc o) there
-      (subst (λ (o : Option Proc). answers_failing (proc_change plain store v None own o) ≡ proc_fails plain store own o) of.there said)
+  fails_by : (v : List Value) → answers_failing (frame_does program step proc store v frame s) ≡ fails_at (program_at program (step - 1)) store (statement_doing (program_at program (step - 1)) proc frame.locals s.number s.next (out-Stmt s.stmt))
+  fails_by v = failing_is_done (program_at program (step - 1)) store v (statement_doing (program_at program (step - 1)) proc frame.locals s.number s.next (out-Stmt s.stmt))
 
   pub fails_alike : (v w : List Value) → answers_failing (frame_does program step proc store v frame s) ≡ answers_failing (frame_does program step proc store w frame s)
   fails_alike v w = fails_by v ∙ sym (fails_by w)
@@ -211,10 +206,10 @@ module _ (program : Program) (number step : ℕ) (proc : Proc) (cut : Cut) (from
 
   -- the step of the path
   abbrev path_does : List Value → Change
-  path_does v = layer_change (program_at program (step - 1)) state.store v proc frame.locals s.number s.next (out-Stmt s.stmt)
+  path_does v = done_by (program_at program (step - 1)) state.store v (statement_doing (program_at program (step - 1)) proc frame.locals s.number s.next (out-Stmt s.stmt))
 
   does_is : (f : ℕ → List Value) → spot_does (course f) s state ≡ path_does (f s.number)
-  does_is f = ap (λ (ls : List Value). layer_change (program_at program (step - 1)) state.store (f s.number) proc ls s.number s.next (out-Stmt s.stmt)) (stays.locals ∙ follows.alike.locals)
+  does_is f = ap (λ (ls : List Value). done_by (program_at program (step - 1)) state.store (f s.number) (statement_doing (program_at program (step - 1)) proc ls s.number s.next (out-Stmt s.stmt))) (stays.locals ∙ follows.alike.locals)
 
   advance_does : layer_ends s.number state (out-Stmt s.stmt) ≡ None → (f : ℕ → List Value) → advance (course f) here ≡ advance_by state (path_does (f s.number))
   advance_does none f =
@@ -244,7 +239,7 @@ module _ (program : Program) (number step : ℕ) (proc : Proc) (cut : Cut) (from
 
   forth : GoesForward proc.body s.number (frame_does program step proc store values frame s)
   forth =
-      subst (λ (p : ℕ). GoesForward proc.body s.number (layer_change (program_at program (step - 1)) store values proc frame.locals s.number p (out-Stmt s.stmt))) (sym split.next)
+      subst (λ (p : ℕ). GoesForward proc.body s.number (done_by (program_at program (step - 1)) store values (statement_doing (program_at program (step - 1)) proc frame.locals s.number p (out-Stmt s.stmt)))) (sym split.next)
       (forward (program_at program (step - 1)) store values proc frame.locals s.number s.stmt split.behind split.belongs split.onward (out-Stmt s.stmt) refl)
 
   abbrev Goal : Change → Type 0
@@ -309,12 +304,12 @@ module _ (program : Program) (number step : ℕ) (proc : Proc) (cut : Cut) (from
       (advance_does none now ∙ ap (λ (v : List Value). advance_by state (path_does v)) (made now (λ m l. refl)))
       (fails none)
 
-  by_form : (d : stmt.Stmt-F Stmt) → out-Stmt s.stmt ≡ d → form_loops d ≡ false → Goal (layer_change (program_at program (step - 1)) store values proc frame.locals s.number s.next d)
+  by_form : (d : stmt.Stmt-F Stmt) → out-Stmt s.stmt ≡ d → form_loops d ≡ false → Goal (done_by (program_at program (step - 1)) store values (statement_doing (program_at program (step - 1)) proc frame.locals s.number s.next d))
   by_form (stmt.While t a) e l = absurd (true≢false l)
   by_form (stmt.YieldLoop t i a) e l = absurd (true≢false l)
   by_form (stmt.RankLoop t r i a) e l = absurd (true≢false l)
   by_form (stmt.Spawn f es) e l = tt
-  by_form _ e l = subst (λ (d : stmt.Stmt-F Stmt). Goal (layer_change (program_at program (step - 1)) store values proc frame.locals s.number s.next d)) e (passed (ap (layer_ends s.number state) e))
+  by_form _ e l = subst (λ (d : stmt.Stmt-F Stmt). Goal (done_by (program_at program (step - 1)) store values (statement_doing (program_at program (step - 1)) proc frame.locals s.number s.next d))) e (passed (ap (layer_ends s.number state) e))
 
   pub step_follows : (bound ≤ s.number) × StepFollows program step proc cut from chosen s values here store frame (frame_does program step proc store values frame s)
   step_follows = (low, by_form (out-Stmt s.stmt) refl not_loop)

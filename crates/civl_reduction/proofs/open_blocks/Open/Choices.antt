@@ -39,7 +39,8 @@ use Rattle.civl_meaning.specs.declared.config.Stepped.TheVariants as answer
 use Rattle.civl_meaning.specs.declared.config.Change.{Change}
 use Rattle.civl_meaning.specs.declared.config.Change.TheVariants.{Stays, Goes, Acts}
 use Rattle.civl_meaning.specs.Meaning.{Meaning, Does, Runs, Missing, called}
-use Rattle.civl_meaning.specs.Change.{acted, call_change, layer_change}
+use Rattle.civl_meaning.specs.Change.{acted, done_by, call_doing, statement_doing}
+use Rattle.civl_meaning.specs.Change as calls_of
 use Rattle.civl_meaning.specs.Layers.{program_at}
 use Rattle.civl_layers.specs.declared.cut.Cut.{Cut}
 use Rattle.civl_layers.specs.Layered.{IsLayered}
@@ -60,10 +61,10 @@ FitChoices values choices = HaveSorts values (map (λ c. c.sort) choices)
 
 module _ (plain : Plain) (store : Store) (proc : Proc) (locals : List Value) (n p : ℕ) where
   abbrev does : List Value → stmt.Stmt-F Stmt → Change
-  does v d = layer_change plain store v proc locals n p d
+  does v d = done_by plain store v (statement_doing plain proc locals n p d)
 
   abbrev calls : List Value → List Name → List Name → Meaning → List Value → Change
-  calls v names rs m args = call_change plain store v names locals rs n p m args
+  calls v names rs m args = done_by plain store v (call_doing names locals rs n p m args)
 
   -- a call never only goes on
   no_fired : (names rs : List Name) (f : Fired) (ls : List Value) (w : ℕ) → acted names locals rs p f ≡ Goes ls w → ⊥
@@ -81,9 +82,15 @@ module _ (plain : Plain) (store : Store) (proc : Proc) (locals : List Value) (n 
   no_call v names rs (Runs number callee) args ls w e = cc
   no_call v names rs Missing args ls w e = cc
 
+  -- nor does an assert read choices
+  assert_whatever : (v u : List Value) (b : Bool) → done_by plain store v (if b then calls_of.Goes locals p else calls_of.Fails) ≡ done_by plain store u (if b then calls_of.Goes locals p else calls_of.Fails)
+  assert_whatever v u true = refl
+  assert_whatever v u false = refl
+
   -- a step that only goes on reads no choices
   pub goes_whatever : (v u : List Value) (d : stmt.Stmt-F Stmt) (ls : List Value) (w : ℕ) → does v d ≡ Goes ls w → does u d ≡ Goes ls w
   goes_whatever v u (stmt.Call f es rs) ls w e = absurd (no_call v _ rs (called plain f) (values_of (frame_values plain.program.globals proc locals) es) ls w e)
+  goes_whatever v u (stmt.Assert f) ls w e = sym (assert_whatever v u (is_true (value_of (frame_values plain.program.globals proc locals) f))) ∙ e
   goes_whatever v u _ ls w e = e
 
   -- where an action acts, its choices fit
@@ -98,13 +105,13 @@ module _ (plain : Plain) (store : Store) (proc : Proc) (locals : List Value) (n 
   fit_call v a names rs (Runs number callee) args g ls w e = absurd (cc)
   fit_call v a names rs Missing args g ls w e = absurd (cc)
 
-  no_assert : (b : Bool) (g : Store) (ls : List Value) (w : ℕ) → (if b then Goes locals p else Stays answer.Failing) ≡ Acts g ls w → ⊥
-  no_assert true g ls w e = cc
-  no_assert false g ls w e = cc
+  no_assert : (v : List Value) (b : Bool) (g : Store) (ls : List Value) (w : ℕ) → done_by plain store v (if b then calls_of.Goes locals p else calls_of.Fails) ≡ Acts g ls w → ⊥
+  no_assert v true g ls w e = cc
+  no_assert v false g ls w e = cc
 
   pub acts_fitting : (v : List Value) → All IsValue v → (d : stmt.Stmt-F Stmt) (g : Store) (ls : List Value) (w : ℕ) → does v d ≡ Acts g ls w → FitChoices v (layer_choices plain d)
   acts_fitting v a (stmt.Call f es rs) g ls w e = fit_call v a _ rs (called plain f) (values_of (frame_values plain.program.globals proc locals) es) g ls w e
-  acts_fitting v a (stmt.Assert f) g ls w e = absurd (no_assert (is_true (value_of (frame_values plain.program.globals proc locals) f)) g ls w e)
+  acts_fitting v a (stmt.Assert f) g ls w e = absurd (no_assert v (is_true (value_of (frame_values plain.program.globals proc locals) f)) g ls w e)
   acts_fitting v a _ g ls w e = absurd (cc)
 
 -- ---- the choices that have variables

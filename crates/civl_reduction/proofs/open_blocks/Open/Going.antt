@@ -20,11 +20,12 @@ use Rattle.civl_meaning.specs.declared.config.Plain.{Plain}
 use Rattle.civl_meaning.specs.declared.config.Activation.{Activation}
 use Rattle.civl_meaning.specs.declared.config.Running.{Running}
 use Rattle.civl_meaning.specs.declared.config.Stepped.TheVariants as answer
+use Rattle.civl_meaning.specs.declared.config.State.{State}
 use Rattle.civl_meaning.specs.declared.config.Change.{Change}
 use Rattle.civl_meaning.specs.declared.config.Change.TheVariants.{Stays, Goes, Acts, Enters, Leaves, Spawns}
 use Rattle.civl_meaning.specs.Places.{Spot, spot_at}
 use Rattle.civl_meaning.specs.Rest.{rest_at}
-use Rattle.civl_meaning.specs.Change.{spot_change, proc_change, state_change, change_of, caller_of}
+use Rattle.civl_meaning.specs.Change.{done_by, spot_doing, proc_doing, state_doing, change_of, caller_of}
 use Rattle.civl_meaning.specs.Config.{frame_sorts, StateIsSorted, moved_frame}
 use Rattle.civl_meaning.specs.Layers.{program_at}
 use Rattle.civl_meaning.proofs.Rests.{spot_of_rest}
@@ -86,9 +87,9 @@ module _ (program : Program) (step q : ℕ) (proc : Proc) (thread : Running) (fr
   -- what a thread does is what its topmost frame does
   pub thread_does : (g : Store) (values : List Value) (s : Spot) → spot_at proc.body frame.place ≡ Some s → change_of plain g values thread ≡ frame_does program step proc g values frame s
   thread_does g values s e =
-      ap (state_change plain g values thread) top.inside
-      ∙ ap (proc_change plain g values (caller_of top.below) frame) its_proc
-      ∙ ap (spot_change plain g values (caller_of top.below) frame proc) e
+      ap (λ (x : State). done_by plain g values (state_doing plain thread x)) top.inside
+      ∙ ap (λ (x : Option Proc). done_by plain g values (proc_doing plain (caller_of top.below) frame x)) its_proc
+      ∙ ap (λ (x : Option Spot). done_by plain g values (spot_doing plain (caller_of top.below) frame proc x)) e
 
   -- the frame's locals have their sorts
   pub frame_sorted : HaveSorts frame.locals (frame_sorts proc)

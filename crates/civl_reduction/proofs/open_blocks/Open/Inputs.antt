@@ -29,7 +29,8 @@ use Rattle.civl_meaning.specs.declared.config.Stepped.TheVariants as answer
 use Rattle.civl_meaning.specs.declared.config.Change.{Change}
 use Rattle.civl_meaning.specs.declared.config.Change.TheVariants.{Stays, Goes, Acts}
 use Rattle.civl_meaning.specs.Meaning.{Meaning, Does, Runs, Missing, called}
-use Rattle.civl_meaning.specs.Change.{with_results, acted, call_change, layer_change}
+use Rattle.civl_meaning.specs.Change.{with_results, acted, done_by, call_doing, statement_doing}
+use Rattle.civl_meaning.specs.Change as does
 use Rattle.civl_linear.specs.LinearRules.{linear_rules, assigned_rule}
 use Rattle.civl_linear.specs.Places.{is_param, may_get, call_misgiven, form_assigned, stmt_assigned}
 use Rattle.civl_reduction.proofs.permissions.Results.{set_kept, results_kept}
@@ -44,9 +45,9 @@ module _ (proc : Proc) (locals : List Value) where
   abbrev ResultsStay : List Name → Type 0
   ResultsStay rs = (outs : List Value) → take (length proc.params) (with_results (names_in_proc proc) locals rs outs) ≡ take (length proc.params) locals
 
-  by_assert : (b : Bool) (p : ℕ) → InputsStay (if b then Goes locals p else Stays answer.Failing)
-  by_assert true p = refl
-  by_assert false p = tt
+  by_assert : (plain : Plain) (store : Store) (chosen : List Value) (b : Bool) (p : ℕ) → InputsStay (done_by plain store chosen (if b then does.Goes locals p else does.Fails))
+  by_assert plain store chosen true p = refl
+  by_assert plain store chosen false p = tt
 
   by_fired : (rs : List Name) (p : ℕ) (f : Fired) → ResultsStay rs → InputsStay (acted (names_in_proc proc) locals rs p f)
   by_fired rs p fire.GateFalse h = tt
@@ -58,7 +59,7 @@ module _ (proc : Proc) (locals : List Value) where
   by_tests true false rs p f h = tt
   by_tests false fit rs p f h = tt
 
-  by_call : (plain : Plain) (store : Store) (chosen : List Value) (m : Meaning) (rs : List Name) (args : List Value) (n p : ℕ) → ResultsStay rs → InputsStay (call_change plain store chosen (names_in_proc proc) locals rs n p m args)
+  by_call : (plain : Plain) (store : Store) (chosen : List Value) (m : Meaning) (rs : List Name) (args : List Value) (n p : ℕ) → ResultsStay rs → InputsStay (done_by plain store chosen (call_doing (names_in_proc proc) locals rs n p m args))
   by_call plain store chosen (Does action) rs args n p h = by_tests (gate_holds plain.program.globals store action args) (choices_fit action chosen) rs p (fired plain.program.globals store action args chosen) h
   by_call plain store chosen (Runs number callee) rs args n p h = tt
   by_call plain store chosen Missing rs args n p h = tt
@@ -70,9 +71,9 @@ module _ (proc : Proc) (locals : List Value) where
       results_kept proc signature.outs rs outs locals (eqb-true (length rs) (length signature.outs) (not-false (nat_eq (length rs) (length signature.outs)) counts.1)) m
 
   module _ (program : Program) (plain : Plain) (store : Store) (chosen : List Value) (n p : ℕ) where
-    by_form : (d : stmt.Stmt-F Stmt) → form_assigned program proc d ≡ false → form_unknown program proc d ≡ false → form_arity program d ≡ false → plain.program ≡ program → InputsStay (layer_change plain store chosen proc locals n p d)
+    by_form : (d : stmt.Stmt-F Stmt) → form_assigned program proc d ≡ false → form_unknown program proc d ≡ false → form_arity program d ≡ false → plain.program ≡ program → InputsStay (done_by plain store chosen (statement_doing plain proc locals n p d))
     by_form (stmt.Assign x e) g u a same = set_kept proc x locals (value_of (frame_values plain.program.globals proc locals) e) (or_parts (may_get proc x) (is_param proc x) g).1
-    by_form (stmt.Assert e) g u a same = by_assert (is_true (value_of (frame_values plain.program.globals proc locals) e)) p
+    by_form (stmt.Assert e) g u a same = by_assert plain store chosen (is_true (value_of (frame_values plain.program.globals proc locals) e)) p
     by_form (stmt.Call f es rs) g u a same =
         by_call plain store chosen (called plain f) rs (values_of (frame_values plain.program.globals proc locals) es) n p
         (results_stay es rs (callee_signature program f) (or_parts (is_none (callee_signature program f)) _ u).0 a g)
@@ -84,7 +85,7 @@ module _ (proc : Proc) (locals : List Value) where
 
 -- a step of this procedure's frame
 pub inputs_stay : (program : Program) (layered : Keeps typing_rules program) (linear : Keeps linear_rules program) (q : ℕ) (proc : Proc) → slice_get program.procs q ≡ Some proc → (number : ℕ) (s : Stmt) → statement_at proc.body number ≡ Some s
-    → (plain : Plain) → plain.program ≡ program → (store : Store) (chosen locals : List Value) (n p : ℕ) → InputsStay proc locals (layer_change plain store chosen proc locals n p (out-Stmt s))
+    → (plain : Plain) → plain.program ≡ program → (store : Store) (chosen locals : List Value) (n p : ℕ) → InputsStay proc locals (done_by plain store chosen (statement_doing plain proc locals n p (out-Stmt s)))
 inputs_stay program layered linear q proc there number s at plain same store chosen locals n p =
     by_form proc locals program plain store chosen n p (out-Stmt s)
     (statement_kept linear_rules program linear assigned_rule (3, omega arith, refl) (stmt_assigned program proc) q proc there refl number s at)

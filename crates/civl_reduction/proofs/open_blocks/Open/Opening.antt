@@ -16,7 +16,7 @@ use Rattle.civl_meaning.specs.declared.config.Running.{Running}
 use Rattle.civl_meaning.specs.declared.config.Change.TheVariants.{Goes}
 use Rattle.civl_meaning.specs.Places.{Spot, spot_at}
 use Rattle.civl_meaning.specs.Rest.{rest_at, place_in, head_of}
-use Rattle.civl_meaning.specs.Change.{layer_change, change_of}
+use Rattle.civl_meaning.specs.Change.{done_by, statement_doing, change_of}
 use Rattle.civl_meaning.specs.Layers.{program_at}
 use Rattle.civl_meaning.proofs.Rests.{spot_of_rest}
 use Rattle.civl_layers.specs.declared.cut.Cut.{Cut}
@@ -95,7 +95,7 @@ head_number n m (stmt.RankLoop t r i a) e = same_Some n m e
 head_number n m _ e = absurd (none-some m e)
 
 -- its step goes on with the same locals, whatever the store and the choices
-loop_goes : (plain : Plain) (proc : Proc) (locals : List Value) (n p m : ℕ) (d : stmt.Stmt-F Stmt) → layer_head n d ≡ Some m → (w : ℕ) × ((store : Store) (v : List Value) → layer_change plain store v proc locals n p d ≡ Goes locals w)
+loop_goes : (plain : Plain) (proc : Proc) (locals : List Value) (n p m : ℕ) (d : stmt.Stmt-F Stmt) → layer_head n d ≡ Some m → (w : ℕ) × ((store : Store) (v : List Value) → done_by plain store v (statement_doing plain proc locals n p d) ≡ Goes locals w)
 loop_goes plain proc locals n p m (stmt.YieldLoop t i a) e = (_, λ store v. refl)
 loop_goes plain proc locals n p m (stmt.RankLoop t r i a) e = (_, λ store v. refl)
 loop_goes plain proc locals n p m _ e = absurd (none-some m e)
@@ -119,7 +119,7 @@ module _ (program : Program) (step q c : ℕ) (proc : Proc) (cut : Cut) (b : Beg
   number_is : s.number ≡ cut.statement
   number_is = head_number s.number cut.statement (out-Stmt s.stmt) head
 
-  goes : (w : ℕ) × ((store : Store) (v : List Value) → layer_change plain store v proc b.locals s.number s.next (out-Stmt s.stmt) ≡ Goes b.locals w)
+  goes : (w : ℕ) × ((store : Store) (v : List Value) → done_by plain store v (statement_doing plain proc b.locals s.number s.next (out-Stmt s.stmt)) ≡ Goes b.locals w)
   goes = loop_goes plain proc b.locals s.number s.next cut.statement (out-Stmt s.stmt) head
 
   abbrev place : ℕ
@@ -127,7 +127,7 @@ module _ (program : Program) (step q c : ℕ) (proc : Proc) (cut : Cut) (b : Beg
 
   frame_goes : frame_does program step proc store values frame s ≡ Goes frame.locals place
   frame_goes =
-      subst (λ (ls : List Value). layer_change plain store values proc ls s.number s.next (out-Stmt s.stmt) ≡ Goes ls place) same (goes.1 store values)
+      subst (λ (ls : List Value). done_by plain store values (statement_doing plain proc ls s.number s.next (out-Stmt s.stmt)) ≡ Goes ls place) same (goes.1 store values)
 
   spot_there : spot_at proc.body cut.statement ≡ Some s
   spot_there = ap (spot_at proc.body) (sym number_is) ∙ spot_again proc.body frame.place s there
@@ -148,8 +148,8 @@ module _ (program : Program) (step q c : ℕ) (proc : Proc) (cut : Cut) (b : Beg
   ahead =
       let split : Split proc.body s = head_splits proc.body (rest_at proc.body frame.place) s (rest_belongs proc.body frame.place) (rest_onward proc.body frame.place) (sym (spot_of_rest proc.body frame.place) ∙ there) in
       let forth = forward plain b.store values proc b.locals s.number s.stmt split.behind split.belongs split.onward (out-Stmt s.stmt) refl in
-      let moved : GoesForward proc.body s.number (layer_change plain b.store values proc b.locals s.number s.next (out-Stmt s.stmt)) =
-      subst (λ (p : ℕ). GoesForward proc.body s.number (layer_change plain b.store values proc b.locals s.number p (out-Stmt s.stmt))) (sym split.next) forth in
+      let moved : GoesForward proc.body s.number (done_by plain b.store values (statement_doing plain proc b.locals s.number s.next (out-Stmt s.stmt))) =
+      subst (λ (p : ℕ). GoesForward proc.body s.number (done_by plain b.store values (statement_doing plain proc b.locals s.number p (out-Stmt s.stmt)))) (sym split.next) forth in
       subst (λ (n : ℕ). IsNotBelow (n + 1) (spot_at proc.body place)) number_is (subst (GoesForward proc.body s.number) (goes.1 b.store values) moved)
 
   pub in_loop : OpensInLoop program step q c proc cut b store frame (change_of plain store values thread)

@@ -1,6 +1,6 @@
 use Rattle.std.proofs.Common.{◌≡◌, ◌+◌, ◌≤◌, length, drop}
 use Rattle.civl_meaning.specs.Run.{run_of}
-use Rattle.civl_reduction.specs.Ends.{end_by}
+use Rattle.civl_reduction.specs.inner.Ends.{end_by}
 use Rattle.civl_reduction.proofs.running.end_of.Given as goal
 
 abbrev pub invariant-loop-chosen : goal.invariant-loop-chosen

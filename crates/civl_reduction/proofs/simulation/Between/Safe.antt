@@ -12,14 +12,15 @@ use Rattle.civl_tree.specs.declared.stmt.Stmt.TheOpen as stmt
 use Rattle.civl_firing.specs.declared.store.Store.{Store}
 use Rattle.civl_meaning.specs.declared.config.Plain.{Plain}
 use Rattle.civl_meaning.specs.declared.config.Activation.{Activation}
+use Rattle.civl_meaning.specs.declared.config.State.{State}
 use Rattle.civl_meaning.specs.declared.config.Running.{Running}
 use Rattle.civl_meaning.specs.declared.config.Stepped.TheVariants as answer
 use Rattle.civl_meaning.specs.declared.config.Change.{Change}
 use Rattle.civl_meaning.specs.declared.config.Change.TheVariants.{Stays, Goes, Acts, Enters, Leaves, Spawns}
 use Rattle.civl_meaning.specs.Places.{Spot, spot_at}
 use Rattle.civl_meaning.specs.Rest.{rest_at}
-use Rattle.civl_meaning.specs.Change.{change_of}
-use Rattle.civl_meaning.specs.Failing.{layer_fails, spot_fails, proc_fails, state_fails, thread_fails, answers_failing}
+use Rattle.civl_meaning.specs.Change.{statement_doing, spot_doing, proc_doing, state_doing, caller_of, change_of}
+use Rattle.civl_meaning.specs.Failing.{fails_at, thread_fails, answers_failing}
 use Rattle.civl_meaning.specs.Layers.{program_at}
 use Rattle.civl_meaning.proofs.Failures.{failing_is_answered}
 use Rattle.civl_layers.specs.declared.cut.Cut.{Cut}
@@ -33,10 +34,10 @@ use Rattle.civl_reduction.proofs.staged.Measures.Nearing.{none_or}
 use Rattle.civl_reduction.proofs.staged.Opened.Forms.{no_yield}
 
 -- a loop doesn't fail
-pub head_fails_not : (plain : Plain) (g : Store) (proc : Proc) (ls : List Value) (n m : ℕ) (d : stmt.Stmt-F Stmt) → layer_head n d ≡ Some m → layer_fails plain g proc ls d ≡ false
-head_fails_not plain g proc ls n m (stmt.YieldLoop t i a) e = refl
-head_fails_not plain g proc ls n m (stmt.RankLoop t r i a) e = refl
-head_fails_not plain g proc ls n m _ e = absurd (none-some m e)
+pub head_fails_not : (plain : Plain) (g : Store) (proc : Proc) (ls : List Value) (n next m : ℕ) (d : stmt.Stmt-F Stmt) → layer_head n d ≡ Some m → fails_at plain g (statement_doing plain proc ls n next d) ≡ false
+head_fails_not plain g proc ls n next m (stmt.YieldLoop t i a) e = refl
+head_fails_not plain g proc ls n next m (stmt.RankLoop t r i a) e = refl
+head_fails_not plain g proc ls n next m _ e = absurd (none-some m e)
 
 -- nor what stays open
 stays_fails_not : (program : Program) (step q c : ℕ) (proc : Proc) (cut : Cut) (b : Begun) (bound : ℕ) (here : Standing) (store : Store) (frame : Activation) (s : Spot) (values : List Value) (x : Change) → StepStaysOpen program step q c proc cut b bound here store frame s values x → answers_failing x ≡ false
@@ -57,11 +58,11 @@ module _ (program : Program) (layer q : ℕ) (proc : Proc) (store : Store) (fram
   abbrev plain : Plain
   plain = program_at program layer
 
-  pub fails_there : (u : Option Spot) → spot_at proc.body frame.place ≡ u → thread_fails plain store thread ≡ spot_fails plain store frame proc u
+  pub fails_there : (u : Option Spot) → spot_at proc.body frame.place ≡ u → thread_fails plain store thread ≡ fails_at plain store (spot_doing plain (caller_of top.below) frame proc u)
   fails_there u e =
-      ap (state_fails plain store thread) top.inside
-      ∙ ap (proc_fails plain store frame) (ap (slice_get program.procs) top.procedure ∙ there)
-      ∙ ap (spot_fails plain store frame proc) e
+      ap (λ (x : State). fails_at plain store (state_doing plain thread x)) top.inside
+      ∙ ap (λ (o : Option Proc). fails_at plain store (proc_doing plain (caller_of top.below) frame o)) (ap (slice_get program.procs) top.procedure ∙ there)
+      ∙ ap (λ (o : Option Spot). fails_at plain store (spot_doing plain (caller_of top.below) frame proc o)) e
 
   module _ (c : ℕ) (cut : Cut) (b : Begun) (bound : ℕ) (here : Standing) (sound : IsSound program) (opened : IsOpen program (layer + 1) q c proc cut b bound here store frame) (inside : at_yield (rest_at proc.body here.place) ≡ false) where
     low : layer + 1 - 1 ≡ layer
@@ -79,7 +80,7 @@ module _ (program : Program) (layer q : ℕ) (proc : Proc) (store : Store) (fram
     at_head : (p : Spot) → spot_at proc.body frame.place ≡ Some p → (number : ℕ) → cut_ahead proc.body here.place ≡ Some number → thread_fails plain store thread ≡ false
     at_head p e number ahead =
         let head = none_or (yield_before (rest_at proc.body here.place)) (head_there (spot_at proc.body here.place)) number (no_yield (rest_at proc.body here.place) inside) ahead in
-        fails_there (Some p) e ∙ head_fails_not plain store proc frame.locals p.number number (out-Stmt p.stmt) (sym (ap head_there (opened.follows.alike.spot ∙ e)) ∙ head)
+        fails_there (Some p) e ∙ head_fails_not plain store proc frame.locals p.number p.next number (out-Stmt p.stmt) (sym (ap head_there (opened.follows.alike.spot ∙ e)) ∙ head)
 
     by_ahead : (p : Spot) → spot_at proc.body frame.place ≡ Some p → (u : Option ℕ) → cut_ahead proc.body here.place ≡ u → thread_fails plain store thread ≡ false
     by_ahead p e None ahead = away p e ahead

@@ -76,7 +76,7 @@ module _ (keep : ActionsKeepPermissions) (program : Program) (layer : ℕ) (stor
       ∙ (skips_head (sizes_of f.0.body) (rest_of f) ((n, st) ∷ k) w.skips
       ∙ ap (λ (x : Bool). if◌then◌else◌ {A = Option Spot} x (head_of (sizes_of f.0.body) k) (Some (record { number = n; stmt = st; next = place_in (sizes_of f.0.body) k }))) shown) in
       fails_there program layer f.1.procedure f.0 s.config.store f.1 thread top.of.there is_top (Some (record { number = n; stmt = st; next = place_in (sizes_of f.0.body) k })) spot
-      ∙ head_fails_not (program_at program layer) s.config.store f.0 f.1.locals n n (out-Stmt st) head
+      ∙ head_fails_not (program_at program layer) s.config.store f.0 f.1.locals n (place_in (sizes_of f.0.body) k) n (out-Stmt st) head
 
   at_end : ChainEnds nothing_said program layer s t f → Safe
   at_end (inl x) =

@@ -15,7 +15,7 @@ use Rattle.civl_meaning.specs.declared.config.State.{State}
 use Rattle.civl_meaning.specs.declared.config.State.TheVariants.{Before, Inside, After}
 use Rattle.civl_meaning.specs.declared.config.Running.{Running}
 use Rattle.civl_meaning.specs.declared.config.Change.TheVariants as change
-use Rattle.civl_meaning.specs.Change.{with_results, new_frame, caller_of, outs_in}
+use Rattle.civl_meaning.specs.Change.{with_results, new_frame, caller_of, outs_in, Doing, leaving, doing}
 use Rattle.civl_meaning.specs.Config.{IsOf, ThreadIsSorted, IsStacked}
 use Rattle.civl_meaning.specs.Layers.{program_at}
 use Rattle.civl_meaning.specs.Step.{goes_on, state_after, thread_after}
@@ -23,8 +23,7 @@ use Rattle.civl_layers.proofs.PlainPrograms.{layered_is_plain}
 use Rattle.civl_conditions.specs.Assumed.{inputs_of}
 use Rattle.civl_reduction.specs.interleavings.Runs.{Opens}
 use Rattle.civl_reduction.specs.interleavings.Threads.{Threads, Config, Move, Outcome, inside_in, step_of}
-use Rattle.civl_reduction.specs.exchanges.Doing.{Doing, leaving, doing}
-use Rattle.civl_reduction.specs.exchanges.Doing as does
+use Rattle.civl_meaning.specs.Change as does
 use Rattle.civl_reduction.specs.exchanges.Interleavings.{Chosen, Call}
 use Rattle.civl_reduction.specs.checked.Checked.{IsChecked}
 use Rattle.civl_reduction.specs.blocks.Blocks.{framed_state, frame_of_layer, block_in, inside}

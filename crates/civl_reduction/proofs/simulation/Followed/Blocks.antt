@@ -10,14 +10,13 @@ use Rattle.civl_meaning.specs.declared.config.Plain.{Plain}
 use Rattle.civl_meaning.specs.declared.config.Activation.{Activation}
 use Rattle.civl_meaning.specs.declared.config.Config as meaning
 use Rattle.civl_meaning.specs.declared.config.Running.{Running}
-use Rattle.civl_meaning.specs.Change.{new_frame, outs_in}
+use Rattle.civl_meaning.specs.Change.{new_frame, outs_in, doing}
 use Rattle.civl_meaning.specs.Config.{IsOf}
 use Rattle.civl_meaning.specs.Layers.{program_at}
 use Rattle.civl_conditions.specs.Assumed.{inputs_of}
 use Rattle.civl_conditions.specs.footprints.Agreement.{StoresAgree, exists_at}
-use Rattle.civl_reduction.specs.interleavings.Runs.{RunsTo, Opens}
+use Rattle.civl_reduction.specs.interleavings.Runs.{SystemRuns, Opens}
 use Rattle.civl_reduction.specs.interleavings.Threads.{Threads, Config, Move, stepping_of, step_of}
-use Rattle.civl_reduction.specs.exchanges.Doing.{doing}
 use Rattle.civl_reduction.specs.exchanges.Interleavings.{Chosen, Call, as_config}
 use Rattle.civl_reduction.specs.permissions.Apart.{SpawnsStandInRoots}
 use Rattle.civl_reduction.specs.checked.Checked.{IsChecked}
@@ -126,7 +125,7 @@ module _ (program : Program) (layer : ℕ) (store : Store) (k : IsChecked progra
       before_is = before ≡ sight_before program layer s m.thread (frame_at program (layer + 1) s.config.threads m.thread)
 
       abbrev pub Met : Type 0
-      Met = (ns : List (Move Chosen)) × (y : Config Store Running) × RunsTo (stepping_of Q) ns (as_config x) y × MeetsBeside program layer to (plain_config y)
+      Met = (ns : List (Move Chosen)) × (y : Config Store Running) × SystemRuns (stepping_of Q) ns (as_config x) y × MeetsBeside program layer to (plain_config y)
           × HowFollowed program layer store k roots picked s last to m ns
 
       -- it ended at a yield

@@ -15,17 +15,16 @@ use Rattle.civl_meaning.specs.declared.config.Activation.{Activation}
 use Rattle.civl_meaning.specs.declared.config.Config as meaning
 use Rattle.civl_meaning.specs.declared.config.Running.{Running}
 use Rattle.civl_meaning.specs.declared.config.Change.TheVariants as change
-use Rattle.civl_meaning.specs.Change.{with_results}
+use Rattle.civl_meaning.specs.Change.{with_results, Doing, doing}
 use Rattle.civl_meaning.specs.Config.{IsOf}
 use Rattle.civl_meaning.specs.Layers.{program_at}
 use Rattle.civl_meaning.specs.Step.{thread_after}
 use Rattle.civl_conditions.specs.footprints.Agreement.{StoresAgree, exists_at}
 use Rattle.civl_conditions.proofs.footprints.Keeping.{agree_back, agree_then}
 use Rattle.civl_conditions.specs.Assumed.{inputs_of}
-use Rattle.civl_reduction.specs.interleavings.Runs.{RunsTo}
+use Rattle.civl_reduction.specs.interleavings.Runs.{SystemRuns}
 use Rattle.civl_reduction.specs.interleavings.Threads.{Threads, Config, Move, stepping_of, outcome, config_with, step_of}
-use Rattle.civl_reduction.specs.exchanges.Doing.{Doing, doing}
-use Rattle.civl_reduction.specs.exchanges.Doing as does
+use Rattle.civl_meaning.specs.Change as does
 use Rattle.civl_reduction.specs.exchanges.Interleavings.{Chosen, Call, whole, as_config}
 use Rattle.civl_reduction.specs.permissions.Apart.{SpawnsStandInRoots}
 use Rattle.civl_reduction.specs.checked.Checked.{IsChecked}
@@ -70,7 +69,7 @@ module _ (program : Program) (layer : ℕ) (store : Store) (k : IsChecked progra
   pub record Followed (picked : List Value → Type 0) (x : meaning.Config) (t : ℕ) (caller : Running) (before after : Sight) : Type 0 where
     pub moves : List (Move Chosen)
     pub end : Config Store Running
-    pub runs : RunsTo (stepping_of Q) moves (as_config x) end
+    pub runs : SystemRuns (stepping_of Q) moves (as_config x) end
     pub of_upper : IsOf upper (plain_config end)
     pub near : StoresAgree (exists_at (layer + 1)) program.globals after.store end.store
     pub others : OthersSame t x.threads end.threads

@@ -14,7 +14,7 @@ use Rattle.civl_meaning.specs.declared.config.Plain.{Plain}
 use Rattle.civl_meaning.specs.declared.config.Activation.{Activation}
 use Rattle.civl_meaning.specs.declared.config.Config as meaning
 use Rattle.civl_meaning.specs.declared.config.Running.{Running}
-use Rattle.civl_meaning.specs.Change.{new_frame}
+use Rattle.civl_meaning.specs.Change.{new_frame, Doing, doing}
 use Rattle.civl_meaning.specs.Config.{ThreadIsSorted, IsStacked}
 use Rattle.civl_meaning.specs.Layers.{program_at}
 use Rattle.civl_layers.proofs.PlainPrograms.{layered_is_plain}
@@ -23,8 +23,7 @@ use Rattle.civl_conditions.specs.Steps.{has_layer}
 use Rattle.civl_conditions.specs.Assumed.{refined_action, inputs_of}
 use Rattle.civl_reduction.specs.interleavings.Systems.{Failing}
 use Rattle.civl_reduction.specs.interleavings.Threads.{Threads, stepping_of, doing_fails, fails_in}
-use Rattle.civl_reduction.specs.exchanges.Doing.{Doing, doing}
-use Rattle.civl_reduction.specs.exchanges.Doing as does
+use Rattle.civl_meaning.specs.Change as does
 use Rattle.civl_reduction.specs.exchanges.Interleavings.{Chosen, Call, whole, as_config}
 use Rattle.civl_reduction.specs.permissions.Apart.{SpawnsStandInRoots}
 use Rattle.civl_reduction.specs.checked.Checked.{IsChecked}

@@ -14,14 +14,12 @@ use Rattle.civl_firing.specs.values.Values.{HaveSorts}
 use Rattle.civl_firing.proofs.Having.{have_length}
 use Rattle.civl_meaning.specs.declared.config.Plain.{Plain}
 use Rattle.civl_meaning.specs.declared.config.Running.{Running}
-use Rattle.civl_meaning.specs.Change.{new_frame}
+use Rattle.civl_meaning.specs.Change.{new_frame, Doing, done_by, doing}
 use Rattle.civl_meaning.specs.Config.{IsPlain, frame_sorts, HasLocals, ThreadIsSorted, IsStacked}
 use Rattle.civl_soundness.proofs.Fitting.{Fits}
 use Rattle.civl_soundness.proofs.Changing.{change_fits}
 use Rattle.civl_conditions.specs.Assumed.{inputs_of}
-use Rattle.civl_reduction.specs.exchanges.Doing.{Doing, done_by, doing}
-use Rattle.civl_reduction.specs.exchanges.Doing as does
-use Rattle.civl_reduction.proofs.exchanges.Changes.{change_is}
+use Rattle.civl_meaning.specs.Change as does
 
 -- the locals of a frame have the number of the arguments, the outputs and the locals
 count_is : (proc : Proc) (args : List Value) → HaveSorts (args ++ (zeros_of_params proc.outs ++ zeros_of_locals proc.locals)) (frame_sorts proc) → length args ≡ length proc.params
@@ -50,7 +48,7 @@ count_is proc args h =
 pub entered_inputs : (plain : Plain) → IsPlain plain → (store : Store) → IsStore plain.program.globals store → (thread : Running) → ThreadIsSorted plain thread → IsStacked plain thread
     → (number : ℕ) (proc : Proc) (args : List Value) (place : ℕ) → slice_get plain.program.procs number ≡ Some proc → doing plain thread ≡ does.Enters (new_frame number proc args) place → inputs_of proc (new_frame number proc args).locals ≡ args
 entered_inputs plain ok store fits thread sorted stacked number proc args place there e =
-    let change : Fits plain thread.state (done_by plain store [] (doing plain thread)) = subst (Fits plain thread.state) (change_is plain store [] thread) (change_fits plain ok store fits [] (All-nil IsValue) thread sorted stacked) in
+    let change : Fits plain thread.state (done_by plain store [] (doing plain thread)) = change_fits plain ok store fits [] (All-nil IsValue) thread sorted stacked in
     let has : HasLocals plain (new_frame number proc args) = subst (λ (D : Doing). Fits plain thread.state (done_by plain store [] D)) e change in
     let same : has.proc ≡ proc = same_Some has.proc proc (sym has.there ∙ there) in
     take_at args (zeros_of_params proc.outs ++ zeros_of_locals proc.locals) (length proc.params) (count_is proc args (subst (λ (p : Proc). HaveSorts (new_frame number proc args).locals (frame_sorts p)) same has.locals))

@@ -15,7 +15,7 @@ use Rattle.civl_meaning.specs.declared.config.Running.{Running}
 use Rattle.civl_meaning.specs.Config.{IsOf, ThreadIsSorted, IsStacked}
 use Rattle.civl_meaning.specs.Layers.{program_at}
 use Rattle.civl_soundness.proofs.Fitting.{all_at}
-use Rattle.civl_reduction.specs.interleavings.Runs.{RunsTo, Opens}
+use Rattle.civl_reduction.specs.interleavings.Runs.{SystemRuns, Opens}
 use Rattle.civl_reduction.specs.interleavings.Threads.{Threads, Config, Move, inside_in, stepping_of, step_of}
 use Rattle.civl_reduction.specs.exchanges.Interleavings.{Chosen, Call, as_config}
 use Rattle.civl_reduction.specs.permissions.Apart.{SpawnsStandInRoots}
@@ -55,7 +55,7 @@ module _ (program : Program) (layer : ℕ) (store : Store) (k : IsChecked progra
   module _ (s : Shadowed) (x : meaning.Config) (meets : MeetsBeside program layer s x) (m : Move Chosen) (c d : Config Store Running) (leads : s.config ≡ plain_config c) (picked : Proc × Activation → List Value → Type 0) where
     abbrev Follows : List (Move Chosen) → Type 0
     Follows ms =
-        (ns : List (Move Chosen)) × (y : Config Store Running) × RunsTo (stepping_of Q) ns (as_config x) y
+        (ns : List (Move Chosen)) × (y : Config Store Running) × SystemRuns (stepping_of Q) ns (as_config x) y
         × MeetsBeside program layer (shadowed_step program layer (shadowed_from program layer (map plain_move ms) s) (plain_move m)) (plain_config y)
         × HowFollowed program layer store k roots picked s (shadowed_from program layer (map plain_move ms) s) (shadowed_step program layer (shadowed_from program layer (map plain_move ms) s) (plain_move m)) m ns
 

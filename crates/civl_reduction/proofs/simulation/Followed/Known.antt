@@ -21,9 +21,8 @@ use Rattle.civl_meaning.specs.declared.config.State.TheVariants.{Before, Inside,
 use Rattle.civl_meaning.specs.declared.config.Running.{Running}
 use Rattle.civl_meaning.specs.Places.{Spot, spot_at}
 use Rattle.civl_meaning.specs.Meaning.{Meaning, Does, Runs, Missing, proc_number, meaning_of, meaning_else, called}
-use Rattle.civl_meaning.specs.Change.{caller_of, outs_in}
-use Rattle.civl_reduction.specs.exchanges.Doing.{Doing, call_doing, layer_doing, leaving, spot_doing, proc_doing, state_doing, doing}
-use Rattle.civl_reduction.specs.exchanges.Doing as does
+use Rattle.civl_meaning.specs.Change.{caller_of, outs_in, Doing, call_doing, statement_doing, leaving, spot_doing, proc_doing, state_doing, doing}
+use Rattle.civl_meaning.specs.Change as does
 use Rattle.civl_reduction.proofs.permissions.Meant.{does_by, does_refined}
 
 abbrev pub IsThere : Program → Action → Type 0
@@ -60,7 +59,7 @@ module _ (plain : Plain) where
   assert_known true ls next = tt
   assert_known false ls next = tt
 
-  layer_known : (p : Proc) (ls : List Value) (at next : ℕ) (d : stmt.Stmt-F Stmt) → Known plain.program (layer_doing plain p ls at next d)
+  layer_known : (p : Proc) (ls : List Value) (at next : ℕ) (d : stmt.Stmt-F Stmt) → Known plain.program (statement_doing plain p ls at next d)
   layer_known p ls at next (stmt.Assert e) = assert_known (is_true (value_of (frame_values plain.program.globals p ls) e)) ls next
   layer_known p ls at next (stmt.Call f es rs) = call_known (names_in_proc p) ls rs at next (called plain f) (values_of (frame_values plain.program.globals p ls) es) (λ a e. name_there f a e)
   layer_known p ls at next (stmt.Spawn f es) = refl

@@ -17,7 +17,7 @@ use Rattle.civl_meaning.specs.declared.config.State.TheVariants.{Before}
 use Rattle.civl_meaning.specs.declared.config.Running.{Running}
 use Rattle.civl_meaning.specs.declared.config.Stepped.{Stepped}
 use Rattle.civl_meaning.specs.declared.config.Change.TheVariants as change
-use Rattle.civl_meaning.specs.Change.{with_results, new_frame}
+use Rattle.civl_meaning.specs.Change.{with_results, new_frame, Doing, doing}
 use Rattle.civl_meaning.specs.Config.{IsOf, ThreadIsSorted, IsStacked}
 use Rattle.civl_meaning.specs.Layers.{program_at}
 use Rattle.civl_meaning.specs.Step.{thread_after}
@@ -28,8 +28,7 @@ use Rattle.civl_conditions.specs.footprints.Agreement.{StoresAgree, exists_at}
 use Rattle.civl_soundness.proofs.Fitting.{all_at}
 use Rattle.civl_soundness.proofs.Soundness.{step_is_of}
 use Rattle.civl_reduction.specs.interleavings.Threads.{Threads, Config, Move, Outcome, outcome, config_with, step_of}
-use Rattle.civl_reduction.specs.exchanges.Doing.{Doing, doing}
-use Rattle.civl_reduction.specs.exchanges.Doing as does
+use Rattle.civl_meaning.specs.Change as does
 use Rattle.civl_reduction.specs.exchanges.Interleavings.{Chosen, Call, whole, as_config}
 use Rattle.civl_reduction.proofs.exchanges.Exchanging.{steps_back}
 use Rattle.civl_reduction.specs.permissions.Apart.{SpawnsStandInRoots}

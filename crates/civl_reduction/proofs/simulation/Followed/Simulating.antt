@@ -23,7 +23,7 @@ use Rattle.civl_meaning.proofs.Begun.{start_is_of}
 use Rattle.civl_layers.proofs.PlainPrograms.{layered_is_plain}
 use Rattle.civl_conditions.specs.footprints.Agreement.{AgreeOn, exists_at}
 use Rattle.civl_reduction.specs.interleavings.Systems.{System, Failing}
-use Rattle.civl_reduction.specs.interleavings.Runs.{RunsTo, Staged, Opens}
+use Rattle.civl_reduction.specs.interleavings.Runs.{SystemRuns, Staged, Opens}
 use Rattle.civl_reduction.specs.interleavings.Threads.{Threads, Config, Move, stepping_of, fails_in}
 use Rattle.civl_reduction.proofs.interleavings.Simulating.{simulated}
 use Rattle.civl_reduction.specs.exchanges.Interleavings.{Chosen, Call, as_config}
@@ -102,7 +102,7 @@ module _ (spawns_are_in_roots : SpawnsAreInRoots) (program : Program) (layer : �
   -- ---- blocks
 
   follows : (ps ms : List (Move Chosen)) (m : Move Chosen) (c e d x : Config Store Running) → Staged S ps None c → MeetsAt ps c x → Opens S m.thread ms c e → S.step e m ≡ Some d → S.inside d m.thread ≡ false
-      → (ns : List (Move Chosen)) × (y : Config Store Running) × RunsTo (stepping_of Q) ns x y × MeetsAt (ps ++ (ms ++ m ∷ [])) d y
+      → (ns : List (Move Chosen)) × (y : Config Store Running) × SystemRuns (stepping_of Q) ns x y × MeetsAt (ps ++ (ms ++ m ∷ [])) d y
   follows ps ms m c e d x g meets o step out =
       let s = at_moves ps in
       let last = block_shadows program layer store ps ms in

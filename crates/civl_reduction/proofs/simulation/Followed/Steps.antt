@@ -10,11 +10,10 @@ use Rattle.civl_firing.specs.Fired.{gate_holds, choices_fit, fires}
 use Rattle.civl_meaning.specs.declared.config.Plain.{Plain}
 use Rattle.civl_meaning.specs.declared.config.Running.{Running}
 use Rattle.civl_meaning.specs.declared.config.Change.TheVariants as change
-use Rattle.civl_meaning.specs.Change.{with_results}
+use Rattle.civl_meaning.specs.Change.{with_results, Doing, doing}
 use Rattle.civl_meaning.specs.Step.{thread_after}
 use Rattle.civl_reduction.specs.interleavings.Threads.{Config, Move, Outcome, fired, outcome, config_with, step_in, step_of}
-use Rattle.civl_reduction.specs.exchanges.Doing.{Doing, doing}
-use Rattle.civl_reduction.specs.exchanges.Doing as does
+use Rattle.civl_meaning.specs.Change as does
 use Rattle.civl_reduction.specs.exchanges.Interleavings.{Chosen, whole, program_threads}
 
 -- the thread that moved, and its outcome

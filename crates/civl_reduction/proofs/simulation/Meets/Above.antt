@@ -24,13 +24,12 @@ use Rattle.civl_meaning.specs.declared.config.State.TheVariants.{Before, Inside,
 use Rattle.civl_meaning.specs.declared.config.Running.{Running}
 use Rattle.civl_meaning.specs.Places.{Spot, spot_at}
 use Rattle.civl_meaning.specs.Meaning.{Meaning, Does, Runs, Missing, proc_number, meaning_of_action, refined, meaning_by, meaning_of, meaning_else, called}
-use Rattle.civl_meaning.specs.Change.{caller_of, outs_in, new_frame}
+use Rattle.civl_meaning.specs.Change.{caller_of, outs_in, new_frame, Doing, call_doing, statement_doing, leaving, spot_doing, proc_doing, state_doing, doing}
 use Rattle.civl_meaning.specs.Layers.{means_body, program_at}
 use Rattle.civl_layers.specs.Layered.{IsLayered}
 use Rattle.civl_conditions.specs.Steps.{has_layer, refines_at}
 use Rattle.civl_conditions.specs.Assumed.{refined_action, inputs_of}
-use Rattle.civl_reduction.specs.exchanges.Doing.{Doing, call_doing, layer_doing, leaving, spot_doing, proc_doing, state_doing, doing}
-use Rattle.civl_reduction.specs.exchanges.Doing as does
+use Rattle.civl_meaning.specs.Change as does
 use Rattle.civl_reduction.specs.simulation.Alike.{CallsInstead}
 use Rattle.civl_reduction.specs.simulation.Meets.{WasCalled}
 use Rattle.civl_reduction.proofs.simulation.Meets.Meaning.{threads_do_alike}
@@ -95,7 +94,7 @@ module _ (program : Program) (layer : ℕ) where
   assert_other true ls next = tt
   assert_other false ls next = tt
 
-  layer_other : (p : Proc) (ls : List Value) (at next : ℕ) (d : stmt.Stmt-F Stmt) → EntersOther program layer (layer_doing plain p ls at next d)
+  layer_other : (p : Proc) (ls : List Value) (at next : ℕ) (d : stmt.Stmt-F Stmt) → EntersOther program layer (statement_doing plain p ls at next d)
   layer_other p ls at next (stmt.Assert e) = assert_other (is_true (value_of (frame_values program.globals p ls) e)) ls next
   layer_other p ls at next (stmt.Call f es rs) = call_other (names_in_proc p) ls rs at next (called plain f) (values_of (frame_values program.globals p ls) es) (name_other f)
   layer_other p ls at next _ = tt

@@ -22,14 +22,13 @@ use Rattle.civl_meaning.specs.declared.config.Change.TheVariants as change
 use Rattle.civl_meaning.specs.Places.{Spot, spot_at}
 use Rattle.civl_meaning.specs.Meaning.{Meaning, Does, Runs, Missing, called}
 use Rattle.civl_meaning.specs.Config.{IsBodyOf, LayerCalls, SpotCalls, ProcCalls, Waits, IsStacked, StateIsStacked}
-use Rattle.civl_meaning.specs.Change.{returned_at, returned_in, returned, caller_of, outs_in}
+use Rattle.civl_meaning.specs.Change.{returned_at, returned_in, returned, caller_of, outs_in, Doing, call_doing, statement_doing, leaving, spot_doing, proc_doing, state_doing, doing}
 use Rattle.civl_meaning.specs.Layers.{program_at}
 use Rattle.civl_meaning.specs.Step.{state_after, thread_after}
 use Rattle.civl_layers.specs.Layered.{IsLayered}
 use Rattle.civl_conditions.specs.Steps.{has_layer}
 use Rattle.civl_conditions.proofs.Layered.{layered_by}
-use Rattle.civl_reduction.specs.exchanges.Doing.{Doing, call_doing, layer_doing, leaving, spot_doing, proc_doing, state_doing, doing}
-use Rattle.civl_reduction.specs.exchanges.Doing as does
+use Rattle.civl_meaning.specs.Change as does
 use Rattle.civl_reduction.specs.blocks.Blocks.{framed_in, framed_state, frame_of_layer}
 use Rattle.civl_reduction.proofs.blocks.Standing.Below.{calls_no_body}
 use Rattle.civl_reduction.proofs.blocks.Standing.Spots.{stands_there}
@@ -62,7 +61,7 @@ module _ (plain : Plain) where
   assert_to below true ls next = tt
   assert_to below false ls next = tt
 
-  layer_to : (below : Option Activation) (p : Proc) (ls : List Value) (at next : ℕ) (d : stmt.Stmt-F Stmt) → LeavesTo plain below (layer_doing plain p ls at next d)
+  layer_to : (below : Option Activation) (p : Proc) (ls : List Value) (at next : ℕ) (d : stmt.Stmt-F Stmt) → LeavesTo plain below (statement_doing plain p ls at next d)
   layer_to below p ls at next (stmt.Assert e) = assert_to below (is_true (value_of (frame_values plain.program.globals p ls) e)) ls next
   layer_to below p ls at next (stmt.Call f es rs) = call_to below (names_in_proc p) ls rs at next (called plain f) (values_of (frame_values plain.program.globals p ls) es)
   layer_to below p ls at next _ = tt

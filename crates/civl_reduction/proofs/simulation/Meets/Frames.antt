@@ -10,7 +10,7 @@ use Rattle.civl_meaning.specs.declared.config.State.{State}
 use Rattle.civl_meaning.specs.declared.config.State.TheVariants.{Before, Inside, After}
 use Rattle.civl_meaning.specs.declared.config.Running.{Running}
 use Rattle.civl_meaning.specs.Places.{spot_at}
-use Rattle.civl_meaning.specs.Change.{caller_of, outs_in}
+use Rattle.civl_meaning.specs.Change.{caller_of, outs_in, leaving, spot_doing, proc_doing, state_doing, doing}
 use Rattle.civl_meaning.specs.declared.config.Change.TheVariants as change
 use Rattle.civl_meaning.specs.Layers.{program_at}
 use Rattle.civl_meaning.specs.Step.{state_after, thread_after}
@@ -18,8 +18,7 @@ use Rattle.civl_layers.specs.Layered.{IsLayered}
 use Rattle.civl_linear.specs.LinearRules.{linear_rules}
 use Rattle.civl_yields.specs.YieldRules.{yield_rules}
 use Rattle.civl_conditions.specs.Steps.{has_layer}
-use Rattle.civl_reduction.specs.exchanges.Doing.{leaving, spot_doing, proc_doing, state_doing, doing}
-use Rattle.civl_reduction.specs.exchanges.Doing as does
+use Rattle.civl_meaning.specs.Change as does
 use Rattle.civl_reduction.specs.blocks.Blocks.{framed_in, framed_state, frame_of_layer}
 use Rattle.civl_reduction.proofs.simulation.Meets.Inputs.{StaysIn, stays_in}
 

@@ -27,7 +27,7 @@ use Rattle.civl_meaning.specs.declared.config.Plain.{Plain}
 use Rattle.civl_meaning.specs.declared.config.Activation.{Activation}
 use Rattle.civl_meaning.specs.Places.{Spot, spot_at}
 use Rattle.civl_meaning.specs.Meaning.{Meaning, Does, Runs, Missing, called}
-use Rattle.civl_meaning.specs.Change.{with_results, outs_in}
+use Rattle.civl_meaning.specs.Change.{with_results, outs_in, Doing, call_doing, statement_doing, leaving, spot_doing}
 use Rattle.civl_meaning.specs.Layers.{program_at}
 use Rattle.civl_layers.specs.Layered.{IsLayered}
 use Rattle.civl_linear.specs.LinearRules.{linear_rules, assigned_rule}
@@ -36,8 +36,7 @@ use Rattle.civl_yields.specs.YieldRules.{yield_rules}
 use Rattle.civl_conditions.specs.Steps.{has_layer}
 use Rattle.civl_conditions.specs.Assumed.{inputs_of}
 use Rattle.civl_conditions.proofs.Layered.{layered_by}
-use Rattle.civl_reduction.specs.exchanges.Doing.{Doing, call_doing, layer_doing, leaving, spot_doing}
-use Rattle.civl_reduction.specs.exchanges.Doing as does
+use Rattle.civl_meaning.specs.Change as does
 use Rattle.civl_reduction.proofs.permissions.Results.{set_kept, results_kept}
 use Rattle.civl_reduction.proofs.blocks.Standing.Below.{calls_no_body}
 use Rattle.civl_reduction.proofs.blocks.Standing.Going.{roots_alone}
@@ -93,7 +92,7 @@ module _ (program : Program) (layer : ℕ) (src : IsLayered program) (linear : K
     by_assert true = refl
     by_assert false = tt
 
-    by_form : (d : stmt.Stmt-F Stmt) → out-Stmt s ≡ d → StaysIn proc locals away (layer_doing plain proc locals place next d)
+    by_form : (d : stmt.Stmt-F Stmt) → out-Stmt s ≡ d → StaysIn proc locals away (statement_doing plain proc locals place next d)
     by_form (stmt.Assign x e) form =
         set_kept proc x locals (value_of (frame_values program.globals proc locals) e) (or_parts (may_get proc x) (is_param proc x) (subst (λ (d : stmt.Stmt-F Stmt). form_assigned program proc d ≡ false) form assigned)).1
     by_form (stmt.Assert e) form = by_assert (is_true (value_of (frame_values program.globals proc locals) e))

@@ -26,13 +26,12 @@ use Rattle.civl_meaning.specs.declared.config.State.TheVariants.{Before, Inside,
 use Rattle.civl_meaning.specs.declared.config.Running.{Running}
 use Rattle.civl_meaning.specs.Places.{Spot, spot_at}
 use Rattle.civl_meaning.specs.Meaning.{Meaning, Does, Runs, proc_number, meaning_of_action, refined, meaning_by, meaning_of, meaning_else, called}
-use Rattle.civl_meaning.specs.Change.{caller_of, outs_in}
+use Rattle.civl_meaning.specs.Change.{caller_of, outs_in, Doing, call_doing, statement_doing, leaving, spot_doing, proc_doing, state_doing}
 use Rattle.civl_meaning.specs.Layers.{means_body, program_at}
 use Rattle.civl_layers.specs.Layered.{IsLayered}
 use Rattle.civl_conditions.specs.Steps.{has_layer, refines_at}
 use Rattle.civl_conditions.specs.Assumed.{refined_action}
 use Rattle.civl_conditions.specs.paths.Choices.{action_meant}
-use Rattle.civl_reduction.specs.exchanges.Doing.{Doing, call_doing, layer_doing, leaving, spot_doing, proc_doing, state_doing}
 use Rattle.civl_reduction.specs.simulation.Alike.{CallsInstead, ThreadsDoAlike}
 
 module _ (program : Program) (layer : ℕ) (src : IsLayered program) where
@@ -133,7 +132,7 @@ module _ (program : Program) (layer : ℕ) (src : IsLayered program) where
         calls = ap (λ (m : Meaning). call_doing names locals results at next m args) h.does;
       })
 
-  layer_alike : (proc : Proc) (locals : List Value) (at next : ℕ) (d : stmt.Stmt-F Stmt) → DoAlike (layer_doing upper proc locals at next d) (layer_doing lower proc locals at next d)
+  layer_alike : (proc : Proc) (locals : List Value) (at next : ℕ) (d : stmt.Stmt-F Stmt) → DoAlike (statement_doing upper proc locals at next d) (statement_doing lower proc locals at next d)
   layer_alike proc locals at next (stmt.Call f es rs) = call_alike (names_in_proc proc) locals rs at next (called upper f) (called lower f) (values_of (frame_values program.globals proc locals) es) (name_alike f)
   layer_alike proc locals at next _ = inl refl
 

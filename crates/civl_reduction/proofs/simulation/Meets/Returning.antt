@@ -23,12 +23,11 @@ use Rattle.civl_meaning.specs.declared.config.Running.{Running}
 use Rattle.civl_meaning.specs.declared.config.Change.TheVariants as change
 use Rattle.civl_meaning.specs.Places.{Spot, spot_at}
 use Rattle.civl_meaning.specs.Meaning.{Meaning, Does, Runs, Missing, called}
-use Rattle.civl_meaning.specs.Change.{with_results, returned_at, returned_in, returned_layer, returned, caller_of, outs_in}
+use Rattle.civl_meaning.specs.Change.{with_results, returned_at, returned_in, returned_layer, returned, caller_of, outs_in, Doing, call_doing, statement_doing, leaving, spot_doing, proc_doing, state_doing, doing}
 use Rattle.civl_meaning.specs.Layers.{program_at}
 use Rattle.civl_meaning.specs.Step.{state_after, thread_after}
 use Rattle.civl_meaning.proofs.Spots.{spot_stands}
-use Rattle.civl_reduction.specs.exchanges.Doing.{Doing, call_doing, layer_doing, leaving, spot_doing, proc_doing, state_doing, doing}
-use Rattle.civl_reduction.specs.exchanges.Doing as does
+use Rattle.civl_meaning.specs.Change as does
 use Rattle.civl_reduction.specs.simulation.Alike.{CallsInstead}
 use Rattle.civl_reduction.specs.simulation.Meets.{behind}
 
@@ -96,8 +95,8 @@ module _ (program : Program) (layer : ℕ) where
       by_assert true locals e = let q = ap entered_at e in cc
       by_assert false locals e = let q = ap entered_at e in cc
 
-      by_form : (d : stmt.Stmt-F Stmt) → out-Stmt s.stmt ≡ d → Differ (layer_doing upper proc frame.locals s.number s.next d) (layer_doing lower proc frame.locals s.number s.next d)
-          → returned_at waiting outs proc (spot_at proc.body place) ≡ back frame (layer_doing upper proc frame.locals s.number s.next d) outs
+      by_form : (d : stmt.Stmt-F Stmt) → out-Stmt s.stmt ≡ d → Differ (statement_doing upper proc frame.locals s.number s.next d) (statement_doing lower proc frame.locals s.number s.next d)
+          → returned_at waiting outs proc (spot_at proc.body place) ≡ back frame (statement_doing upper proc frame.locals s.number s.next d) outs
       by_form (stmt.Call f es rs) form h = by_meaning f es rs form (called upper f) (called lower f) (values_of (frame_values program.globals proc frame.locals) es) h
       by_form (stmt.Assert e) form h = absurd (by_assert (is_true (value_of (frame_values program.globals proc frame.locals) e)) frame.locals h.enters)
       by_form _ form h = absurd (let e = h.calls in cc)

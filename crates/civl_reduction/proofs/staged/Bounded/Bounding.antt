@@ -1,6 +1,6 @@
 -- The steps of an open block come to an end.
 use Rattle.std.proofs.Common.{◌≡◌, ℕ, zero, suc, ◌+◌, ◌-◌, Bool, true, false, List, [], ◌∷◌, ◌++◌, Option, None, Some, refl, sym, ap, ◌∙◌, subst, arith}
-use Rattle.std.specs.Prelude.{slice_get, is_some, All, if◌then◌else◌}
+use Rattle.std.specs.Prelude.{option_map, slice_get, is_some, All, if◌then◌else◌}
 use Rattle.std.proofs.lemmas.Bool.{true≢false, false≢true}
 use Rattle.std.proofs.lemmas.Option.{same_Some}
 use Rattle.civl_bits.specs.declared.value.Value.{Value}
@@ -27,7 +27,7 @@ use Rattle.civl_meaning.specs.declared.config.Change.{Change}
 use Rattle.civl_meaning.specs.declared.config.Change.TheVariants.{Stays, Goes, Acts, Enters, Leaves, Spawns}
 use Rattle.civl_meaning.specs.Places.{Spot, spot_at}
 use Rattle.civl_meaning.specs.Rest.{Rest}
-use Rattle.civl_meaning.specs.Change.{leaves, returned, outs_in, caller_of, spot_change, proc_change, state_change, change_of}
+use Rattle.civl_meaning.specs.Change.{done_by, returned, outs_in, caller_of, spot_doing, proc_doing, state_doing, change_of}
 use Rattle.civl_meaning.specs.Step.{goes_on, left, thread_after, config_after, step_with, step_in}
 use Rattle.civl_meaning.specs.Config.{Waits, StateIsStacked, ThreadIsSorted, IsStacked, IsOf, moved_frame}
 use Rattle.civl_meaning.specs.Layers.{program_at}
@@ -174,7 +174,7 @@ module _ (program : Program) (layer : ℕ) (store : Store) (k : IsChecked progra
       by_layer true h e = h refl
       by_layer false h e = between_late e
 
-  leaves_not : (outs : List Value) (o : Option Activation) → caller_of top.below ≡ o → IsLate → Made (leaves lower outs o) → ⊥
+  leaves_not : (outs : List Value) (o : Option Activation) → caller_of top.below ≡ o → IsLate → Made (Leaves (option_map (returned lower outs) o)) → ⊥
   leaves_not outs None e late made =
       between_late (sym (ap (λ (s : State). state_late (left s None)) top.is) ∙ left_late None late made)
   leaves_not outs (Some g) e late made =
@@ -188,10 +188,10 @@ module _ (program : Program) (layer : ℕ) (store : Store) (k : IsChecked progra
 
   exit_not : spot_at at.f.0.body at.f.1.place ≡ None → IsLate → Made change → ⊥
   exit_not none late made =
-      let does : change ≡ leaves lower (outs_in at.f.0 at.f.1.locals) (caller_of top.below) =
-      ap (state_change lower c.store values at.thread) top.is
-      ∙ ap (proc_change lower c.store values (caller_of top.below) at.f.1) top.of.there
-      ∙ ap (spot_change lower c.store values (caller_of top.below) at.f.1 at.f.0) none in
+      let does : change ≡ Leaves (option_map (returned lower (outs_in at.f.0 at.f.1.locals)) (caller_of top.below)) =
+      ap (λ (x : State). done_by lower c.store values (state_doing lower at.thread x)) top.is
+      ∙ ap (λ (x : Option Proc). done_by lower c.store values (proc_doing lower (caller_of top.below) at.f.1 x)) top.of.there
+      ∙ ap (λ (x : Option Spot). done_by lower c.store values (spot_doing lower (caller_of top.below) at.f.1 at.f.0 x)) none in
       leaves_not (outs_in at.f.0 at.f.1.locals) (caller_of top.below) refl late (subst Made does made)
 
   -- ---- by what it does

@@ -23,7 +23,8 @@ use Rattle.civl_meaning.specs.declared.config.Change.{Change}
 use Rattle.civl_meaning.specs.declared.config.Change.TheVariants.{Stays, Goes, Enters, Leaves, Spawns}
 use Rattle.civl_meaning.specs.Meaning.{Meaning, Does, Runs, Missing, called}
 use Rattle.civl_meaning.specs.Places.{Spot, spot_at}
-use Rattle.civl_meaning.specs.Change.{acted, call_change, layer_change, returned_at, returned_in, returned}
+use Rattle.civl_meaning.specs.Change.{acted, done_by, call_doing, statement_doing, returned_at, returned_in, returned}
+use Rattle.civl_meaning.specs.Change as does
 use Rattle.civl_meaning.specs.Config.{IsBodyOf, LayerCalls, SpotCalls, ProcCalls, Waits}
 use Rattle.civl_meaning.specs.Layers.{program_at}
 use Rattle.civl_layers.specs.Layered.{IsLayered}
@@ -41,7 +42,7 @@ Ordinary plain d (Spawns thread place) = (f : Name) × (es : List Expr) × (d �
 Ordinary plain d _ = Unit {0}
 
 module _ (plain : Plain) (store : Store) (chosen : List Value) (proc : Proc) (locals : List Value) (n p : ℕ) where
-  by_assert : (d : stmt.Stmt-F Stmt) (b : Bool) → Ordinary plain d (if b then Goes locals p else Stays answer.Failing)
+  by_assert : (d : stmt.Stmt-F Stmt) (b : Bool) → Ordinary plain d (done_by plain store chosen (if b then does.Goes locals p else does.Fails))
   by_assert d true = tt
   by_assert d false = tt
 
@@ -55,12 +56,12 @@ module _ (plain : Plain) (store : Store) (chosen : List Value) (proc : Proc) (lo
   by_tests d true false names rs f = tt
   by_tests d false fit names rs f = tt
 
-  by_call : (g : Name) (es : List Expr) (rs : List Name) (names : List Name) (args : List Value) (m : Meaning) → called plain g ≡ m → Ordinary plain (stmt.Call g es rs) (call_change plain store chosen names locals rs n p m args)
+  by_call : (g : Name) (es : List Expr) (rs : List Name) (names : List Name) (args : List Value) (m : Meaning) → called plain g ≡ m → Ordinary plain (stmt.Call g es rs) (done_by plain store chosen (call_doing names locals rs n p m args))
   by_call g es rs names args (Does action) e = by_tests (stmt.Call g es rs) (gate_holds plain.program.globals store action args) (choices_fit action chosen) names rs (fired plain.program.globals store action args chosen)
   by_call g es rs names args (Runs number callee) e = (g, es, rs, number, callee, refl, e)
   by_call g es rs names args Missing e = tt
 
-  pub ordinary : (d : stmt.Stmt-F Stmt) → Ordinary plain d (layer_change plain store chosen proc locals n p d)
+  pub ordinary : (d : stmt.Stmt-F Stmt) → Ordinary plain d (done_by plain store chosen (statement_doing plain proc locals n p d))
   ordinary (stmt.Call g es rs) = by_call g es rs (names_in_proc proc) (values_of (frame_values plain.program.globals proc locals) es) (called plain g) refl
   ordinary (stmt.Assert e) = by_assert (stmt.Assert e) (is_true (value_of (frame_values plain.program.globals proc locals) e))
   ordinary (stmt.Spawn f es) = (f, es, refl)

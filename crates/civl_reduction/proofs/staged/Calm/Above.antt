@@ -1,5 +1,5 @@
 -- The action that a thread calls in a layer's program exists in the layer above too, where the thread is in no procedure of that.
-use Rattle.std.proofs.Common.{◌≡◌, ℕ, ◌+◌, ◌≤◌, Bool, true, false, List, refl, sym, ap, ◌∙◌, subst, arith, Option, None, Some, slice_get}
+use Rattle.std.proofs.Common.{◌≡◌, ℕ, ◌+◌, ◌≤◌, Bool, true, false, List, [], refl, sym, ap, ◌∙◌, subst, arith, Option, None, Some, slice_get}
 use Rattle.std.specs.Prelude.{nat_lt, if◌then◌else◌}
 use Rattle.std.proofs.lemmas.Bool.{false≢true, ltb-true, ltb-false, eq-eqb}
 use Rattle.std.proofs.lemmas.Option.{same_Some, none-some}
@@ -7,14 +7,15 @@ use Rattle.civl_bits.specs.declared.value.Value.{Value}
 use Rattle.civl_tree.specs.declared.name.Name.{Name}
 use Rattle.civl_tree.specs.declared.action.Action.{Action}
 use Rattle.civl_tree.specs.declared.stmt.Stmt.{Stmt, out-Stmt}
-use Rattle.civl_tree.specs.declared.stmt.Stmt.TheOpen.{Stmt-F, Call}
+use Rattle.civl_tree.specs.declared.stmt.Stmt.TheOpen.{Stmt-F, Assert, Call}
 use Rattle.civl_tree.specs.declared.program.Proc.{Proc}
 use Rattle.civl_tree.specs.declared.program.Refines.{Refines}
 use Rattle.civl_tree.specs.declared.program.Program.{Program}
 use Rattle.civl_tree.specs.Numbering.{sizes_of}
-use Rattle.civl_tree.specs.rules.Names.{action_named}
+use Rattle.civl_tree.specs.rules.Names.{action_named, names_in_proc}
 use Rattle.civl_tree.specs.rules.Rules.{Keeps}
-use Rattle.civl_firing.specs.Eval.{values_of}
+use Rattle.civl_firing.specs.values.Values.{is_true}
+use Rattle.civl_firing.specs.Eval.{value_of, values_of}
 use Rattle.civl_firing.specs.Scope.{frame_values}
 use Rattle.civl_meaning.specs.declared.config.Plain.{Plain}
 use Rattle.civl_meaning.specs.declared.config.Activation.{Activation}
@@ -23,6 +24,7 @@ use Rattle.civl_meaning.specs.declared.config.State.TheVariants.{Before, Inside,
 use Rattle.civl_meaning.specs.declared.config.Running.{Running}
 use Rattle.civl_meaning.specs.Places.{Spot, spot_at}
 use Rattle.civl_meaning.specs.Meaning.{Meaning, Does, Runs, Missing, called, meaning_of, meaning_by, meaning_else, proc_number}
+use Rattle.civl_meaning.specs.Change.{call_doing, statement_doing, spot_doing, proc_doing, state_doing, caller_of}
 use Rattle.civl_meaning.specs.Layers.{means_body, program_at}
 use Rattle.civl_meaning.specs.Config.{HasLocals, IsStack, StateIsSorted, StateIsStacked, ThreadIsSorted, IsStacked}
 use Rattle.civl_meaning.proofs.Bodies.{bodies_at}
@@ -31,7 +33,8 @@ use Rattle.civl_layers.specs.Ranges.{exists_in}
 use Rattle.civl_layers.specs.Names.{action_range}
 use Rattle.civl_layers.specs.Layered.{IsLayered}
 use Rattle.civl_conditions.specs.Steps.{refines_at, has_layer}
-use Rattle.civl_soundness.specs.Stepped.{action_with, layer_action, spot_action, proc_action, state_action, next_action}
+use Rattle.civl_soundness.specs.Stepped.{called_in, next_action}
+use Rattle.civl_soundness.proofs.Progress.{asserts_call_nothing}
 use Rattle.civl_reduction.specs.permissions.Apart.{SpawnsStandInRoots}
 use Rattle.civl_reduction.proofs.permissions.Lasting.{call_exists, first_exists}
 use Rattle.civl_reduction.proofs.permissions.Existing.{top_runs}
@@ -92,33 +95,34 @@ module _ (program : Program) (src : IsLayered program) (layer : ℕ) (within : l
   abbrev plain : Plain
   plain = program_at program layer
 
-  does_of : (m : Meaning) (vs args : List Value) (action : Action) → action_with m vs ≡ Some (action, args) → m ≡ Does action
-  does_of (Does a) vs args action e = ap (λ (c : Action × List Value). Does c.0) (same_Some (a, vs) (action, args) e)
-  does_of (Runs n p) vs args action e = absurd (none-some (action, args) e)
-  does_of Missing vs args action e = absurd (none-some (action, args) e)
+  does_of : (ns : List Name) (ls : List Value) (rs : List Name) (at next : ℕ) (m : Meaning) (vs args : List Value) (action : Action) → called_in (call_doing ns ls rs at next m vs) ≡ Some (action, args) → m ≡ Does action
+  does_of ns ls rs at next (Does a) vs args action e = ap (λ (c : Action × List Value). Does c.0) (same_Some (a, vs) (action, args) e)
+  does_of ns ls rs at next (Runs n p) vs args action e = absurd (none-some (action, args) e)
+  does_of ns ls rs at next Missing vs args action e = absurd (none-some (action, args) e)
 
   top_above : (callee : ℕ) (below : List Activation) (top : Activation) → HasLocals plain top → IsStack plain callee below top → framed_in (layer + 1) top (slice_get program.procs top.procedure) ≡ None → (action : Action) (args : List Value)
-      → proc_action plain top (slice_get program.procs top.procedure) ≡ Some (action, args) → exists_in (layer + 1) (action_range action) ≡ true
-  top_above callee below top h stack none action args e = by_spot (spot_at h.proc.body top.place) refl (sym (ap (proc_action plain top) h.there) ∙ e)
+      → called_in (proc_doing plain (caller_of below) top (slice_get program.procs top.procedure)) ≡ Some (action, args) → exists_in (layer + 1) (action_range action) ≡ true
+  top_above callee below top h stack none action args e = by_spot (spot_at h.proc.body top.place) refl (sym (ap (λ (o : Option Proc). called_in (proc_doing plain (caller_of below) top o)) h.there) ∙ e)
     where
       placed : top.place ≤ sizes_of h.proc.body
       placed = subst (λ (p : Proc). top.place ≤ sizes_of p.body) (same_Some stack.topmost.proc h.proc (sym stack.topmost.there ∙ h.there)) stack.topmost.place
 
-      by_layer : (s : Spot) → spot_at h.proc.body top.place ≡ Some s → (d : Stmt-F Stmt) → out-Stmt s.stmt ≡ d → layer_action plain h.proc top.locals d ≡ Some (action, args) → exists_in (layer + 1) (action_range action) ≡ true
+      by_layer : (s : Spot) → spot_at h.proc.body top.place ≡ Some s → (d : Stmt-F Stmt) → out-Stmt s.stmt ≡ d → called_in (statement_doing plain h.proc top.locals s.number s.next d) ≡ Some (action, args) → exists_in (layer + 1) (action_range action) ≡ true
       by_layer s found (Call g es rs) q k =
           let st = steps program src.rules linear top.procedure h.proc h.there top.place placed s found in
           let runs = runs_above program layer top h.proc h.there (sym (ap (framed_in (layer + 1) top) h.there) ∙ none) (top_runs plain callee below top stack) in
-          call_exists program src (layer + 1) within top.procedure h.proc h.there runs s.number s.stmt g es rs st.here q action (name_does program layer g action (does_of (called plain g) (values_of (frame_values program.globals h.proc top.locals) es) args action k))
+          call_exists program src (layer + 1) within top.procedure h.proc h.there runs s.number s.stmt g es rs st.here q action (name_does program layer g action (does_of (names_in_proc h.proc) top.locals rs s.number s.next (called plain g) (values_of (frame_values program.globals h.proc top.locals) es) args action k))
+      by_layer s found (Assert e) q k = absurd (none-some (action, args) (sym (asserts_call_nothing top.locals s.next (is_true (value_of (frame_values program.globals h.proc top.locals) e))) ∙ k))
       by_layer s found _ q k = absurd (none-some (action, args) k)
 
-      by_spot : (o : Option Spot) → spot_at h.proc.body top.place ≡ o → spot_action plain h.proc top.locals o ≡ Some (action, args) → exists_in (layer + 1) (action_range action) ≡ true
+      by_spot : (o : Option Spot) → spot_at h.proc.body top.place ≡ o → called_in (spot_doing plain (caller_of below) top h.proc o) ≡ Some (action, args) → exists_in (layer + 1) (action_range action) ≡ true
       by_spot None found k = absurd (none-some (action, args) k)
       by_spot (Some s) found k = by_layer s found (out-Stmt s.stmt) refl k
 
   pub next_above : (thread : Running) → ThreadIsSorted plain thread → IsStacked plain thread → frame_of_layer program (layer + 1) thread ≡ None → (action : Action) (args : List Value) → next_action plain thread ≡ Some (action, args) → exists_in (layer + 1) (action_range action) ≡ true
   next_above thread = by_state thread.state
     where
-      by_state : (state : State) → StateIsSorted plain thread state → StateIsStacked plain thread.callee state → framed_state program (layer + 1) state ≡ None → (action : Action) (args : List Value) → state_action plain thread state ≡ Some (action, args) → exists_in (layer + 1) (action_range action) ≡ true
-      by_state Before b s n action args e = first_exists program src (layer + 1) within roots thread.callee action (number_does program layer thread.callee action (does_of (meaning_of plain thread.callee) thread.args args action e)) b.begins
+      by_state : (state : State) → StateIsSorted plain thread state → StateIsStacked plain thread.callee state → framed_state program (layer + 1) state ≡ None → (action : Action) (args : List Value) → called_in (state_doing plain thread state) ≡ Some (action, args) → exists_in (layer + 1) (action_range action) ≡ true
+      by_state Before b s n action args e = first_exists program src (layer + 1) within roots thread.callee action (number_does program layer thread.callee action (does_of [] [] [] 0 0 (meaning_of plain thread.callee) thread.args args action e)) b.begins
       by_state (Inside below top) b s n action args e = top_above thread.callee below top b.2 s n action args e
       by_state After b s n action args e = absurd (none-some (action, args) e)

@@ -30,14 +30,12 @@ use Rattle.civl_meaning.specs.declared.config.Change.{Change}
 use Rattle.civl_meaning.specs.declared.config.Change.TheVariants as change
 use Rattle.civl_meaning.specs.Places.{Spot, spot_at}
 use Rattle.civl_meaning.specs.Meaning.{Meaning, Does, Runs, Missing, called, meaning_of}
-use Rattle.civl_meaning.specs.Change.{acted, caller_of, outs_in, change_of}
+use Rattle.civl_meaning.specs.Change.{acted, caller_of, change_of, Doing, done_by, call_doing, statement_doing, spot_doing, proc_doing, state_doing, doing}
 use Rattle.civl_meaning.specs.Step.{thread_after, store_with, step_with, step_in, step_of}
 use Rattle.civl_meaning.proofs.Safe.{no_thread}
 use Rattle.civl_soundness.specs.Stepped.{next_action}
-use Rattle.civl_reduction.specs.exchanges.Doing.{Doing, done_by, call_doing, layer_doing, leaving, spot_doing, proc_doing, state_doing, doing}
-use Rattle.civl_reduction.specs.exchanges.Doing as does
+use Rattle.civl_meaning.specs.Change as does
 use Rattle.civl_reduction.specs.exchanges.Interleavings.{whole}
-use Rattle.civl_reduction.proofs.exchanges.Changes.{change_is}
 use Rattle.civl_reduction.proofs.mover_laws.Configurations.{next_is}
 use Rattle.civl_reduction.specs.blocks.Blocks.{frame_of_layer}
 use Rattle.civl_reduction.specs.blocks.Cuts.{frame_in, frame_at}
@@ -87,7 +85,7 @@ module _ (plain : Plain) (store : Store) (chosen : List Value) (thread : Running
       by_tests names locals results next action args d (gate_holds plain.program.globals store action args) refl (choices_fit action chosen) refl (fires plain.program.globals store action args chosen) refl after ls place e
 
   pub acts_so : (after : Store) (ls : List Value) (place : ℕ) → change_of plain store chosen thread ≡ change.Acts after ls place → Fires plain store chosen thread after
-  acts_so after ls place e = by_doing (doing plain thread) refl after ls place (sym (change_is plain store chosen thread) ∙ e)
+  acts_so after ls place e = by_doing (doing plain thread) refl after ls place e
 
 -- ---- a spawned thread is before its call
 
@@ -110,18 +108,14 @@ module _ (plain : Plain) where
   assert_spawns true ls next = tt
   assert_spawns false ls next = tt
 
-  layer_spawns : (p : Proc) (ls : List Value) (at next : ℕ) (d : stmt.Stmt-F Stmt) → SpawnsBefore (layer_doing plain p ls at next d)
+  layer_spawns : (p : Proc) (ls : List Value) (at next : ℕ) (d : stmt.Stmt-F Stmt) → SpawnsBefore (statement_doing plain p ls at next d)
   layer_spawns p ls at next (stmt.Assert e) = assert_spawns (is_true (value_of (frame_values plain.program.globals p ls) e)) ls next
   layer_spawns p ls at next (stmt.Call f es rs) = call_spawns (names_in_proc p) ls rs at next (called plain f) (values_of (frame_values plain.program.globals p ls) es)
   layer_spawns p ls at next (stmt.Spawn f es) = refl
   layer_spawns p ls at next _ = tt
 
-  leaving_spawns : (outs : List Value) (k : Option Activation) → SpawnsBefore (leaving plain outs k)
-  leaving_spawns outs None = tt
-  leaving_spawns outs (Some f) = tt
-
   spot_spawns : (k : Option Activation) (f : Activation) (p : Proc) (o : Option Spot) → SpawnsBefore (spot_doing plain k f p o)
-  spot_spawns k f p None = leaving_spawns (outs_in p f.locals) k
+  spot_spawns k f p None = tt
   spot_spawns k f p (Some x) = layer_spawns p f.locals x.number x.next (out-Stmt x.stmt)
 
   proc_spawns : (k : Option Activation) (f : Activation) (o : Option Proc) → SpawnsBefore (proc_doing plain k f o)
@@ -152,7 +146,7 @@ module _ (plain : Plain) where
       acts_no_spawn false c x k = cc
 
   pub spawned_before : (store : Store) (chosen : List Value) (thread other : Running) (place : ℕ) → change_of plain store chosen thread ≡ change.Spawns other place → other.state ≡ Before
-  spawned_before store chosen thread other place e = done_spawns store chosen (doing plain thread) (state_spawns thread thread.state) other place (sym (change_is plain store chosen thread) ∙ e)
+  spawned_before store chosen thread other place e = done_spawns store chosen (doing plain thread) (state_spawns thread thread.state) other place e
 
 -- ---- the threads
 

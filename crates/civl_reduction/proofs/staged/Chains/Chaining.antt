@@ -20,7 +20,7 @@ use Rattle.civl_conditions.specs.paths.Paths.{Progress}
 use Rattle.civl_conditions.specs.paths.Ends.{is_yield_cut, cut_number}
 use Rattle.civl_conditions.proofs.paths.Belonging.{Belongs, own_place, rest_belongs}
 use Rattle.civl_reduction.proofs.permissions.Staying.{IsKept}
-use Rattle.civl_reduction.specs.exchanges.Doing.{doing}
+use Rattle.civl_meaning.specs.Change.{doing, outs_in}
 use Rattle.civl_reduction.specs.checked.Checked.{ActionsKeepPermissions}
 use Rattle.civl_reduction.specs.open_blocks.Following.{layer_head}
 use Rattle.civl_reduction.specs.blocks.Cuts.{frame_in, frame_at, settled}
@@ -36,7 +36,6 @@ use Rattle.civl_reduction.proofs.staged.Opened.Old.{merged_is_old}
 use Rattle.civl_reduction.proofs.staged.Opened.Entering.{not_challenged}
 use Rattle.civl_reduction.proofs.staged.Chains.Gliding.{settled_belongs}
 use Rattle.civl_meaning.specs.Places.{skip_layer, is_skipped}
-use Rattle.civl_meaning.specs.Change.{outs_in}
 use Rattle.civl_conditions.specs.Assumed.{inputs_of}
 use Rattle.civl_reduction.specs.blocks.Blocks.{at_yield, frame_of_layer, rest_of}
 use Rattle.civl_reduction.specs.blocks.Shadow.{Shadowed, course_of, glided_layer, glided, progress_in, seen}

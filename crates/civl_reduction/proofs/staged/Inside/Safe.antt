@@ -1,10 +1,9 @@
 -- The thread of an open block doesn't fail.
-use Rattle.std.proofs.Common.{◌≡◌, ℕ, ◌+◌, ◌-◌, false, List, [], map, Option, None, Some, slice_get, refl, sym, ap, ◌∙◌, subst}
+use Rattle.std.proofs.Common.{◌≡◌, ℕ, ◌+◌, ◌-◌, false, [], map, Option, None, Some, slice_get, refl, sym, ap, ◌∙◌, subst}
 use Rattle.std.specs.Option.{option_map_or}
 use Rattle.std.proofs.lemmas.Option.{same_Some, none-some}
 use Rattle.std.proofs.lemmas.List.Elements.{All-nil}
 use Rattle.civl_bits.specs.Value.{IsValue}
-use Rattle.civl_bits.specs.declared.value.Value.{Value}
 use Rattle.civl_tree.specs.declared.program.Program.{Program}
 use Rattle.civl_tree.specs.declared.stmt.Stmt.{Stmt, out-Stmt}
 use Rattle.civl_tree.specs.declared.stmt.Stmt.TheOpen as stmt
@@ -13,11 +12,12 @@ use Rattle.civl_meaning.specs.declared.config.Activation.{Activation}
 use Rattle.civl_meaning.specs.declared.config.Config as meaning
 use Rattle.civl_meaning.specs.declared.config.Plain.{Plain}
 use Rattle.civl_meaning.specs.declared.config.Stepped.TheVariants as answer
+use Rattle.civl_meaning.specs.declared.config.State.{State}
 use Rattle.civl_meaning.specs.declared.config.Change.{Change}
 use Rattle.civl_meaning.specs.declared.config.Change.TheVariants as change
 use Rattle.civl_meaning.specs.Places.{Spot, spot_at}
 use Rattle.civl_meaning.specs.Rest.{rest_at}
-use Rattle.civl_meaning.specs.Change.{change_of, state_change, proc_change, spot_change, layer_change, leaves, caller_of, outs_in}
+use Rattle.civl_meaning.specs.Change.{change_of, done_by, state_doing, proc_doing, spot_doing, statement_doing, caller_of}
 use Rattle.civl_meaning.specs.Failing.{thread_fails, answers_failing}
 use Rattle.civl_meaning.specs.Layers.{program_at}
 use Rattle.civl_meaning.specs.Config.{ThreadIsSorted, IsStacked}
@@ -68,20 +68,15 @@ module _ (keep : ActionsKeepPermissions) (program : Program) (layer : ℕ) (stor
   plain = program_at program (layer + 1 - 1)
 
   -- at the exit
-  leaves_not : (k : Option Activation) (outs : List Value) → answers_failing (leaves plain outs k) ≡ false
-  leaves_not None outs = refl
-  leaves_not (Some f) outs = refl
-
   at_exit : spot_at o.f.0.body o.f.1.place ≡ None → answers_failing (change_of plain s.config.store [] o.thread) ≡ false
   at_exit spot =
       ap (λ (g : Change). answers_failing g)
-      (ap (state_change plain s.config.store [] o.thread) top.is
-      ∙ (ap (proc_change plain s.config.store [] (caller_of top.below) o.f.1) top.of.there
-      ∙ ap (spot_change plain s.config.store [] (caller_of top.below) o.f.1 o.f.0) spot))
-      ∙ leaves_not (caller_of top.below) (outs_in o.f.0 o.f.1.locals)
+      (ap (λ (x : State). done_by plain s.config.store [] (state_doing plain o.thread x)) top.is
+      ∙ (ap (λ (x : Option Proc). done_by plain s.config.store [] (proc_doing plain (caller_of top.below) o.f.1 x)) top.of.there
+      ∙ ap (λ (x : Option Spot). done_by plain s.config.store [] (spot_doing plain (caller_of top.below) o.f.1 o.f.0 x)) spot))
 
   -- before a loop
-  in_loop : (sp : Spot) (n : ℕ) (d : stmt.Stmt-F Stmt) → layer_head sp.number d ≡ Some n → answers_failing (layer_change plain s.config.store [] o.f.0 o.f.1.locals sp.number sp.next d) ≡ false
+  in_loop : (sp : Spot) (n : ℕ) (d : stmt.Stmt-F Stmt) → layer_head sp.number d ≡ Some n → answers_failing (done_by plain s.config.store [] (statement_doing plain o.f.0 o.f.1.locals sp.number sp.next d)) ≡ false
   in_loop sp n (stmt.YieldLoop t i a) e = refl
   in_loop sp n (stmt.RankLoop t v i a) e = refl
   in_loop sp n (stmt.Assign v x) e = refl

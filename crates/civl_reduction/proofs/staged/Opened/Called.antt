@@ -1,6 +1,6 @@
 -- A call that makes a frame opens a block, where all is calm and nothing is challenged.
 use Rattle.std.proofs.Common.{◌≡◌, ◌≢◌, ℕ, ◌+◌, ◌-◌, ◌≤◌, Bool, true, false, List, [], ◌++◌, length, drop, map, get_or, Contains, Option, None, Some, slice_get, slice_set, refl, sym, ap, ◌∙◌, subst, arith}
-use Rattle.std.specs.Prelude.{if◌then◌else◌}
+use Rattle.std.specs.Prelude.{option_map, if◌then◌else◌}
 use Rattle.std.proofs.lemmas.Bool.{or_parts, not-false}
 use Rattle.std.proofs.lemmas.Option.{same_Some, none-some}
 use Rattle.std.proofs.lemmas.List.{length-map}
@@ -37,7 +37,7 @@ use Rattle.civl_tree.specs.declared.stmt.Stmt.{Stmt, out-Stmt}
 use Rattle.civl_tree.specs.declared.stmt.Stmt.TheOpen as stmt
 use Rattle.civl_conditions.specs.Steps.{has_layer}
 use Rattle.civl_layers.specs.Layered.{IsLayered}
-use Rattle.civl_meaning.specs.Change.{acted, call_change, layer_change, spot_change, proc_change, state_change, change_of, leaves, caller_of, outs_in}
+use Rattle.civl_meaning.specs.Change.{acted, done_by, call_doing, statement_doing, spot_doing, proc_doing, state_doing, change_of, caller_of, outs_in, returned, Doing, doing}
 use Rattle.civl_meaning.specs.Step.{thread_after, state_after, enters, goes_on, config_after, step_with, step_in, step_of}
 use Rattle.civl_meaning.specs.Failing.{IsMove}
 use Rattle.civl_meaning.specs.Layers.{program_at}
@@ -64,9 +64,7 @@ use Rattle.civl_reduction.proofs.permissions.Changing.{owns}
 use Rattle.civl_reduction.proofs.permissions.Threads.{locals_count}
 use Rattle.civl_reduction.proofs.permissions.Staying.{IsKept}
 use Rattle.civl_reduction.specs.checked.Checked.{ActionsKeepPermissions}
-use Rattle.civl_reduction.specs.exchanges.Doing.{Doing, done_by, doing}
-use Rattle.civl_reduction.specs.exchanges.Doing as does
-use Rattle.civl_reduction.proofs.exchanges.Changes.{change_is}
+use Rattle.civl_meaning.specs.Change as does
 use Rattle.civl_reduction.specs.blocks.Blocks.{framed_in, framed_state, frame_of_layer}
 use Rattle.civl_reduction.specs.open_blocks.Ends.{IsAssumed}
 use Rattle.civl_reduction.specs.open_blocks.Open.{beginning}
@@ -146,7 +144,7 @@ StaysIn (change.Leaves k) = ⊥
 StaysIn _ = Unit {0}
 
 module _ (plain : Plain) (store : Store) (chosen : List Value) where
-  in_assert : (b : Bool) (ls : List Value) (next : ℕ) → StaysIn (if b then change.Goes ls next else change.Stays answer.Failing)
+  in_assert : (b : Bool) (ls : List Value) (next : ℕ) → StaysIn (done_by plain store chosen (if b then does.Goes ls next else does.Fails))
   in_assert true ls next = tt
   in_assert false ls next = tt
 
@@ -157,22 +155,22 @@ module _ (plain : Plain) (store : Store) (chosen : List Value) where
   in_action true false x ns ls rs next = tt
   in_action false c x ns ls rs next = tt
 
-  in_call : (ns : List Name) (ls : List Value) (rs : List Name) (at next : ℕ) (m : Meaning) (vs : List Value) → StaysIn (call_change plain store chosen ns ls rs at next m vs)
+  in_call : (ns : List Name) (ls : List Value) (rs : List Name) (at next : ℕ) (m : Meaning) (vs : List Value) → StaysIn (done_by plain store chosen (call_doing ns ls rs at next m vs))
   in_call ns ls rs at next (Does a) vs = in_action (gate_holds plain.program.globals store a vs) (choices_fit a chosen) (fired plain.program.globals store a vs chosen) ns ls rs next
   in_call ns ls rs at next (Runs n p) vs = tt
   in_call ns ls rs at next Missing vs = tt
 
-  in_layer : (p : Proc) (ls : List Value) (at next : ℕ) (d : stmt.Stmt-F Stmt) → StaysIn (layer_change plain store chosen p ls at next d)
+  in_layer : (p : Proc) (ls : List Value) (at next : ℕ) (d : stmt.Stmt-F Stmt) → StaysIn (done_by plain store chosen (statement_doing plain p ls at next d))
   in_layer p ls at next (stmt.Assert e) = in_assert (is_true (value_of (frame_values plain.program.globals p ls) e)) ls next
   in_layer p ls at next (stmt.Call f es rs) = in_call (names_in_proc p) ls rs at next (called plain f) (values_of (frame_values plain.program.globals p ls) es)
   in_layer p ls at next _ = tt
 
   -- what leaves is at its exit
-  leaves_by : (caller : Option Activation) (f : Activation) (o : Option Proc) (k : Option Activation) → proc_change plain store chosen caller f o ≡ change.Leaves k → (outs : List Value) × (leaves plain outs caller ≡ change.Leaves k)
+  leaves_by : (caller : Option Activation) (f : Activation) (o : Option Proc) (k : Option Activation) → done_by plain store chosen (proc_doing plain caller f o) ≡ change.Leaves k → (outs : List Value) × (change.Leaves (option_map (returned plain outs) caller) ≡ change.Leaves k)
   leaves_by caller f None k e = absurd cc
   leaves_by caller f (Some p) k e = by_spot (spot_at p.body f.place) e
     where
-      by_spot : (x : Option Spot) → spot_change plain store chosen caller f p x ≡ change.Leaves k → (outs : List Value) × (leaves plain outs caller ≡ change.Leaves k)
+      by_spot : (x : Option Spot) → done_by plain store chosen (spot_doing plain caller f p x) ≡ change.Leaves k → (outs : List Value) × (change.Leaves (option_map (returned plain outs) caller) ≡ change.Leaves k)
       by_spot None q = (outs_in p f.locals, q)
       by_spot (Some s) q = absurd (subst StaysIn q (in_layer p f.locals s.number s.next (out-Stmt s.stmt)))
 
@@ -195,12 +193,12 @@ module _ (program : Program) (layer : ℕ) (f : Proc × Activation) where
   entered_frame After frame place k = absurd (none-some f k)
 
 module _ (program : Program) (layer : ℕ) (layered : IsLayered program) (thread : Running) (store : Store) (chosen : List Value) where
-  returned_none : (below : List Activation) (g : Activation) (outs : List Value) → AreWaiting (program_at program layer) below g → (c : Option Activation) → caller_of below ≡ c → (k : Option Activation) → leaves (program_at program layer) outs c ≡ change.Leaves k
+  returned_none : (below : List Activation) (g : Activation) (outs : List Value) → AreWaiting (program_at program layer) below g → (c : Option Activation) → caller_of below ≡ c → (k : Option Activation) → change.Leaves (option_map (returned (program_at program layer) outs) c) ≡ change.Leaves k
       → framed_state program (layer + 1) (state_after (Inside below g) (change.Leaves k)) ≡ None
   returned_none below g outs w None q k e = subst (λ (x : Change). framed_state program (layer + 1) (state_after (Inside below g) x) ≡ None) e refl
   returned_none below g outs w (Some b) q k e = subst (λ (x : Change). framed_state program (layer + 1) (state_after (Inside below g) x) ≡ None) e (back_outside program layer layered below g b w q outs)
 
-  back_none : (state : State) → StateIsStacked (program_at program layer) thread.callee state → (k : Option Activation) → state_change (program_at program layer) store chosen thread state ≡ change.Leaves k → framed_state program (layer + 1) (state_after state (change.Leaves k)) ≡ None
+  back_none : (state : State) → StateIsStacked (program_at program layer) thread.callee state → (k : Option Activation) → done_by (program_at program layer) store chosen (state_doing (program_at program layer) thread state) ≡ change.Leaves k → framed_state program (layer + 1) (state_after state (change.Leaves k)) ≡ None
   back_none Before h k e = refl
   back_none After h k e = refl
   back_none (Inside below g) h k e =
@@ -235,7 +233,7 @@ called_so keep program layer store s m d f r e before after = by_change (change_
           thread = left.thread;
           there = left.there;
           place = place;
-          calls = enters_so (program_at program layer) s.config.store m.choices (doing (program_at program layer) left.thread) frame place (sym (change_is (program_at program layer) s.config.store m.choices left.thread) ∙ is) ∙ ap (λ (a : Activation). does.Enters a place) (entered_frame program layer f left.thread.state frame place framed);
+          calls = enters_so (program_at program layer) s.config.store m.choices (doing (program_at program layer) left.thread) frame place is ∙ ap (λ (a : Activation). does.Enters a place) (entered_frame program layer f left.thread.state frame place framed);
           store = ap (λ (c : Config). c.store) same;
           new = thread_after left.thread (change.Enters frame place);
           now = ap (λ (c : Config). slice_get c.threads m.thread) same ∙ set_same s.config.threads m.thread left.thread (thread_after left.thread (change.Enters frame place)) left.there;

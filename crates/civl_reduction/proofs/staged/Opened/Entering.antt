@@ -24,9 +24,8 @@ use Rattle.civl_meaning.specs.declared.config.State.TheVariants.{Before, Inside,
 use Rattle.civl_meaning.specs.declared.config.Running.{Running}
 use Rattle.civl_meaning.specs.Places.{Spot, spot_at}
 use Rattle.civl_meaning.specs.Meaning.{Meaning, Does, Runs, Missing, called, meaning_of, meaning_by, meaning_of_action, meaning_else, refined, proc_number}
-use Rattle.civl_meaning.specs.Change.{new_frame, caller_of, outs_in}
-use Rattle.civl_reduction.specs.exchanges.Doing.{Doing, call_doing, layer_doing, leaving, spot_doing, proc_doing, state_doing, doing}
-use Rattle.civl_reduction.specs.exchanges.Doing as does
+use Rattle.civl_meaning.specs.Change.{new_frame, caller_of, outs_in, Doing, call_doing, statement_doing, leaving, spot_doing, proc_doing, state_doing, doing}
+use Rattle.civl_meaning.specs.Change as does
 use Rattle.civl_linear.specs.Held.{Traced, traced, traced_all, entry_held}
 use Rattle.civl_linear.proofs.Examples.{traced_form, traced_is}
 use Rattle.civl_reduction.specs.permissions.Owned.{held_before}
@@ -77,7 +76,7 @@ module _ (plain : Plain) where
   new_assert true ls next = tt
   new_assert false ls next = tt
 
-  new_layer : (p : Proc) (ls : List Value) (at next : ℕ) (d : stmt.Stmt-F Stmt) → MakesNew plain.program (layer_doing plain p ls at next d)
+  new_layer : (p : Proc) (ls : List Value) (at next : ℕ) (d : stmt.Stmt-F Stmt) → MakesNew plain.program (statement_doing plain p ls at next d)
   new_layer p ls at next (stmt.Assert e) = new_assert (is_true (value_of (frame_values plain.program.globals p ls) e)) ls next
   new_layer p ls at next (stmt.Call f es rs) = new_call (names_in_proc p) ls rs at next (called plain f) (values_of (frame_values plain.program.globals p ls) es) (name_runs f)
   new_layer p ls at next _ = tt

@@ -27,7 +27,8 @@ use Rattle.civl_meaning.specs.Places.{Spot, is_skipped, skip_layer, spot_at}
 use Rattle.civl_meaning.specs.Rest.{Rest, place_in, head_of}
 use Rattle.civl_meaning.specs.Meaning.{Meaning, Does, Runs, Missing, called}
 use Rattle.civl_meaning.specs.Layers.{program_at}
-use Rattle.civl_meaning.specs.Change.{acted, layer_change, call_change, returned, returned_in, returned_at}
+use Rattle.civl_meaning.specs.Change.{acted, done_by, statement_doing, call_doing, returned, returned_in, returned_at}
+use Rattle.civl_meaning.specs.Change as does
 use Rattle.civl_meaning.specs.Config.{IsBodyOf, LayerCalls, SpotCalls, ProcCalls, Waits, AreWaiting}
 use Rattle.civl_meaning.proofs.Safe.{bad_choices}
 use Rattle.civl_layers.specs.Layered.{IsLayered}
@@ -62,9 +63,9 @@ module _ (program : Program) (layer : ℕ) (layered : IsLayered program) (roots 
   abbrev plain : Plain
   plain = program_at program layer
 
-  by_assert : (b : Bool) (ls : List Value) (next : ℕ) → IsOwn (if b then change.Goes ls next else change.Stays answer.Failing)
-  by_assert true ls next = tt
-  by_assert false ls next = failing_not
+  by_assert : (g : Store) (values : List Value) (b : Bool) (ls : List Value) (next : ℕ) → IsOwn (done_by (program_at program layer) g values (if b then does.Goes ls next else does.Fails))
+  by_assert g values true ls next = tt
+  by_assert g values false ls next = failing_not
 
   by_action : (b c : Bool) (x : Fired) (ns : List Name) (ls : List Value) (rs : List Name) (next : ℕ) → IsOwn (if b then (if c then acted ns ls rs next x else change.Stays answer.BadChoices) else change.Stays answer.Failing)
   by_action true true fire.GateFalse ns ls rs next = failing_not
@@ -74,14 +75,14 @@ module _ (program : Program) (layer : ℕ) (layered : IsLayered program) (roots 
   by_action false c x ns ls rs next = failing_not
 
   by_call : (g : Store) (values : List Value) (ns : List Name) (ls : List Value) (rs : List Name) (at next : ℕ) (f : Name) (vs : List Value) → ((n : ℕ) (body : Proc) → called (program_at program layer) f ≡ Runs n body → ⊥) → (m : Meaning) → called (program_at program layer) f ≡ m
-      → IsOwn (call_change (program_at program layer) g values ns ls rs at next m vs)
+      → IsOwn (done_by (program_at program layer) g values (call_doing ns ls rs at next m vs))
   by_call g values ns ls rs at next f vs none (Does a) e = by_action (gate_holds program.globals g a vs) (choices_fit a values) (fired program.globals g a vs values) ns ls rs next
   by_call g values ns ls rs at next f vs none (Runs n body) e = none n body e
   by_call g values ns ls rs at next f vs none Missing e = blocked_not
 
-  own_form : (g : Store) (values ls : List Value) (at next : ℕ) (s : Stmt) → statement_at proc.body at ≡ Some s → (d : stmt.Stmt-F Stmt) → out-Stmt s ≡ d → IsOwn (layer_change (program_at program layer) g values proc ls at next d)
+  own_form : (g : Store) (values ls : List Value) (at next : ℕ) (s : Stmt) → statement_at proc.body at ≡ Some s → (d : stmt.Stmt-F Stmt) → out-Stmt s ≡ d → IsOwn (done_by (program_at program layer) g values (statement_doing (program_at program layer) proc ls at next d))
   own_form g values ls at next s here (stmt.Assign x v) e = tt
-  own_form g values ls at next s here (stmt.Assert v) e = by_assert (is_true (value_of (frame_values program.globals proc ls) v)) ls next
+  own_form g values ls at next s here (stmt.Assert v) e = by_assert g values (is_true (value_of (frame_values program.globals proc ls) v)) ls next
   own_form g values ls at next s here (stmt.If v a b) e = tt
   own_form g values ls at next s here (stmt.While v a) e = tt
   own_form g values ls at next s here (stmt.YieldLoop v i a) e = tt
@@ -94,7 +95,7 @@ module _ (program : Program) (layer : ℕ) (layered : IsLayered program) (roots 
   own_form g values ls at next s here stmt.Commit e = blocked_not
   own_form g values ls at next s here (stmt.Intro x v) e = blocked_not
 
-  pub own_step : (g : Store) (values ls : List Value) (place : ℕ) (s : Spot) → spot_at proc.body place ≡ Some s → IsOwn (layer_change (program_at program layer) g values proc ls s.number s.next (out-Stmt s.stmt))
+  pub own_step : (g : Store) (values ls : List Value) (place : ℕ) (s : Spot) → spot_at proc.body place ≡ Some s → IsOwn (done_by (program_at program layer) g values (statement_doing (program_at program layer) proc ls s.number s.next (out-Stmt s.stmt)))
   own_step g values ls place s e = own_form g values ls s.number s.next s.stmt (spot_stands proc.body place s e) (out-Stmt s.stmt) refl
 
 -- ---- frames that wait

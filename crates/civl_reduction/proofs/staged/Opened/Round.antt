@@ -1,6 +1,6 @@
 -- A step of an open block's thread: at the head of a rank loop a path begins anew, and at the exit the block has ended.
 use Rattle.std.proofs.Common.{◌≡◌, ◌≢◌, ℕ, ◌+◌, ◌≤◌, Bool, true, false, not, List, [], ◌++◌, length, Option, None, Some, slice_get, refl, sym, ap, ◌∙◌, subst, arith, inl, inr, ◌⊎◌}
-use Rattle.std.specs.Prelude.{IsTrue, flat_map}
+use Rattle.std.specs.Prelude.{option_map, IsTrue, flat_map}
 use Rattle.std.specs.Option.{option_map_or}
 use Rattle.std.proofs.lemmas.Bool.{false≢true}
 use Rattle.std.proofs.lemmas.Option.{same_Some, none-some, slice_get_past}
@@ -25,7 +25,7 @@ use Rattle.civl_meaning.specs.declared.config.Change.TheVariants as change
 use Rattle.civl_meaning.specs.Permissions.{pairwise_disjoint, of_globals}
 use Rattle.civl_meaning.specs.Places.{Spot, spot_at}
 use Rattle.civl_meaning.specs.Rest.{rest_at}
-use Rattle.civl_meaning.specs.Change.{change_of, state_change, proc_change, spot_change, leaves, caller_of, outs_in, returned}
+use Rattle.civl_meaning.specs.Change.{change_of, done_by, state_doing, proc_doing, spot_doing, caller_of, outs_in, returned}
 use Rattle.civl_meaning.specs.Step.{thread_after, state_after, config_after, step_with, step_of}
 use Rattle.civl_meaning.specs.Failing.{IsMove}
 use Rattle.civl_meaning.specs.Layers.{program_at}
@@ -205,21 +205,21 @@ module _ (keep : ActionsKeepPermissions) (in_roots : SpawnsAreInRoots) (program 
     tp_below = (top keep in_roots program layer store s m d r mv e o).below
 
     -- the frame is removed
-    does : change_of (program_at program layer) s.config.store m.choices o.thread ≡ leaves (program_at program layer) (outs_in o.f.0 o.f.1.locals) (caller_of tp_below)
+    does : change_of (program_at program layer) s.config.store m.choices o.thread ≡ change.Leaves (option_map (returned (program_at program layer) (outs_in o.f.0 o.f.1.locals)) (caller_of tp_below))
     does =
-        ap (state_change (program_at program layer) s.config.store m.choices o.thread) (top keep in_roots program layer store s m d r mv e o).is
-        ∙ (ap (proc_change (program_at program layer) s.config.store m.choices (caller_of tp_below) o.f.1) (top keep in_roots program layer store s m d r mv e o).of.there
-        ∙ ap (spot_change (program_at program layer) s.config.store m.choices (caller_of tp_below) o.f.1 o.f.0) spot)
+        ap (λ (x : State). done_by (program_at program layer) s.config.store m.choices (state_doing (program_at program layer) o.thread x)) (top keep in_roots program layer store s m d r mv e o).is
+        ∙ (ap (λ (x : Option Proc). done_by (program_at program layer) s.config.store m.choices (proc_doing (program_at program layer) (caller_of tp_below) o.f.1 x)) (top keep in_roots program layer store s m d r mv e o).of.there
+        ∙ ap (λ (x : Option Spot). done_by (program_at program layer) s.config.store m.choices (spot_doing (program_at program layer) (caller_of tp_below) o.f.1 o.f.0 x)) spot)
 
     stack : IsStack (program_at program layer) o.thread.callee tp_below o.f.1
     stack = subst (StateIsStacked (program_at program layer) o.thread.callee) (top keep in_roots program layer store s m d r mv e o).is (stacked keep in_roots program layer store s m d r mv e o)
 
     -- no frame of the layer is there behind it
-    none_there : (k : Option Activation) → caller_of tp_below ≡ k → framed_state program (layer + 1) (state_after (Inside tp_below o.f.1) (leaves (program_at program layer) (outs_in o.f.0 o.f.1.locals) k)) ≡ None
+    none_there : (k : Option Activation) → caller_of tp_below ≡ k → framed_state program (layer + 1) (state_after (Inside tp_below o.f.1) (change.Leaves (option_map (returned (program_at program layer) (outs_in o.f.0 o.f.1.locals)) k))) ≡ None
     none_there None q = refl
     none_there (Some f) q = back_outside program layer (let c = r.checked in c.layered) tp_below o.f.1 f stack.waiting q (outs_in o.f.0 o.f.1.locals)
 
-    by_caller : (k : Option Activation) → caller_of tp_below ≡ k → step_with s.config m.thread o.thread (leaves (program_at program layer) (outs_in o.f.0 o.f.1.locals) k) ≡ (answer.Moved, d) → (frame_at program (layer + 1) d.threads m.thread ≡ None) × (d.store ≡ s.config.store)
+    by_caller : (k : Option Activation) → caller_of tp_below ≡ k → step_with s.config m.thread o.thread (change.Leaves (option_map (returned (program_at program layer) (outs_in o.f.0 o.f.1.locals)) k)) ≡ (answer.Moved, d) → (frame_at program (layer + 1) d.threads m.thread ≡ None) × (d.store ≡ s.config.store)
     by_caller None q x =
         let same : d ≡ config_after s.config m.thread o.thread (change.Leaves None) = sym (ap (λ (z : Stepped × Config). z.1) x) in (
           ap (λ (c : Config). frame_at program (layer + 1) c.threads m.thread) same

@@ -21,7 +21,7 @@ use Rattle.civl_meaning.specs.declared.config.Change.{Change}
 use Rattle.civl_meaning.specs.declared.config.Change.TheVariants as change
 use Rattle.civl_meaning.specs.Permissions.{pairwise_disjoint}
 use Rattle.civl_meaning.specs.Places.{Spot, spot_at}
-use Rattle.civl_meaning.specs.Change.{change_of, layer_change}
+use Rattle.civl_meaning.specs.Change.{change_of, done_by, statement_doing}
 use Rattle.civl_meaning.specs.Step.{thread_after, state_after, step_with, step_in, step_of}
 use Rattle.civl_meaning.specs.Failing.{IsMove}
 use Rattle.civl_meaning.specs.Layers.{program_at}
@@ -142,9 +142,9 @@ module _ (keep : ActionsKeepPermissions) (in_roots : SpawnsAreInRoots) (program 
         (open_blocks_go_on program (layer + 1) o.f.1.procedure o.c o.f.0 o.cut o.b o.bound o.here s.config.store o.f.1 o.thread m.choices sp (sound program layer store r.checked) o.opened is_topmost mv away spot)
 
     -- the thread does what its frame does
-    does : (g : Store) → change_of (program_at program layer) g m.choices o.thread ≡ layer_change (program_at program layer) g m.choices o.f.0 o.f.1.locals sp.number sp.next (out-Stmt sp.stmt)
+    does : (g : Store) → change_of (program_at program layer) g m.choices o.thread ≡ done_by (program_at program layer) g m.choices (statement_doing (program_at program layer) o.f.0 o.f.1.locals sp.number sp.next (out-Stmt sp.stmt))
     does g =
-        subst (λ (p : Plain). change_of p g m.choices o.thread ≡ layer_change p g m.choices o.f.0 o.f.1.locals sp.number sp.next (out-Stmt sp.stmt)) lower_is
+        subst (λ (p : Plain). change_of p g m.choices o.thread ≡ done_by p g m.choices (statement_doing p o.f.0 o.f.1.locals sp.number sp.next (out-Stmt sp.stmt))) lower_is
         (thread_does program (layer + 1) o.f.1.procedure o.f.0 o.thread o.f.1 top.of.there is_topmost g m.choices sp spot)
 
     own : IsOwn (change_of (program_at program layer) s.config.store m.choices o.thread)
@@ -210,7 +210,7 @@ module _ (keep : ActionsKeepPermissions) (in_roots : SpawnsAreInRoots) (program 
               → change_of (program_at program layer) (merged program layer s.config.store s.shadow.store) m.choices o.thread ≡ change.Acts inner locals place
           inner_does inner k =
               does (merged program layer s.config.store s.shadow.store)
-              ∙ (ap (λ (p : Plain). layer_change p (merged program layer s.config.store s.shadow.store) m.choices o.f.0 o.f.1.locals sp.number sp.next (out-Stmt sp.stmt)) (sym lower_is)
+              ∙ (ap (λ (p : Plain). done_by p (merged program layer s.config.store s.shadow.store) m.choices (statement_doing p o.f.0 o.f.1.locals sp.number sp.next (out-Stmt sp.stmt))) (sym lower_is)
               ∙ (ap (λ (g : Store). frame_does program (layer + 1) o.f.0 g m.choices o.f.1 sp) (sym o.store) ∙ k))
       by_change (change.Stays a) is fine x on = absurd (fine (ap (λ (z : Stepped × Config). z.0) x))
       by_change (change.Enters frame place) is fine x on = absurd fine

@@ -22,7 +22,7 @@ use Rattle.civl_reduction.specs.interleavings.Reduction.{Place, Between, Early, 
 use Rattle.civl_reduction.specs.interleavings.Threads.{IsIn, Phases}
 use Rattle.civl_reduction.specs.interleavings.Threads as threads
 use Rattle.civl_reduction.specs.exchanges.Interleavings.{Chosen, Call, whole}
-use Rattle.civl_reduction.specs.exchanges.Doing.{doing}
+use Rattle.civl_meaning.specs.Change.{doing}
 use Rattle.civl_reduction.proofs.exchanges.Exchanging.{config_of}
 use Rattle.civl_reduction.proofs.permissions.Staying.{IsKept}
 use Rattle.civl_reduction.proofs.mover_laws.Instance as mover

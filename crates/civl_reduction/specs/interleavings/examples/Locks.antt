@@ -1,7 +1,7 @@
 -- Two threads that each take a lock, do a step of their own, and give it back: an interleaving, and a block run.
 use Rattle.std.specs.Prelude.{ℕ, Bool, true, false, List, [], ◌∷◌, Option, None, Some}
 use Rattle.civl_reduction.specs.interleavings.Systems.{System}
-use Rattle.civl_reduction.specs.interleavings.Runs.{RunsTo, IsBlockRun}
+use Rattle.civl_reduction.specs.interleavings.Runs.{SystemRuns, IsBlockRun}
 use Rattle.civl_reduction.specs.interleavings.Threads.{Doing, Goes, Waits, Calls, Config, Move, Threads, system_of}
 
 pub data Action : Type 0 where
@@ -68,7 +68,7 @@ abbrev pub one_gone : Config Bool Locker
 one_gone = record { store = false; threads = Gone ∷ Wanting ∷ [] }
 
 abbrev pub InterleavedRuns : Type 0
-InterleavedRuns = RunsTo locks.steps interleaved locks.start one_gone
+InterleavedRuns = SystemRuns locks.steps interleaved locks.start one_gone
 
 -- the first is no block run, though it runs
 abbrev pub InterleavedIsNone : Type 0
@@ -83,4 +83,4 @@ UnfinishedIsNone = (end : Config Bool Locker) → IsBlockRun locks (by 0 ∷ by 
 
 -- the second thread can't take the lock while the first holds it
 abbrev pub SecondIsBlocked : Type 0
-SecondIsBlocked = (end : Config Bool Locker) → RunsTo locks.steps (by 0 ∷ by 0 ∷ by 1 ∷ by 1 ∷ []) locks.start end → ⊥
+SecondIsBlocked = (end : Config Bool Locker) → SystemRuns locks.steps (by 0 ∷ by 0 ∷ by 1 ∷ by 1 ∷ []) locks.start end → ⊥

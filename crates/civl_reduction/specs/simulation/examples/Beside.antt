@@ -16,7 +16,7 @@ use Rattle.civl_meaning.specs.declared.config.State.TheVariants.{Before, After}
 use Rattle.civl_meaning.specs.declared.config.State.{State}
 use Rattle.civl_meaning.specs.declared.config.Running.{Running}
 use Rattle.civl_meaning.specs.Layers.{program_at}
-use Rattle.civl_reduction.specs.exchanges.Doing.{Enters, doing}
+use Rattle.civl_meaning.specs.Change.{Enters, doing}
 use Rattle.civl_reduction.specs.blocks.examples.Blocks.{set, program_with}
 use Rattle.civl_reduction.specs.simulation.Meets.{beside}
 

@@ -2,7 +2,7 @@ use Rattle.std.proofs.Common.{◌≡◌, ◌∙◌, ◌++◌, ◌∷◌, [], ◌
 use Rattle.std.proofs.lemmas.List.{take_more}
 use Rattle.civl_cnf.specs.Literal.{Literal}
 use Rattle.civl_units.specs.Propagation.{GivesConflict}
-use Rattle.civl_rup.specs.Standing.{Stands}
+use Rattle.civl_rup.specs.inner.Standing.{Stands}
 use Rattle.civl_rup.proofs.Standings.{conflict_front}
 use Rattle.civl_rup.proofs.conflicts.load.Goals as goal
 

@@ -4,7 +4,7 @@ use Rattle.civl_cnf.specs.Literal.{Literal}
 use Rattle.civl_cnf.specs.ClauseSet.{AreBelow}
 use Rattle.civl_units.specs.Propagation.{IsClosed, IsClosedAt}
 use Rattle.civl_units.proofs.Propagating.{all_left}
-use Rattle.civl_rup.specs.Following.{IsRoot}
+use Rattle.civl_rup.specs.inner.Following.{IsRoot}
 use Rattle.civl_rup.proofs.Hints.{root_more}
 use Rattle.civl_rup.proofs.Replays.{earlier_below, have_next, rup_moved}
 use Rattle.civl_rup.proofs.following.followed.Goals as goal

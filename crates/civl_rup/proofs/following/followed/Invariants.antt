@@ -1,6 +1,6 @@
 use Rattle.std.proofs.Common.{◌≡◌, ◌++◌, length, take}
 use Rattle.civl_rup.specs.Rup.{HaveRup}
-use Rattle.civl_rup.specs.Following.{IsLoose, IsRoot}
+use Rattle.civl_rup.specs.inner.Following.{IsLoose, IsRoot}
 use Rattle.civl_rup.proofs.following.followed.Given as goal
 
 abbrev pub invariant-loop-at : goal.invariant-loop-at

@@ -1,5 +1,5 @@
 use Rattle.std.proofs.Common.{◌∙◌, ◌++◌, subst}
-use Rattle.civl_rup.specs.Following.{Heeds}
+use Rattle.civl_rup.specs.inner.Following.{Heeds}
 use Rattle.civl_rup.proofs.Hints.{heeds_then}
 use Rattle.civl_rup.proofs.following.heed_all.Goals as goal
 

@@ -1,5 +1,5 @@
 use Rattle.std.proofs.Common.{◌≡◌, ◌++◌, false, length}
-use Rattle.civl_rup.specs.Following.{IsLoose, Heeds}
+use Rattle.civl_rup.specs.inner.Following.{IsLoose, Heeds}
 use Rattle.civl_rup.proofs.following.heed_all.Given as goal
 
 abbrev pub invariant-loop-hint : goal.invariant-loop-hint

@@ -1,5 +1,5 @@
 use Rattle.std.proofs.Common.{◌≡◌, length}
-use Rattle.civl_rup.specs.Following.{IsLoose, AssumptionSays}
+use Rattle.civl_rup.specs.inner.Following.{IsLoose, AssumptionSays}
 use Rattle.civl_rup.proofs.following.make_all_false.Given as goal
 
 abbrev pub invariant-loop-lit : goal.invariant-loop-lit

@@ -5,7 +5,7 @@ use Rattle.civl_cnf.specs.Literal.{Literal}
 use Rattle.civl_cnf.specs.ClauseSet.{AreBelow}
 use Rattle.civl_units.specs.Trail.{Marking}
 use Rattle.civl_rup.specs.Rup.{HasRup, IsFirstWithoutRup}
-use Rattle.civl_rup.specs.Standing.{Stands, TakeSays}
+use Rattle.civl_rup.specs.inner.Standing.{Stands, TakeSays}
 use Rattle.civl_rup.proofs.Replays.{earlier_below, have_next}
 use Rattle.civl_rup.proofs.replaying.first_refused.Goals as goal
 

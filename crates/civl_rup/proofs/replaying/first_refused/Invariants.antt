@@ -1,6 +1,6 @@
 use Rattle.std.proofs.Common.{◌≡◌, ◌++◌, length, take}
 use Rattle.civl_rup.specs.Rup.{HaveRup}
-use Rattle.civl_rup.specs.Standing.{Stands}
+use Rattle.civl_rup.specs.inner.Standing.{Stands}
 use Rattle.civl_rup.proofs.replaying.first_refused.Given as goal
 
 abbrev pub invariant-loop-at : goal.invariant-loop-at

@@ -3,7 +3,7 @@ use Rattle.std.proofs.lemmas.List.{get_or_default, take_more, take_all, take-app
 use Rattle.civl_cnf.specs.Literal.{Literal}
 use Rattle.civl_cnf.specs.ClauseSet.{IsBelow}
 use Rattle.civl_units.specs.Propagation.{GivesConflict}
-use Rattle.civl_rup.specs.Standing.{IsAtRoot, Stands}
+use Rattle.civl_rup.specs.inner.Standing.{IsAtRoot, Stands}
 use Rattle.civl_rup.proofs.Standings.{conflict_more}
 use Rattle.civl_rup.proofs.replaying.load_log.Goals as goal
 

@@ -1,6 +1,6 @@
 use Rattle.std.proofs.Common.{ℕ, List, ◌++◌, take}
 use Rattle.civl_cnf.specs.Literal.{Literal}
-use Rattle.civl_rup.specs.Standing.{Stands}
+use Rattle.civl_rup.specs.inner.Standing.{Stands}
 use Rattle.civl_rup.proofs.replaying.load_log.Given as goal
 
 abbrev pub invariant-loop-clause : goal.invariant-loop-clause

@@ -1,7 +1,7 @@
 use Rattle.std.proofs.Common.{◌≡◌, ◌∙◌, ◌++◌, ◌∷◌, [], ℕ, List, length, sym, subst}
 use Rattle.civl_cnf.specs.Literal.{Literal}
 use Rattle.civl_units.specs.Propagation.{GivesConflict}
-use Rattle.civl_rup.specs.Standing.{Stands}
+use Rattle.civl_rup.specs.inner.Standing.{Stands}
 use Rattle.civl_rup.proofs.Standings.{conflict_more, conflict_anyway}
 use Rattle.civl_rup.proofs.taking.take_clause.Goals as goal
 

@@ -4,7 +4,7 @@ use Rattle.civl_tree.specs.rules.Names.{names_in_proc}
 use Rattle.civl_firing.specs.Eval.{values_of}
 use Rattle.civl_firing.specs.Scope.{frame_values}
 use Rattle.civl_meaning.specs.Meaning.{called}
-use Rattle.civl_reduction.specs.exchanges.Doing.{call_doing}
+use Rattle.civl_meaning.specs.Change.{call_doing}
 use Rattle.civl_reduction.specs.blocks.Challenged.{call_challenged}
 use Rattle.civl_shadows.proofs.challenging.call_challenged.Goals as goal
 

@@ -1,6 +1,6 @@
 use Rattle.std.proofs.Common.{◌≡◌, ℕ, drop}
 use Rattle.civl_meaning.specs.Rest.{head_of}
-use Rattle.civl_meaning.specs.Left.{stmt_of}
+use Rattle.civl_meaning.specs.inner.Left.{stmt_of}
 use Rattle.civl_meaning.specs.Remaining.{rest_of}
 use Rattle.civl_shadows.proofs.challenging.head.Given as goal
 

@@ -2,7 +2,7 @@ use Rattle.std.proofs.Common.{◌+◌, ◌++◌, ◌∷◌, [], List, drop, sym,
 use Rattle.std.proofs.lemmas.List.{append-nil}
 use Rattle.civl_bits.specs.declared.value.Value.{Value}
 use Rattle.civl_reduction.specs.blocks.Shadow.{merged_values}
-use Rattle.civl_shadows.specs.Merging.{picked}
+use Rattle.civl_shadows.specs.inner.Merging.{picked}
 use Rattle.civl_shadows.proofs.Merges.{merged_at, merged_end}
 use Rattle.civl_shadows.proofs.merging.merged.Goals as goal
 

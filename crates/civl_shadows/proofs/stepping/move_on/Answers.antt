@@ -4,7 +4,7 @@ use Rattle.civl_reduction.specs.blocks.Cuts.{frame_at}
 use Rattle.civl_reduction.specs.blocks.Shadow.{after_frame}
 use Rattle.civl_shadows.specs.Frames.{framed_of}
 use Rattle.civl_shadows.specs.Shadows.{IsShadow}
-use Rattle.civl_shadows.specs.Stepping.{with_effect, begun_by}
+use Rattle.civl_shadows.specs.inner.Stepping.{with_effect, begun_by}
 use Rattle.civl_shadows.proofs.stepping.move_on.Goals as goal
 
 pub returns-clause-shadow : goal.returns-clause-shadow

@@ -4,7 +4,7 @@ use Rattle.std.proofs.lemmas.Option.{slice_get_read}
 use Rattle.civl_layers.specs.declared.cut.Cut.{Cut}
 use Rattle.civl_layers.specs.Cuts.{proc_cuts}
 use Rattle.civl_bodies.specs.Bodies.{ArePassed}
-use Rattle.civl_states.specs.Sorted.{cut_sorts}
+use Rattle.civl_states.specs.inner.Sorted.{cut_sorts}
 use Rattle.civl_states.proofs.Calling.{passed_there}
 use Rattle.civl_states.proofs.Grouping.{none_behind}
 use Rattle.civl_states.proofs.sorts.push_from.Goals as goal

@@ -1,4 +1,4 @@
-use Rattle.civl_states.specs.Sorted.{thread_sorts}
+use Rattle.civl_states.specs.inner.Sorted.{thread_sorts}
 use Rattle.civl_states.proofs.Grouping.{none_behind}
 use Rattle.civl_states.proofs.sorts.push_other.Goals as goal
 

@@ -1,6 +1,6 @@
 use Rattle.std.proofs.Common.{◌∙◌, ◌++◌, List, ap}
 use Rattle.civl_tree.specs.declared.expr.Sort.{Sort}
-use Rattle.civl_states.specs.Sorted.{grouped_sorts}
+use Rattle.civl_states.specs.inner.Sorted.{grouped_sorts}
 use Rattle.civl_states.proofs.Grouping.{grouped_are}
 use Rattle.civl_states.proofs.sorts.variable_sorts.Goals as goal
 

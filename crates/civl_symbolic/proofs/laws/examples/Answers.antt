@@ -2,7 +2,7 @@ use Rattle.std.specs.Int.{bit_at}
 use Rattle.std.proofs.Common.{◌≡◌, ◌∙◌, ℕ, ◌+◌, ◌<◌, refl, ap, sym, arith, inl, inr}
 use Rattle.std.proofs.lemmas.Bool.{cases_eq}
 use Rattle.civl_cnf.specs.Gates.{bit}
-use Rattle.civl_symbolic.specs.Laws.{two_true}
+use Rattle.civl_symbolic.specs.examples.Symbolic.{two_true}
 use Rattle.civl_symbolic.proofs.laws.examples.Goals as goal
 
 shown : (j : ℕ) → j < 2 → bit (two_true (1 + j)) ≡ bit_at 2 j

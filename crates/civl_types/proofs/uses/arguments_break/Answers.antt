@@ -2,7 +2,7 @@ use Rattle.std.proofs.Common.{◌≡◌, ◌∙◌, Bool, true, false, ap, sym, 
 use Rattle.std.specs.Prelude.{Option, ◌||◌, slice_get}
 use Rattle.civl_tree.specs.declared.expr.Sort.{Sort}
 use Rattle.civl_tree.specs.rules.Uses.{target_use, argument_uses}
-use Rattle.civl_types.specs.Rules.{sorts_at, use_breaks, any_use}
+use Rattle.civl_types.specs.inner.Rules.{sorts_at, use_breaks, any_use}
 use Rattle.civl_types.specs.Views.{scope_of}
 use Rattle.civl_types.proofs.Slots.{next_use}
 use Rattle.civl_types.proofs.uses.arguments_break.Goals as goal

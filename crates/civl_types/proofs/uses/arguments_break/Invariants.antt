@@ -1,6 +1,6 @@
 use Rattle.std.proofs.Common.{◌≡◌, drop}
 use Rattle.civl_tree.specs.rules.Uses.{argument_uses}
-use Rattle.civl_types.specs.Rules.{sorts_at, any_use}
+use Rattle.civl_types.specs.inner.Rules.{sorts_at, any_use}
 use Rattle.civl_types.specs.Views.{scope_of}
 use Rattle.civl_types.proofs.uses.arguments_break.Given as goal
 

@@ -1,6 +1,6 @@
 use Rattle.std.proofs.Common.{◌≡◌, drop, map, Some}
 use Rattle.civl_tree.specs.rules.Uses.{target_use}
-use Rattle.civl_types.specs.Rules.{any_use}
+use Rattle.civl_types.specs.inner.Rules.{any_use}
 use Rattle.civl_types.specs.Views.{scope_of}
 use Rattle.civl_types.proofs.uses.offers_break.Given as goal
 

@@ -1,7 +1,7 @@
 use Rattle.std.proofs.Common.{◌≡◌, drop, map}
 use Rattle.civl_tree.specs.rules.Scopes.{guard_scope}
 use Rattle.civl_tree.specs.rules.Uses.{target_use, update_sort}
-use Rattle.civl_types.specs.Rules.{any_use}
+use Rattle.civl_types.specs.inner.Rules.{any_use}
 use Rattle.civl_types.proofs.uses.updates_break.Given as goal
 
 abbrev pub invariant-loop-update : goal.invariant-loop-update

@@ -1,7 +1,7 @@
 use Rattle.std.proofs.Common.{refl}
 use Rattle.clap.proofs.OnLiterals.{clap_on_literals}
 use Rattle.civl_words.specs.Words.{command_of}
-use Rattle.civl_words.specs.Examples.{EachCommandHasWords}
+use Rattle.civl_words.specs.examples.Lines.{EachCommandHasWords}
 use Rattle.civl_words.proofs.laws.each_command_has_words.Goals as goal
 
 shown : EachCommandHasWords

@@ -1,7 +1,7 @@
 use Rattle.std.proofs.Common.{refl}
 use Rattle.clap.proofs.OnLiterals.{clap_on_literals}
 use Rattle.civl_words.specs.Words.{command_of}
-use Rattle.civl_words.specs.Examples.{NumbersAreRead}
+use Rattle.civl_words.specs.examples.Lines.{NumbersAreRead}
 use Rattle.civl_words.proofs.laws.numbers_are_read.Goals as goal
 
 shown : NumbersAreRead

@@ -1,7 +1,7 @@
 use Rattle.std.proofs.Common.{refl}
 use Rattle.clap.proofs.OnLiterals.{clap_on_literals}
 use Rattle.civl_words.specs.Words.{command_of}
-use Rattle.civl_words.specs.Examples.{OthersAreNoCommand}
+use Rattle.civl_words.specs.examples.Lines.{OthersAreNoCommand}
 use Rattle.civl_words.proofs.laws.others_are_no_command.Goals as goal
 
 shown : OthersAreNoCommand

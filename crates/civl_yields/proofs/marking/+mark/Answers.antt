@@ -1,6 +1,6 @@
 use Rattle.std.proofs.Common.{rules, Bool, List, ◌≡◌, ◌++◌, map, ◌∙◌, ap, false}
 use Rattle.std.specs.Prelude.{◌||◌}
-use Rattle.civl_yields.specs.Marks.{seen}
+use Rattle.civl_yields.specs.inner.Marks.{seen}
 use Rattle.civl_yields.specs.Phases.{passed_all}
 use Rattle.civl_yields.specs.declared.phase.Phase.{Phase}
 use Rattle.civl_yields.proofs.Stepping.{stepping, seen_pushed, seen_then}

@@ -1,5 +1,5 @@
 use Rattle.std.proofs.Common.{Bool, ◌≡◌, ◌++◌, map, drop}
-use Rattle.civl_yields.specs.Marks.{seen}
+use Rattle.civl_yields.specs.inner.Marks.{seen}
 use Rattle.civl_yields.specs.Phases.{passed_all}
 use Rattle.civl_yields.proofs.marking.+mark.Given as goal
 

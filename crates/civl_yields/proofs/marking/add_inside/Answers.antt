@@ -1,5 +1,5 @@
 use Rattle.std.proofs.Common.{rules}
-use Rattle.civl_yields.specs.Marks.{seen}
+use Rattle.civl_yields.specs.inner.Marks.{seen}
 use Rattle.civl_yields.proofs.Stepping.{seen_more, seen_all}
 use Rattle.civl_yields.proofs.marking.add_inside.Goals as goal
 

@@ -1,5 +1,5 @@
 use Rattle.std.proofs.Common.{Bool, ◌≡◌, ◌++◌, map, take}
-use Rattle.civl_yields.specs.Marks.{seen}
+use Rattle.civl_yields.specs.inner.Marks.{seen}
 use Rattle.civl_yields.proofs.marking.add_inside.Given as goal
 
 abbrev pub invariant-loop-phase : goal.invariant-loop-phase

@@ -1,7 +1,7 @@
 use Rattle.std.proofs.Common.{List, false, ◌++◌, map, ap, ◌∙◌}
 use Rattle.std.proofs.lemmas.List.{take_all}
 use Rattle.civl_yields.specs.declared.phase.Phase.{Phase}
-use Rattle.civl_yields.specs.Marks.{seen}
+use Rattle.civl_yields.specs.inner.Marks.{seen}
 use Rattle.civl_yields.specs.Phases.{phases_before}
 use Rattle.civl_yields.proofs.marking.phases_before.Goals as goal
 

@@ -1,5 +1,5 @@
 use Rattle.std.proofs.Common.{◌≡◌, map, take, false}
-use Rattle.civl_yields.specs.Marks.{seen}
+use Rattle.civl_yields.specs.inner.Marks.{seen}
 use Rattle.civl_yields.proofs.marking.phases_before.Given as goal
 
 abbrev pub invariant-loop-mark : goal.invariant-loop-mark

@@ -2,7 +2,7 @@ use Rattle.std.proofs.Common.{Some}
 use Rattle.civl_bits.specs.Row.{cell_at}
 use Rattle.civl_bits.specs.declared.value.Value.TheVariants as value
 use Rattle.civl_tree.specs.declared.expr.Sort.TheVariants as sort
-use Rattle.civl_blast.specs.rows.Making.{Makes, UsesNone}
+use Rattle.civl_blast.specs.inner.rows.Making.{Makes, UsesNone}
 use Rattle.civl_blast.proofs.rows.cells.constant_cells.Given as goal
 
 abbrev pub invariant-loop-at : goal.invariant-loop-at

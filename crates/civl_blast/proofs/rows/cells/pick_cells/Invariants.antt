@@ -2,7 +2,7 @@ use Rattle.std.proofs.Common.{◌*◌, get_or}
 use Rattle.civl_firing.specs.values.Operators.{pick_value}
 use Rattle.civl_firing.specs.values.Weights.{bits_in}
 use Rattle.civl_terms.specs.Graphs.{sort_at, value_at}
-use Rattle.civl_blast.specs.rows.Making.{Makes, UsesPicks}
+use Rattle.civl_blast.specs.inner.rows.Making.{Makes, UsesPicks}
 use Rattle.civl_blast.proofs.rows.cells.pick_cells.Given as goal
 
 abbrev pub invariant-loop-i : goal.invariant-loop-i

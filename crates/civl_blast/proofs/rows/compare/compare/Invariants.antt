@@ -2,7 +2,7 @@ use Rattle.std.proofs.Common.{◌*◌, ◌+◌, get_or, Some}
 use Rattle.civl_tree.specs.declared.expr.Sort.TheVariants as sort
 use Rattle.civl_firing.specs.values.Weights.{bits_in}
 use Rattle.civl_terms.specs.Graphs.{sort_at, value_at}
-use Rattle.civl_blast.specs.rows.Making.{MakesOne, UsesPairs, joined}
+use Rattle.civl_blast.specs.inner.rows.Making.{MakesOne, UsesPairs, joined}
 use Rattle.civl_blast.proofs.rows.compare.compare.Given as goal
 
 abbrev pub invariant-loop-i : goal.invariant-loop-i

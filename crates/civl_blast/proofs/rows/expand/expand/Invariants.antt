@@ -1,4 +1,4 @@
-use Rattle.civl_blast.specs.rows.Expanding.{Expands}
+use Rattle.civl_blast.specs.inner.rows.Expanding.{Expands}
 use Rattle.civl_blast.proofs.rows.expand.expand.Given as goal
 
 abbrev pub invariant-loop-cell : goal.invariant-loop-cell

@@ -1,5 +1,5 @@
 use Rattle.std.proofs.Common.{rules, ◌≡◌, false}
-use Rattle.civl_blast.specs.rows.Expanding.{is_variable}
+use Rattle.civl_blast.specs.inner.rows.Expanding.{is_variable}
 use Rattle.civl_blast.proofs.rows.Growth.{longer}
 use Rattle.civl_blast.proofs.rows.StepCells.{operation_steps}
 use Rattle.civl_blast.proofs.rows.node.step.Goals as goal

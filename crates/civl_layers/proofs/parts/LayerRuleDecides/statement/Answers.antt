@@ -2,7 +2,7 @@ use Rattle.std.proofs.Common.{◌∙◌, List, ap, take}
 use Rattle.civl_tree.specs.declared.program.Proc.{Proc}
 use Rattle.civl_tree.specs.Numbering.{statements_of}
 use Rattle.civl_tree.specs.rules.Rules.{numbers_where, first_of}
-use Rattle.civl_layers.specs.Asked.{stmt_breaks}
+use Rattle.civl_layers.specs.inner.Asked.{stmt_breaks}
 use Rattle.civl_layers.proofs.Telling.{statements_told}
 use Rattle.civl_layers.proofs.parts.LayerRuleDecides.statement.Goals as goal
 

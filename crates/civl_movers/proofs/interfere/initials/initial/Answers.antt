@@ -5,7 +5,7 @@ use Rattle.civl_tree.specs.rules.Scopes.{global_scope}
 use Rattle.civl_firing.specs.declared.store.Store.{Store}
 use Rattle.civl_terms.specs.Weights.{graph_weight}
 use Rattle.civl_terms.proofs.Growing.{lengthens_trans, lengthened}
-use Rattle.civl_conditions.specs.Invariants.{is_initial}
+use Rattle.civl_conditions.specs.Invariants.{meets_init}
 use Rattle.civl_conditions.specs.Weights.{initial_weight}
 use Rattle.civl_states.specs.formula_parts.Given.{bits_of_sorts, AreVariablesOf}
 use Rattle.civl_states.proofs.formula_parts.Giving.{variables_kept}
@@ -37,10 +37,10 @@ returns-clause-says c =
     let n1 = c.store.new.terms in
     let n2 = c.initial_at.new.terms in
     let sorts = c.as_slice.ensures.value ∙ c.in_ok-sorts.ensures in
-    subst (λ (q : Program). IsFormula n2 c.in_ok-id.id (global_sorts q) (λ values. is_initial q (record { values = values }))) c.program-program.ensures.same
-    (formula_of n2 c.in_ok-id.id (global_sorts p) (λ values. is_initial p (record { values = values }))
+    subst (λ (q : Program). IsFormula n2 c.in_ok-id.id (global_sorts q) (λ values. meets_init q (record { values = values }))) c.program-program.ensures.same
+    (formula_of n2 c.in_ok-id.id (global_sorts p) (λ values. meets_init p (record { values = values }))
     (variables_kept n1 n2 (global_sorts p) c.in_ok-id.ensures.grows (subst (AreVariablesOf n1) sorts c.in_ok-globals.ensures.variables))
-    (test_as n2 c.in_ok-id.id _ _ (λ env. ap (λ (g : Store). is_initial p g) (all_store p env)) (c.in_ok-id.ensures.tells _ c.in_ok-globals.ensures.store)))
+    (test_as n2 c.in_ok-id.id _ _ (λ env. ap (λ (g : Store). meets_init p g) (all_store p env)) (c.in_ok-id.ensures.tells _ c.in_ok-globals.ensures.store)))
 
 pub returns-clause-weighs : goal.returns-clause-weighs
 unfolding initial_weight

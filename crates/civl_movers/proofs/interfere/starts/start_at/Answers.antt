@@ -2,7 +2,7 @@ use Rattle.std.proofs.Common.{ℕ, List, sym, subst, arith}
 use Rattle.civl_tree.specs.declared.expr.Sort.TheVariants.{Bool as Truth}
 use Rattle.civl_tree.specs.rules.Scopes.{global_scope}
 use Rattle.civl_terms.proofs.Growing.{grows_trans}
-use Rattle.civl_conditions.specs.Invariants.{is_initial, invariant_lost}
+use Rattle.civl_conditions.specs.Invariants.{meets_init, invariant_lost}
 use Rattle.civl_states.proofs.formula_parts.Saying.{sort_stays, test_stays}
 use Rattle.civl_states.proofs.formula_parts.Listing.{sorts_stay, said_stay}
 use Rattle.civl_states.specs.Stores.{AreGlobals, AreStore}
@@ -19,8 +19,8 @@ both-requires-clause-a c = sort_stays _ _ _ Truth c.in_ok-lost.ensures.grows c.i
 pub returns-clause-tells : goal.returns-clause-tells
 returns-clause-tells c = λ g s.
     let p = c.args.program.now in
-    c.in_ok-id.ensures.test (λ env. is_initial p (g env)) (λ env. invariant_lost p c.args.step c.args.place (g env))
-    (test_stays _ _ _ (λ env. is_initial p (g env)) c.in_ok-lost.ensures.grows (c.in_ok-initial.ensures.tells g s))
+    c.in_ok-id.ensures.test (λ env. meets_init p (g env)) (λ env. invariant_lost p c.args.step c.args.place (g env))
+    (test_stays _ _ _ (λ env. meets_init p (g env)) c.in_ok-lost.ensures.grows (c.in_ok-initial.ensures.tells g s))
     (c.in_ok-lost.ensures.tells g (subst (λ (ids : List ℕ). AreStore c.initial_at.new.terms p ids g) (sym c.as_slice.ensures) (said_stay _ _ _ _ _ c.in_ok-initial.ensures.grows s)))
 
 pub returns-clause-grows : goal.returns-clause-grows

@@ -13,7 +13,7 @@ use Rattle.civl_states.proofs.formula_parts.Saying.{sort_stays, test_stays, test
 use Rattle.civl_states.proofs.formula_parts.Listing.{sorts_stay, said_stay}
 use Rattle.civl_states.specs.Items.{comes_in}
 use Rattle.civl_movers.proofs.Alike.{five_bools}
-use Rattle.civl_refine.specs.steadiness.Kept.{is_lost, words_of, words_count}
+use Rattle.civl_refine.specs.inner.steadiness.Kept.{is_lost, words_of, words_count}
 use Rattle.civl_refine.proofs.steadiness.Aiming.{frame_stays, other_stays, words_there, words_sorted, words_long, words_carry}
 use Rattle.civl_refine.proofs.steadiness.Ending.{act_tests}
 use Rattle.civl_refine.proofs.steadiness.acting.act_loses.Goals as goal

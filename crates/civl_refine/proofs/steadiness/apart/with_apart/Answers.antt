@@ -11,8 +11,8 @@ use Rattle.civl_states.specs.formula_parts.Said.{Env, IsTest}
 use Rattle.civl_states.proofs.formula_parts.Saying.{sort_stays, test_stays}
 use Rattle.civl_states.specs.Beginnings.{AreBegun}
 use Rattle.civl_refine.specs.declared.steadiness.kept.Kept.{Kept}
-use Rattle.civl_refine.specs.steadiness.Kept.{SaysOther}
-use Rattle.civl_refine.specs.steadiness.Losing.{apart_too}
+use Rattle.civl_refine.specs.inner.steadiness.Kept.{SaysOther}
+use Rattle.civl_refine.specs.inner.steadiness.Losing.{apart_too}
 use Rattle.civl_refine.proofs.steadiness.apart.with_apart.Goals as goal
 
 pub both-requires-clause-b : goal.both-requires-clause-b

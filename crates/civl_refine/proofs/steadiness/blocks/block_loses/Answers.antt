@@ -8,8 +8,8 @@ use Rattle.civl_conditions.specs.Weights.{summed}
 use Rattle.civl_states.specs.formula_parts.Said.{Env}
 use Rattle.civl_states.proofs.formula_parts.Saying.{sort_stays, test_stays, test_as}
 use Rattle.civl_refine.proofs.Assuming.{begin_stays, begun_stays}
-use Rattle.civl_refine.specs.steadiness.Kept.{kept_weight}
-use Rattle.civl_refine.specs.steadiness.Losing.{apart_too, block_lost, end_weight}
+use Rattle.civl_refine.specs.inner.steadiness.Kept.{kept_weight}
+use Rattle.civl_refine.specs.inner.steadiness.Losing.{apart_too, block_lost, end_weight}
 use Rattle.civl_refine.proofs.steadiness.Aiming.{frame_stays, other_stays}
 use Rattle.civl_refine.proofs.steadiness.Ending.{apart_is, weighs_block}
 use Rattle.civl_refine.proofs.steadiness.blocks.block_loses.Goals as goal

@@ -11,8 +11,8 @@ use Rattle.civl_body.specs.Walks.{IsWay, CanTake}
 use Rattle.civl_refine.specs.Failing.{ArrivesAmong}
 use Rattle.civl_refine.specs.Walked.{outcome_from}
 use Rattle.civl_refine.proofs.Breaking.{takes_stay, ways_stay}
-use Rattle.civl_refine.specs.steadiness.Kept.{kept_before, kept_weight}
-use Rattle.civl_refine.specs.steadiness.Losing.{end_weight, kept_at_end}
+use Rattle.civl_refine.specs.inner.steadiness.Kept.{kept_before, kept_weight}
+use Rattle.civl_refine.specs.inner.steadiness.Losing.{end_weight, kept_at_end}
 use Rattle.civl_refine.proofs.steadiness.Aiming.{frame_stays, other_stays}
 use Rattle.civl_refine.proofs.steadiness.Ending.{lost_as}
 use Rattle.civl_refine.proofs.steadiness.blocks.ends_lose.Goals as goal

@@ -7,7 +7,7 @@ use Rattle.civl_states.specs.formula_parts.Said.{Env}
 use Rattle.civl_states.proofs.formula_parts.Saying.{sort_stays, test_stays, test_where}
 use Rattle.civl_body.specs.Walks.{ends_at}
 use Rattle.civl_refine.proofs.Taking.{said_state, is_at, state_is}
-use Rattle.civl_refine.specs.steadiness.Kept.{kept_before, kept_after}
+use Rattle.civl_refine.specs.inner.steadiness.Kept.{kept_before, kept_after}
 use Rattle.civl_refine.proofs.steadiness.Ending.{kept_same}
 use Rattle.civl_refine.proofs.steadiness.blocks.with_end.Goals as goal
 

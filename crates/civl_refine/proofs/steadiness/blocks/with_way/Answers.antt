@@ -6,7 +6,7 @@ use Rattle.civl_conditions.specs.paths.Paths.{progress_of}
 use Rattle.civl_conditions.specs.paths.Ends.{ends_block, is_rank_loop}
 use Rattle.civl_states.proofs.formula_parts.Saying.{test_as}
 use Rattle.civl_body.specs.Walks.{ends_at}
-use Rattle.civl_refine.specs.steadiness.Kept.{is_lost}
+use Rattle.civl_refine.specs.inner.steadiness.Kept.{is_lost}
 use Rattle.civl_refine.proofs.steadiness.Ending.{end_counts}
 use Rattle.civl_refine.proofs.steadiness.blocks.with_way.Goals as goal
 

@@ -6,8 +6,8 @@ use Rattle.civl_terms.proofs.Growing.{grows_trans}
 use Rattle.civl_states.proofs.formula_parts.Saying.{sort_stays, test_stays, test_as}
 use Rattle.civl_body.specs.Walks.{IsWay, CanTake}
 use Rattle.civl_refine.proofs.Taking.{take_stays, way_stays, ways_next, ways_weigh, ways_end}
-use Rattle.civl_refine.specs.steadiness.Kept.{kept_before, kept_weight}
-use Rattle.civl_refine.specs.steadiness.Losing.{end_weight, kept_at_end}
+use Rattle.civl_refine.specs.inner.steadiness.Kept.{kept_before, kept_weight}
+use Rattle.civl_refine.specs.inner.steadiness.Losing.{end_weight, kept_at_end}
 use Rattle.civl_refine.proofs.steadiness.Aiming.{frame_stays, other_stays}
 use Rattle.civl_refine.proofs.steadiness.blocks.with_ways.Goals as goal
 

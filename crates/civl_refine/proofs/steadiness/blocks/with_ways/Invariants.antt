@@ -10,8 +10,8 @@ use Rattle.civl_conditions.specs.Values.{Begun}
 use Rattle.civl_conditions.specs.Weights.{summed}
 use Rattle.civl_states.specs.formula_parts.Said.{Env, IsTest}
 use Rattle.civl_body.specs.Walks.{IsWay}
-use Rattle.civl_refine.specs.steadiness.Kept.{SaysOther, kept_before, kept_weight}
-use Rattle.civl_refine.specs.steadiness.Losing.{end_weight, kept_at_end}
+use Rattle.civl_refine.specs.inner.steadiness.Kept.{SaysOther, kept_before, kept_weight}
+use Rattle.civl_refine.specs.inner.steadiness.Losing.{end_weight, kept_at_end}
 use Rattle.civl_refine.proofs.steadiness.blocks.with_ways.Given as goal
 
 abbrev pub invariant-loop-way : goal.invariant-loop-way

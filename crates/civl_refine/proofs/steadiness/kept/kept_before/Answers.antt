@@ -4,7 +4,7 @@ use Rattle.civl_conditions.specs.Targets.{Other}
 use Rattle.civl_states.specs.formula_parts.Said.{Env, IsTest}
 use Rattle.civl_states.specs.Stores.{AreStore}
 use Rattle.civl_refine.specs.declared.steadiness.kept.Kept.{Kept}
-use Rattle.civl_refine.specs.steadiness.Kept.{SaysOther, kept_before}
+use Rattle.civl_refine.specs.inner.steadiness.Kept.{SaysOther, kept_before}
 use Rattle.civl_refine.proofs.steadiness.kept.kept_before.Goals as goal
 
 pub returns-in_ok-id-in-Yield-clause-tells : goal.returns-in_ok-id-in-Yield-clause-tells

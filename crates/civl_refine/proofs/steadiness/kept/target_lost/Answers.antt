@@ -5,7 +5,7 @@ use Rattle.civl_terms.proofs.Growing.{grows_trans}
 use Rattle.civl_states.specs.formula_parts.Said.{Env}
 use Rattle.civl_states.proofs.formula_parts.Saying.{sort_stays, test_stays}
 use Rattle.civl_states.proofs.formula_parts.Listing.{sorts_stay, said_stay}
-use Rattle.civl_refine.specs.steadiness.Kept.{kept_before, kept_after}
+use Rattle.civl_refine.specs.inner.steadiness.Kept.{kept_before, kept_after}
 use Rattle.civl_refine.proofs.steadiness.Aiming.{frame_stays, other_stays}
 use Rattle.civl_refine.proofs.steadiness.kept.target_lost.Goals as goal
 

@@ -7,8 +7,8 @@ use Rattle.civl_tree.specs.declared.program.Program.{Program}
 use Rattle.civl_conditions.specs.declared.condition.Target.TheVariants as target
 use Rattle.civl_states.specs.Groups.{StandFrom}
 use Rattle.civl_states.proofs.Picking.{same_some}
-use Rattle.civl_refine.specs.steadiness.Others.{other_sorts}
-use Rattle.civl_refine.specs.steadiness.Making.{IsFrameFrom, others_from}
+use Rattle.civl_refine.specs.inner.steadiness.Others.{other_sorts}
+use Rattle.civl_refine.specs.inner.steadiness.Making.{IsFrameFrom, others_from}
 use Rattle.civl_refine.proofs.steadiness.Framing.{others_are, others_long, others_weigh, others_front, last_stand, frame_ends, frame_says}
 use Rattle.civl_refine.proofs.steadiness.makers.yield_target.Goals as goal
 

@@ -27,8 +27,8 @@ use Rattle.civl_states.proofs.Variables.{existing_few}
 use Rattle.civl_states.proofs.Formulas.{formula_of}
 use Rattle.civl_states.proofs.Weighing.{gate_weighs, guard_weighs}
 use Rattle.civl_states.specs.Groups.{StandFrom}
-use Rattle.civl_refine.specs.steadiness.Kept.{IsTarget, CanKeep, other_at, words_count, kept_weight}
-use Rattle.civl_refine.specs.steadiness.Making.{others_from}
+use Rattle.civl_refine.specs.inner.steadiness.Kept.{IsTarget, CanKeep, other_at, words_count, kept_weight}
+use Rattle.civl_refine.specs.inner.steadiness.Making.{others_from}
 use Rattle.civl_refine.proofs.steadiness.Aiming.{frame_after, other_after, weight_same, items_same}
 use Rattle.civl_refine.proofs.steadiness.Ending.{act_is}
 use Rattle.civl_refine.proofs.steadiness.Arranged.{near_count_of, rules_of, acts_are, acts_weigh, act_ends, act_front, act_tail, act_limits, act_from, act_long, act_bits, yield_some}

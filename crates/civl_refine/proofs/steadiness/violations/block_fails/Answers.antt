@@ -19,9 +19,9 @@ use Rattle.civl_states.proofs.Given.{stand_first}
 use Rattle.civl_states.proofs.Limits.{AreSorts, sorts_append}
 use Rattle.civl_refine.specs.Walked.{StartsAt, sorts_from}
 use Rattle.civl_refine.proofs.Placing.{paths_long, paths_are}
-use Rattle.civl_refine.specs.steadiness.Kept.{IsTarget, other_at}
-use Rattle.civl_refine.specs.steadiness.Losing.{block_loses}
-use Rattle.civl_refine.specs.steadiness.Making.{others_from}
+use Rattle.civl_refine.specs.inner.steadiness.Kept.{IsTarget, other_at}
+use Rattle.civl_refine.specs.inner.steadiness.Losing.{block_loses}
+use Rattle.civl_refine.specs.inner.steadiness.Making.{others_from}
 use Rattle.civl_refine.proofs.steadiness.Ending.{block_is}
 use Rattle.civl_refine.proofs.steadiness.Framing.{others_front, others_limited}
 use Rattle.civl_refine.proofs.steadiness.Arranged.{other_sorts_of, rules_of, block_view, block_violated, block_sum}

@@ -11,7 +11,7 @@ use Rattle.civl_firing.specs.values.Values.{HaveSorts}
 use Rattle.civl_cnf.specs.ClauseSet.{assignment}
 use Rattle.civl_blast.specs.declared.blasted.Place.{Place}
 use Rattle.civl_verdicts.specs.models.Reading.{IsCellPlace, AreRead, with_cell}
-use Rattle.civl_verdicts.specs.models.Zeros.{zeros_of}
+use Rattle.civl_verdicts.specs.inner.models.Zeros.{zeros_of}
 use Rattle.civl_verdicts.proofs.models.Placing.{within_values, sort_here, same_default, placed, sorts_stay}
 use Rattle.civl_verdicts.proofs.models.ReadingAll.{read_all, read_next, read_none, zeros_have, are_read}
 use Rattle.civl_verdicts.proofs.models.reading.read_back.Goals as goal

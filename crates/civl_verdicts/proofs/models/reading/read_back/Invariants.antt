@@ -1,6 +1,6 @@
 use Rattle.std.specs.Prelude.{◌≡◌, drop}
 use Rattle.civl_cnf.specs.ClauseSet.{assignment}
-use Rattle.civl_verdicts.specs.models.Zeros.{zeros_of}
+use Rattle.civl_verdicts.specs.inner.models.Zeros.{zeros_of}
 use Rattle.civl_firing.specs.values.Values.{HaveSorts}
 use Rattle.civl_verdicts.proofs.models.ReadingAll.{read_all}
 use Rattle.civl_verdicts.proofs.models.reading.read_back.Given as goal

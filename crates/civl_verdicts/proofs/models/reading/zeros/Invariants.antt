@@ -1,5 +1,5 @@
 use Rattle.std.specs.Prelude.{◌≡◌, ◌++◌, drop}
-use Rattle.civl_verdicts.specs.models.Zeros.{zeros_of}
+use Rattle.civl_verdicts.specs.inner.models.Zeros.{zeros_of}
 use Rattle.civl_verdicts.proofs.models.reading.zeros.Given as goal
 
 abbrev pub invariant-loop-sort : goal.invariant-loop-sort

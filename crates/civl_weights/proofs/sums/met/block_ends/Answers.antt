@@ -1,6 +1,6 @@
 use Rattle.std.proofs.Common.{arith, ap, Bool}
 use Rattle.std.specs.Prelude.{if◌then◌else◌}
-use Rattle.civl_weights.specs.sums.Met.{block_end}
+use Rattle.civl_weights.specs.inner.sums.Met.{block_end}
 use Rattle.civl_weighing.proofs.Capping.{weighs_same}
 use Rattle.civl_weighing.proofs.Summing.{one_more_at, counted, whole}
 use Rattle.civl_weights.proofs.sums.met.block_ends.Goals as goal

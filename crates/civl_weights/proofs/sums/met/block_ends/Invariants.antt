@@ -2,7 +2,7 @@ use Rattle.std.proofs.Common.{map, take}
 use Rattle.std.specs.Prelude.{if◌then◌else◌}
 use Rattle.civl_conditions.specs.Weights.{summed}
 use Rattle.civl_weighing.specs.Weighing.{Weighs}
-use Rattle.civl_weights.specs.sums.Met.{block_end}
+use Rattle.civl_weights.specs.inner.sums.Met.{block_end}
 use Rattle.civl_weights.proofs.sums.met.block_ends.Given as goal
 
 abbrev pub invariant-loop-end : goal.invariant-loop-end

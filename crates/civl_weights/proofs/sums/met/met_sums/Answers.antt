@@ -6,7 +6,7 @@ use Rattle.civl_layers.specs.Cuts.{proc_cuts}
 use Rattle.civl_conditions.specs.Weights.{summed}
 use Rattle.std.specs.Prelude.{slice_get}
 use Rattle.std.specs.Option.{option_map_or}
-use Rattle.civl_weights.specs.sums.Met.{block_end}
+use Rattle.civl_weights.specs.inner.sums.Met.{block_end}
 use Rattle.civl_weighing.proofs.Capping.{weighs_same}
 use Rattle.civl_weighing.proofs.Listing.{summed_at}
 use Rattle.civl_weights.proofs.sums.Meeting.{passed_sum, cuts_sum}

@@ -1,0 +1,5 @@
+pub mod Analysis
+pub mod Levels
+pub mod Notes
+pub mod Order
+pub mod Propagation

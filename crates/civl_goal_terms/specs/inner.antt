@@ -1,0 +1,11 @@
+pub mod Fails
+pub mod Frames
+pub mod Given
+pub mod Others
+pub mod Outlined
+pub mod Places
+pub mod Settings
+pub mod Sorted
+pub mod Steps
+pub mod There
+pub mod Told

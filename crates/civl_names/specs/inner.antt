@@ -1,0 +1,4 @@
+pub mod InScope
+pub mod NameSets
+pub mod Strange
+pub mod walks

@@ -1,0 +1,4 @@
+pub mod Notes
+pub mod Places
+pub mod Said
+pub mod Sums

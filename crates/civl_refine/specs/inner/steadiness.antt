@@ -1,0 +1,4 @@
+pub mod Kept
+pub mod Losing
+pub mod Making
+pub mod Others
