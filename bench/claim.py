@@ -301,7 +301,7 @@ def wrong_lines():
 
 
 def marked():
-    return {path for path in glob.glob("crates/**/*.antt", recursive=True) if antt.read(path).startswith(MARK)}
+    return {path for path in glob.glob("crates/*/specs/**/*.antt", recursive=True) if antt.read(path).startswith(MARK)}
 
 
 def wrong_marks():

@@ -1,0 +1,10 @@
+pub mod Feeds
+pub mod Order
+pub mod Counts
+pub mod Walking
+pub mod Itemized
+pub mod Starting
+pub mod Begins
+pub mod Standing
+pub mod Rising
+pub mod Offsets

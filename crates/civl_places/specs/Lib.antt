@@ -1,0 +1,6 @@
+pub mod Lines
+pub mod Starts
+pub mod Placed
+pub mod Laws
+pub mod inner
+pub mod examples
