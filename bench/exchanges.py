@@ -14,7 +14,10 @@ has the same of bringing moves to the front.
 import sys
 from typing import NamedTuple
 
-from oracle import Assert, Assign, Call, Commit, If, Instance, Intro, Loop, Reader, Spawn, Word, Yield, value, zero
+from oracle.actions import Instance
+from oracle.programs import Assert, Assign, Call, Commit, If, Intro, Loop, Spawn, Yield
+from oracle.reading import Reader
+from oracle.values import Word, value, zero
 
 
 class Frame(NamedTuple):
