@@ -7,9 +7,9 @@ Usage: exchanges.py TEXT STORE THREADS [CHOSEN]
   THREADS   the thread of each move, with `,` between
   CHOSEN    places of moves that are brought to the front together, with `,` between; without it, those of each two neighbours
 
-The first line has what the exchange of each two neighbours answers, in their order: `S` where the exchanged moves run to the same
-configuration; else `F` and the number of the moves that are left, where these run to a failing one; else `D` and the place. The second line
-has the same of bringing moves to the front.
+The first line has what the exchange of each two neighbours answers, in their order: `same` where the exchanged moves run to the
+same configuration; else `fails:` and the number of the moves that are left, where these run to a failing one; else `other:` and the
+place. The second line has the same of bringing moves to the front.
 """
 import sys
 from typing import NamedTuple
@@ -147,12 +147,12 @@ def exchanged(program, config, moves, place):
     turned = [*moves[:place], moves[place + 1], moves[place], *moves[place + 2:]]
     first, second = end(program, config, moves), end(program, config, turned)
     if first is not None and first == second:
-        return "S", turned
+        return "same", turned
     for shorter in (moves[:place], turned[:place + 1]):
         reached = end(program, config, shorter)
         if reached is not None and is_failing(program, reached):
-            return f"F{len(shorter)}", shorter
-    return f"D{place}", None
+            return f"fails:{len(shorter)}", shorter
+    return f"other:{place}", None
 
 
 def to_front(program, config, moves, chosen):
@@ -160,9 +160,9 @@ def to_front(program, config, moves, chosen):
     for target, at in enumerate(chosen):
         for place in reversed(range(target, at)):
             answer, moves = exchanged(program, config, moves, place)
-            if answer != "S":
+            if answer != "same":
                 return answer, moves
-    return "S", moves
+    return "same", moves
 
 
 def value_of(sort, text):

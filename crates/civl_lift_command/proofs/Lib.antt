@@ -1,4 +1,3 @@
-pub mod Beside
 pub mod Running
 pub mod Starting
 pub mod Raising

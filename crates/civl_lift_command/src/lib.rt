@@ -8,11 +8,9 @@
 //! `Promises`.
 #![tactic(auto)]
 
-mod initial;
 mod judge;
 mod judged;
 pub mod laws;
-mod permissions;
 mod report;
 mod schedule;
 mod script;

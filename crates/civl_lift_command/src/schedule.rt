@@ -11,8 +11,8 @@ ghost use Rattle.civl_frontend.specs.Told.{IsJudged};
 ghost use Rattle.civl_lift_command.specs.Lifting.{CanBeLifted};
 ghost use Rattle.civl_lift_command.specs.Outcome.{Raises, telling};
 
-use crate::initial::is_initial;
 use crate::judged::{lifted, not_failing, not_initial, spent};
+use civl_assumed::is_initial;
 use civl_frontend::Judged;
 use civl_layers::{Layered, low, program, top};
 use civl_lifting::{Lifted, lift};

@@ -11,7 +11,7 @@ use Rattle.civl_tree.specs.SpellingStmt.{stmt_step, spell_stmt}
 use Rattle.civl_tree.specs.Numbering.{inner_of, statements_of}
 use Rattle.civl_tree.proofs.Preorder.{inner_layer, inner_is}
 use Rattle.civl_places.specs.Starts.{inner_starts, starts_of}
-use Rattle.civl_places.specs.Laws.{StandAt}
+use Rattle.civl_reasons.specs.Stands.{StandAt}
 use Rattle.civl_places.proofs.Walking.{starts_layer, starts_is}
 
 -- ---- parts of lists

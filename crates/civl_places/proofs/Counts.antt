@@ -19,7 +19,7 @@ with_commas spell (x ∷ xs) =
     omega (arith, with_commas spell xs, length-append (spell x) (joined (map spell xs)), length-append (spell x) (joined (map (λ y. comma ∷ spell y) xs)))
 
 -- a list in parentheses: its phrases, the commas between them, and the parentheses
-enclosed_length : {X : Type 0} (spell : X → List Token) (xs : List X)
+pub enclosed_length : {X : Type 0} (spell : X → List Token) (xs : List X)
     → length (enclosed spell xs) ≡ length (joined (map spell xs)) + (length xs - 1) + 2
 enclosed_length spell [] = refl
 enclosed_length spell (x ∷ xs) =

@@ -8,3 +8,8 @@ pub mod Begins
 pub mod Standing
 pub mod Rising
 pub mod Offsets
+pub mod Searching
+pub mod Begun
+pub mod Listing
+pub mod Expressions
+pub mod Places

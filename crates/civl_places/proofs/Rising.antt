@@ -18,7 +18,8 @@ use Rattle.civl_tree.proofs.Items.{items_are_numbered}
 use Rattle.civl_tree.proofs.Lists.{get_there}
 use Rattle.civl_tree.proofs.Numbers.{sizes_are_counts}
 use Rattle.civl_places.specs.Starts.{item_start, inner_starts, starts_of, spell_head, proc_starts, statement_start}
-use Rattle.civl_places.specs.Laws.{StandAt, StartsRise}
+use Rattle.civl_reasons.specs.Stands.{StandAt}
+use Rattle.civl_places.specs.Laws.{StartsRise}
 use Rattle.civl_places.proofs.Standing.{items_begin, statements_begin, exits_stand, none_behind_exit, start_of}
 use Rattle.civl_places.proofs.Walking.{starts_layer, starts_is}
 

@@ -17,10 +17,11 @@ use Rattle.civl_tree.proofs.Items.{items_are_numbered, items_are_in_text_order}
 use Rattle.civl_tree.proofs.Numbers.{sizes_are_counts}
 use Rattle.civl_tree.proofs.Lists.{last_there}
 use Rattle.civl_places.specs.Starts.{item_start, starts_of, spell_head, proc_starts, statement_start}
-use Rattle.civl_places.specs.Laws.{StandAt, ItemsBegin, StatementsBegin, ExitsStand, NoneBehindExit}
+use Rattle.civl_reasons.specs.Stands.{StandAt}
+use Rattle.civl_places.specs.Laws.{ItemsBegin, StatementsBegin, ExitsStand, NoneBehindExit}
 use Rattle.civl_places.proofs.Begins.{body_begins}
 
-joined_split : {X : Type 0} (spell : X → List Token) (xs : List X) (n : ℕ) (x : X) → slice_get xs n ≡ Some x
+pub joined_split : {X : Type 0} (spell : X → List Token) (xs : List X) (n : ℕ) (x : X) → slice_get xs n ≡ Some x
     → joined (map spell xs) ≡ joined (map spell (take n xs)) ++ (spell x ++ joined (map spell (drop (suc n) xs)))
 joined_split spell [] n x h = absurd (let none = h in cc)
 joined_split spell (y ∷ ys) zero x h = let same : y ≡ x = cc in ap (λ z. spell z ++ joined (map spell ys)) same

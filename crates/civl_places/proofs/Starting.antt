@@ -58,7 +58,7 @@ module _ (at head : ℕ) (proc : Proc) (n : ℕ) (w : Walk) (headed : head ≡ l
 -- ---- where procedures begin
 
 -- the tokens of the items before one that stands behind all of a kind
-past_kind : {X : Type 0} (kind : X → Item) (xs : List X) (rest : List Item) (k n : ℕ) → length xs + k ≡ n
+pub past_kind : {X : Type 0} (kind : X → Item) (xs : List X) (rest : List Item) (k n : ℕ) → length xs + k ≡ n
     → length (joined (map spell_item (take n (map kind xs ++ rest)))) ≡ length (joined (map (λ x. spell_item (kind x)) xs)) + length (joined (map spell_item (take k rest)))
 past_kind kind [] rest k n e = let same : n ≡ k = omega arith in rw same (omega arith)
 past_kind kind (x ∷ xs) rest k zero e = absurd (omega arith)
@@ -70,7 +70,7 @@ past_kind kind (x ∷ xs) rest k (suc n) e =
       length-append (spell_item (kind x)) (joined (map (λ x. spell_item (kind x)) xs)),
     )
 
-within_kind : {X : Type 0} (kind : X → Item) (xs : List X) (rest : List Item) (n : ℕ) → n ≤ length xs
+pub within_kind : {X : Type 0} (kind : X → Item) (xs : List X) (rest : List Item) (n : ℕ) → n ≤ length xs
     → length (joined (map spell_item (take n (map kind xs ++ rest)))) ≡ length (joined (map (λ x. spell_item (kind x)) (take n xs)))
 within_kind kind xs rest zero h = refl
 within_kind kind [] rest (suc n) h = absurd (omega arith)

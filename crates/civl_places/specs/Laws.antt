@@ -1,14 +1,16 @@
 -- What the definitions say together.
-use Rattle.std.specs.Prelude.{◌≡◌, ℕ, ◌≢◌, ◌+◌, ◌-◌, ◌<◌, ◌≤◌, ◌⊎◌, IsSomeAnd, None, Some, List, [], ◌∷◌, ◌++◌, length, slice_get}
+use Rattle.std.specs.Prelude.{◌≡◌, ℕ, ◌≢◌, ◌+◌, ◌-◌, ◌<◌, ◌≤◌, ◌⊎◌, IfSome, IsSomeAnd, None, Some, List, [], ◌∷◌, length, slice_get}
 use Rattle.civl_tree.specs.declared.program.Proc.{Proc}
 use Rattle.civl_tree.specs.declared.program.Program.{Program}
 use Rattle.civl_tree.specs.declared.stmt.Stmt.{Stmt}
-use Rattle.civl_tree.specs.Token.{Token}
-use Rattle.civl_tree.specs.Spelling.{close_brace}
+use Rattle.civl_tree.specs.Spelling.{close_brace, spell_expr}
 use Rattle.civl_tree.specs.SpellingStmt.{spell_stmt}
 use Rattle.civl_tree.specs.SpellingProgram.{spell_proc, spell_program}
 use Rattle.civl_tree.specs.SpellingLaws.{spell_item, IsItem}
 use Rattle.civl_tree.specs.Numbering.{Item, proc_item, exit_number, statement_at}
+use Rattle.civl_reasons.specs.Stands.{StandAt}
+use Rattle.civl_places.specs.declared.formula.Formula.{Formula}
+use Rattle.civl_places.specs.Formulas.{formula_at}
 use Rattle.civl_places.specs.Starts.{item_start, statement_start}
 use Rattle.civl_places.specs.Lines.{line_of, column_of, line_at}
 
@@ -32,13 +34,6 @@ ByteIsInLine = (bytes : List ℕ) (offset byte : ℕ) → slice_get bytes offset
     → slice_get (line_at bytes offset) (column_of bytes offset - 1) ≡ Some byte
 
 -- ---- where items and statements begin
-
--- these tokens stand in the others from this place on
-pub record StandAt (part all : List Token) (place : ℕ) : Type 0 where
-  pub before : List Token
-  pub after : List Token
-  pub parts : all ≡ before ++ (part ++ after)
-  pub place_is : length before ≡ place
 
 -- At the token of an item its spelling begins.
 abbrev pub ItemsBegin : Type 0
@@ -67,3 +62,10 @@ NoneBehindExit = (program : Program) (place number : ℕ) (proc : Proc) → slic
 abbrev pub StartsRise : Type 0
 StartsRise = (program : Program) (place m n first second : ℕ)
     → statement_start program place m ≡ Some first → statement_start program place n ≡ Some second → m < n → first < second
+
+-- ---- where expressions begin
+
+-- At the token that is told of an expression its spelling stands.
+abbrev pub FormulasStand : Type 0
+FormulasStand = (program : Program) (formula : Formula)
+    → IfSome (formula_at program formula) (λ part. StandAt (spell_expr part.expr) (spell_program program) part.token)

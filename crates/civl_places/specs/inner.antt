@@ -1,3 +1,4 @@
 pub mod Begin
+pub mod Searched
 pub mod Walked
 pub mod Kinds

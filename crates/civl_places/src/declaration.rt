@@ -3,9 +3,10 @@ ghost use Rattle.std.specs.Prelude.{◌≡◌, ◌<◌, ◌^◌, length};
 ghost use Rattle.civl_tree.specs.SpellingProgram.{spell_param, spell_choice, spell_update, spell_local, spell_rank_of, spell_global, spell_init, spell_invariant, spell_action, spell_proc, spell_thread};
 ghost use Rattle.civl_places.specs.Starts.{spell_head};
 
-use crate::expression::{expr_count, sort_count};
 use crate::phrase::{Phrase, count_each, count_list};
+use crate::sort::sort_count;
 use crate::statement::stmts_count;
+use civl_reasons::expr_count;
 use civl_tree::{
     Action, Choice, Expr, Global, Invariant, Local, Param, Proc, Refines, Thread, Update,
 };

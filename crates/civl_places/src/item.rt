@@ -6,7 +6,7 @@ ghost use Rattle.civl_tree.specs.SpellingProgram.{spell_program};
 ghost use Rattle.civl_tree.specs.Numbering.{item_count};
 ghost use Rattle.civl_places.specs.Starts.{item_start};
 ghost use Rattle.civl_places.specs.inner.Walked.{walked, go_on, starts_each};
-ghost use Rattle.civl_places.specs.inner.Kinds.{invariants_at, actions_at, procs_at, program_end, walked_first, walked_items};
+ghost use Rattle.civl_places.specs.inner.Kinds.{invariants_at, actions_at, procs_at, threads_at, program_end, walked_first, walked_items};
 
 use crate::declaration::init_count;
 use crate::phrase::{Phrase, count_each};
@@ -54,11 +54,20 @@ fn then_one(before: Walk, start: usize) -> Walk
 
 /// The token at which the invariants begin, or what stands in their place.
 #[tactic(auto, using(crate::proofs::Counts::counts))]
-fn invariants_start(program: &Program) -> usize
+pub(crate) fn invariants_start(program: &Program) -> usize
     requires { invariants_at program.now < 2 ^ 64 }
     ensures { result ≡ invariants_at program.now }
 {
     count_each(program.globals.as_slice()) + init_count(&program.init) + 9
+}
+
+/// The token at which the actions begin, or what stands in their place.
+#[tactic(auto, using(crate::proofs::Counts::counts))]
+pub(crate) fn actions_start(program: &Program) -> usize
+    requires { actions_at program.now < 2 ^ 64 }
+    ensures { result ≡ actions_at program.now }
+{
+    invariants_start(program) + count_each(program.invariants.as_slice())
 }
 
 /// The token at which the procedures begin, or what stands in their place.
@@ -67,9 +76,16 @@ pub(crate) fn procs_start(program: &Program) -> usize
     requires { procs_at program.now < 2 ^ 64 }
     ensures { result ≡ procs_at program.now }
 {
-    invariants_start(program)
-        + count_each(program.invariants.as_slice())
-        + count_each(program.actions.as_slice())
+    actions_start(program) + count_each(program.actions.as_slice())
+}
+
+/// The token at which the threads begin, or what stands in their place.
+#[tactic(auto, using(crate::proofs::Counts::counts))]
+pub(crate) fn threads_start(program: &Program) -> usize
+    requires { threads_at program.now < 2 ^ 64 }
+    ensures { result ≡ threads_at program.now }
+{
+    procs_start(program) + count_each(program.procs.as_slice())
 }
 
 /// A walk over the globals, `init` and the invariants.
@@ -90,15 +106,9 @@ fn walk_items(program: &Program, item: usize) -> Walk
     ensures { result ≡ walked_items program.now item }
 {
     let first = walk_first(program, item);
-    let start = invariants_start(program) + count_each(program.invariants.as_slice());
-    let actions = then_each(first, &program.actions, start);
-    let start = procs_start(program);
-    let procs = then_each(actions, &program.procs, start);
-    then_each(
-        procs,
-        &program.threads,
-        start + count_each(program.procs.as_slice()),
-    )
+    let actions = then_each(first, &program.actions, actions_start(program));
+    let procs = then_each(actions, &program.procs, procs_start(program));
+    then_each(procs, &program.threads, threads_start(program))
 }
 
 /// The token, counted from 0, at which the item with this number begins, in the spelling of the program; `None` exactly

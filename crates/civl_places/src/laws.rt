@@ -1,7 +1,8 @@
 // Laws of the definitions, each the contract of a function that does nothing.
-ghost use Rattle.civl_places.specs.Laws.{InOrder, OneOffset, ByteIsInLine, ItemsBegin, StatementsBegin, ExitsStand, NoneBehindExit, StartsRise};
+ghost use Rattle.civl_places.specs.Laws.{InOrder, OneOffset, ByteIsInLine, ItemsBegin, StatementsBegin, ExitsStand, NoneBehindExit, StartsRise, FormulasStand};
 ghost use Rattle.civl_places.specs.examples.Lines.{LineExamples};
 ghost use Rattle.civl_places.specs.examples.Starts.{StartExamples};
+ghost use Rattle.civl_places.specs.examples.Formulas.{FormulaExamples};
 
 /// Of two places of a text the earlier one has the earlier position.
 pub fn positions_are_in_order()
@@ -51,4 +52,14 @@ pub fn starts_rise()
 /// Worked programs.
 pub fn start_examples()
     ensures { StartExamples }
+{}
+
+/// At the token of an expression its spelling begins.
+pub fn formulas_stand()
+    ensures { FormulasStand }
+{}
+
+/// Worked programs, with the tokens of their expressions.
+pub fn formula_examples()
+    ensures { FormulaExamples }
 {}

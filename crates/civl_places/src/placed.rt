@@ -4,7 +4,9 @@ ghost use Rattle.civl_tree.specs.Numbering.{item_count};
 ghost use Rattle.civl_lex.specs.Spelled.{spelled, HaveStarts};
 ghost use Rattle.civl_places.specs.Placed.{BeginWith, BeginsAt};
 ghost use Rattle.civl_places.specs.Starts.{item_start, statement_start};
+ghost use Rattle.civl_places.specs.Formulas.{formula_start};
 
+use crate::formula::{Formula, formula_token};
 use crate::item::item_token;
 use crate::position::{Position, position_at};
 use crate::start::statement_token;
@@ -57,6 +59,25 @@ pub fn statement_position(
         (λ start. IsSomeAnd result (BeginsAt bytes.now start)) }
 {
     match statement_token(program, proc, statement) {
+        Some(start) => Some(token_position(bytes, tokens, start)),
+        None => None,
+    }
+}
+
+/// The line and the column at which an expression of a program begins, as `formula_token` names it, in a text that has
+/// these tokens, of which the first spell this program; `None` exactly where there is no such expression.
+pub fn formula_position(
+    bytes: &[u8],
+    tokens: &[Token],
+    program: &Program,
+    formula: &Formula,
+) -> Option<Position>
+    requires starts { HaveStarts bytes.now tokens.now }
+    requires spelling { BeginWith program.now (spelled tokens.now) }
+    ensures { MatchOption (formula_start program.now formula.now) (result ≡ None)
+        (λ start. IsSomeAnd result (BeginsAt bytes.now start)) }
+{
+    match formula_token(program, formula) {
         Some(start) => Some(token_position(bytes, tokens, start)),
         None => None,
     }

@@ -3,8 +3,8 @@ ghost use Rattle.std.specs.Prelude.{◌≡◌, ◌<◌, ◌^◌, length, map};
 ghost use Rattle.civl_tree.specs.Spelling.{joined, spell_expr};
 ghost use Rattle.civl_tree.specs.SpellingStmt.{spell_name, spell_stmt};
 
-use crate::expression::expr_count;
 use crate::phrase::{Phrase, count_list};
+use civl_reasons::expr_count;
 use civl_tree::{Expr, List, Name, Stmt};
 
 impl Phrase for Expr {

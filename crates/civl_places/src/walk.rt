@@ -5,8 +5,8 @@ ghost use Rattle.civl_tree.specs.SpellingStmt.{spell_stmt};
 ghost use Rattle.civl_places.specs.Starts.{inner_starts, starts_of};
 ghost use Rattle.civl_places.specs.inner.Walked.{walked};
 
-use crate::expression::expr_count;
 use crate::statement::{stmt_count, stmts_count};
+use civl_reasons::expr_count;
 use civl_tree::{List, Stmt};
 
 /// What a walk over numbered parts comes to.

@@ -144,15 +144,15 @@ pub(crate) fn moves_of_additions(alloc: Global, text: &str) -> Option<bool> {
     exchanged_from_start(alloc, &plain)
 }
 
-/// An answer in short: `S` where the moves are the same, `F` and how many are left, or `D` and the place.
+/// An answer as a word: `same` where the moves come to the same end, `fails` with how many are left, or `other` with the place.
 fn told(alloc: Global, answer: &Swapped) -> Result<String, AllocError> {
     match answer {
-        Swapped::Same(_) => String::from_str(alloc, "S"),
+        Swapped::Same(_) => String::from_str(alloc, "same"),
         Swapped::Fails(moves) => {
             let count = moves.len();
-            format!(in alloc; "F{count}")
+            format!(in alloc; "fails:{count}")
         }
-        Swapped::Differs(place) => format!(in alloc; "D{place}"),
+        Swapped::Differs(place) => format!(in alloc; "other:{place}"),
     }
 }
 
@@ -263,10 +263,10 @@ fn exchanges_from(
 /// of one number aren't.
 fn added(alloc: Global, plain: &Plain) -> Option<bool> {
     let zero = Value::Word(Word::new(8, 0)?);
-    let late = "S S S S S S S S S S S S D12";
-    let late_fronts = "S S S S S S S S S S S D10 D10";
-    let turns = "S S S S S D5 S S S S S";
-    let turns_fronts = "S S S S S S D5 S D5 S D5";
+    let late = "same same same same same same same same same same same same other:12";
+    let late_fronts = "same same same same same same same same same same same other:10 other:10";
+    let turns = "same same same same same other:5 same same same same same";
+    let turns_fronts = "same same same same same same other:5 same other:5 same other:5";
     let is_late = exchanges_from(alloc, plain, zero, &LATE_STORE, late, late_fronts)?;
     let is_in_turns = exchanges_from(alloc, plain, zero, &IN_TURNS, turns, turns_fronts)?;
     Some(is_late && is_in_turns)
@@ -287,8 +287,8 @@ pub(crate) fn neighbours_of_a_gate(alloc: Global, text: &str) -> Option<bool> {
         &plain,
         Value::Bool(true),
         &GATE_FIRST,
-        "S S F3 S S",
-        "S S S F3 S",
+        "same same fails:3 same same",
+        "same same same fails:3 same",
     )
 }
 

@@ -1,0 +1,4 @@
+pub mod Beside
+pub mod Filtered
+pub mod Meeting
+pub mod Outputs

@@ -1,0 +1,4 @@
+pub mod Among
+pub mod Beginnings
+pub mod Noted
+pub mod inner

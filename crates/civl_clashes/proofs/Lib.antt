@@ -1,0 +1,8 @@
+pub mod Past
+pub mod Offering
+pub mod Lengths
+pub mod Telling
+pub mod Clashing
+pub mod Counting
+pub mod Losses
+pub mod Violating

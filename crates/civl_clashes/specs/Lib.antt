@@ -1,0 +1,9 @@
+pub mod Effects
+pub mod Differences
+pub mod Clashes
+pub mod Gates
+pub mod Losses
+pub mod Told
+pub mod Laws
+pub mod inner
+pub mod examples

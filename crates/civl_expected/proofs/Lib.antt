@@ -1,0 +1,4 @@
+pub mod Viable
+pub mod Growing
+pub mod Chosen
+pub mod Reading

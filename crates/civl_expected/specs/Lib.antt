@@ -1,0 +1,4 @@
+pub mod Expected
+pub mod Laws
+pub mod inner
+pub mod examples

@@ -1,0 +1,3 @@
+pub mod Flag
+pub mod Increments
+pub mod Steps

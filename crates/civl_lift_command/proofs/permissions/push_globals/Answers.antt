@@ -1,9 +1,0 @@
-use Rattle.std.proofs.Common.{append-nil, arith}
-use Rattle.std.proofs.lemmas.Grind.{common_steps}
-use Rattle.civl_lift_command.proofs.Beside.{globals_past}
-use Rattle.civl_lift_command.proofs.permissions.push_globals.Goals as goal
-
-pub returns : goal.returns
-returns c =
-    let done = globals_past c.args.globals.now c.args.values.now c.loop-at.at (omega arith) in
-    grind (arith, common_steps, append-nil, done)

@@ -1,0 +1,4 @@
+pub mod Told
+pub mod Parts
+pub mod Conditions
+pub mod Reading

@@ -1,0 +1,5 @@
+pub mod Beginnings
+pub mod Losses
+pub mod Stories
+pub mod Laws
+pub mod inner

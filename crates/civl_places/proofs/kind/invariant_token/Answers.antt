@@ -1,0 +1,14 @@
+use Rattle.std.proofs.Common.{sym, ◌∙◌, arith}
+use Rattle.civl_tree.specs.SpellingProgram.{spell_invariant}
+use Rattle.civl_places.specs.inner.Kinds.{invariants_at}
+use Rattle.civl_places.proofs.Begun.{each_found, each_left, invariant_start}
+use Rattle.civl_places.proofs.kind.invariant_token.Goals as goal
+
+pub returns-in-Found : goal.returns-in-Found
+returns-in-Found c =
+    let placed = each_found spell_invariant _ c.args.program.now.invariants _ (invariants_at c.args.program.now) _ _ c.as_slice.ensures c.invariants_start.ensures c.walk_each.ensures _ c.in-Found.is in
+    (placed.0, placed.1 ∙ sym (invariant_start c.args.program.now _ (omega (arith, placed.0))))
+
+pub returns-in-Left : goal.returns-in-Left
+returns-in-Left c =
+    each_left spell_invariant _ c.args.program.now.invariants _ (invariants_at c.args.program.now) _ _ c.as_slice.ensures c.invariants_start.ensures c.walk_each.ensures _ c.in-Left.is

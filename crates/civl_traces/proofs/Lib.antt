@@ -1,0 +1,10 @@
+mod Calls
+mod Telling
+mod Going
+mod Changes
+mod Within
+mod Turning
+mod Sound
+mod Known
+mod Walks
+mod Leading
