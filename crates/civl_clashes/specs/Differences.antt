@@ -20,7 +20,8 @@ abbrev pub globals_differ : (Global → Bool) → ℕ → List Global → List V
 globals_differ test at [] vs ws = []
 globals_differ test at (g ∷ gs) [] ws = []
 globals_differ test at (g ∷ gs) (v ∷ vs) [] = []
-globals_differ test at (g ∷ gs) (v ∷ vs) (w ∷ ws) = (if test g then difference (place.Global at) v w else []) ++ globals_differ test (at + 1) gs vs ws
+globals_differ test at (g ∷ gs) (v ∷ vs) (w ∷ ws) = (if test g then difference (place.Global at) v w else [])
+    ++ globals_differ test (at + 1) gs vs ws
 
 -- the outputs that have two values; the first of these outputs has this place
 abbrev pub outs_differ : Which → ℕ → List Value → List Value → List Difference

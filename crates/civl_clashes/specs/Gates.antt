@@ -17,11 +17,13 @@ gate_true_in program y a = if gate_of program a.store y then Some a else None
 
 -- both gates are true; but y's is false in what x leaves
 abbrev pub spoil_of : Program → Store → Invoked → Invoked → Option Effect
-spoil_of program g x y = if gate_of program g x && gate_of program g y then option_and_then (gate_false_in program y) (effect_of program g x) else None
+spoil_of program g x y =
+    if gate_of program g x && gate_of program g y then option_and_then (gate_false_in program y) (effect_of program g x) else None
 
 -- x's gate is true and y's false; but y's is true in what x leaves
 abbrev pub reveal_of : Program → Store → Invoked → Invoked → Option Effect
-reveal_of program g x y = if gate_of program g x && not (gate_of program g y) then option_and_then (gate_true_in program y) (effect_of program g x) else None
+reveal_of program g x y =
+    if gate_of program g x && not (gate_of program g y) then option_and_then (gate_true_in program y) (effect_of program g x) else None
 
 -- an action with the choices that it offers
 abbrev pub offered : Program → Store → Invoked → Invoked

@@ -16,7 +16,8 @@ use Rattle.civl_clashes.specs.Told.{start_violation, violation}
 
 -- K3 and K5
 abbrev pub ClashesAreTold : Type 0
-ClashesAreTold = (program : Program) (step : ℕ) (g : Store) (x y : Invoked) → is_some (clash_of program step g x y) ≡ clashes program step g x y
+ClashesAreTold = (program : Program) (step : ℕ) (g : Store) (x y : Invoked) → is_some (clash_of program step g x y)
+    ≡ clashes program step g x y
 
 -- K4 and K6
 abbrev pub SpoilsAreTold : Type 0

@@ -1,5 +1,6 @@
 -- The permission that an action doubles or makes (linear permissions: Kragl, Qadeer, CAV 2018).
-use Rattle.std.specs.Prelude.{ℕ, ◌+◌, ◌&&◌, nat_eq, if◌then◌else◌, List, [], ◌∷◌, ◌++◌, flat_map, Option, None, Some, option_map, option_and_then}
+use Rattle.std.specs.Prelude.{ℕ, ◌+◌, ◌&&◌, nat_eq, if◌then◌else◌, List, [], ◌∷◌}
+use Rattle.std.specs.Prelude.{◌++◌, flat_map, Option, None, Some, option_map, option_and_then}
 use Rattle.std.specs.List.{list_any}
 use Rattle.std.specs.Option.{option_or}
 use Rattle.civl_bits.specs.declared.value.Value.{Value}
@@ -28,25 +29,29 @@ abbrev pub by_globals : ℕ → List Global → List Value → List Carried
 by_globals at [] values = []
 by_globals at (g ∷ gs) [] = []
 by_globals at (g ∷ gs) (v ∷ vs) =
-    (if g.linear then record { carrier = carrier.Global at; permissions = permissions_of_global v } ∷ [] else []) ++ by_globals (at + 1) gs vs
+    (if g.linear then record { carrier = carrier.Global at; permissions = permissions_of_global v } ∷ [] else [])
+    ++ by_globals (at + 1) gs vs
 
 -- what each lent parameter carries; the first of these parameters has this place
 abbrev pub by_params : ℕ → List Param → List Value → List Carried
 by_params at [] values = []
 by_params at (p ∷ ps) [] = []
 by_params at (p ∷ ps) (v ∷ vs) =
-    (if is_lent p.mode then record { carrier = carrier.Param at; permissions = permissions_of_word v } ∷ [] else []) ++ by_params (at + 1) ps vs
+    (if is_lent p.mode then record { carrier = carrier.Param at; permissions = permissions_of_word v } ∷ [] else [])
+    ++ by_params (at + 1) ps vs
 
 -- what each linear output carries; the first of these outputs has this place
 abbrev pub by_outs : ℕ → List Param → List Value → List Carried
 by_outs at [] values = []
 by_outs at (p ∷ ps) [] = []
 by_outs at (p ∷ ps) (v ∷ vs) =
-    (if is_linear p.mode then record { carrier = carrier.Out at; permissions = permissions_of_word v } ∷ [] else []) ++ by_outs (at + 1) ps vs
+    (if is_linear p.mode then record { carrier = carrier.Out at; permissions = permissions_of_word v } ∷ [] else [])
+    ++ by_outs (at + 1) ps vs
 
 -- what comes out of an action that leaves this
 abbrev pub carried_out : Program → Invoked → Effect → List Carried
-carried_out program x a = by_globals 0 program.globals a.store.values ++ (by_params 0 x.action.params x.inputs ++ by_outs 0 x.action.outs a.outs)
+carried_out program x a = by_globals 0 program.globals a.store.values
+    ++ (by_params 0 x.action.params x.inputs ++ by_outs 0 x.action.outs a.outs)
 
 -- ---- a permission that comes out twice
 

@@ -47,12 +47,14 @@ keep_violation program g m x = option_map (λ l. Loses g (instance m x) l.0 l.1)
 unfoldable pub violation : Program → Condition → List Value → Option Violation
 violation program (condition.Start step i) values = start_violation program step i (record { values = values })
 violation program (condition.Keep step m) values =
-    of_action program m None (λ a. keep_violation program (store_of (exists_at (step - 1)) program values) m (invoked values (count_of (exists_at (step - 1)) program) a))
+    of_action program m None (λ a. keep_violation program (store_of (exists_at (step - 1)) program values) m
+    (invoked values (count_of (exists_at (step - 1)) program) a))
 violation program (condition.Pair number step m n) values =
     of_action program m None (λ a. of_action program n None (λ b.
     apart_violation program number step (store_of (exists_at (step - 1)) program values)
     m (invoked values (count_of (exists_at (step - 1)) program) a)
     n (invoked values (count_of (exists_at (step - 1)) program + instance_count a) b)))
 violation program (condition.Fire step m) values =
-    of_action program m None (λ a. fire_violation program (store_of (exists_at (step - 1)) program values) m (invoked values (count_of (exists_at (step - 1)) program) a))
+    of_action program m None (λ a. fire_violation program (store_of (exists_at (step - 1)) program values) m
+    (invoked values (count_of (exists_at (step - 1)) program) a))
 violation program _ values = None

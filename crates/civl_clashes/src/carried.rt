@@ -1,5 +1,6 @@
 // What carries permissions out of an action, and the one that comes out twice or from nowhere.
-ghost use Rattle.std.specs.Prelude.{◌≡◌, ◌++◌, ◌∷◌, [], ◌<◌, ◌≤◌, ℕ, List as ListOf, drop, length, nat_eq, option_copied, OnOk, IfOk, if◌then◌else◌};
+ghost use Rattle.std.specs.Prelude.{◌≡◌, ◌++◌, ◌∷◌, [], ◌<◌, ◌≤◌, ℕ, List as ListOf};
+ghost use Rattle.std.specs.Prelude.{drop, length, nat_eq, option_copied, OnOk, IfOk, if◌then◌else◌};
 ghost use Rattle.std.specs.List.{list_any};
 ghost use Rattle.civl_tree.specs.rules.Width.{is_linear};
 ghost use Rattle.civl_meaning.specs.Permissions.{permissions_of_word, permissions_of_global};

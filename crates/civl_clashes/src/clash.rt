@@ -73,7 +73,8 @@ fn exchanged_behind(
     kept: &Order,
     first: Effect,
 ) -> Result<Option<Exchanged>, Memory>
-    ensures { IfOk result (λ found. found ≡ exchanged_behind (exists_at layer) program.now kept.now first (effect_of program.now first.store (meant x.now))) }
+    ensures { IfOk result (λ found. found ≡ exchanged_behind (exists_at layer) program.now kept.now first
+        (effect_of program.now first.store (meant x.now))) }
 {
     match effect_of(alloc, program, &first.store, x)? {
         Some(second) => ends(alloc, layer, program, kept, Order { first, second }),

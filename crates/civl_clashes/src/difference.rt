@@ -37,7 +37,8 @@ fn push_global(
     kept: &Value,
     exchanged: &Value,
 ) -> Result<(), Memory>
-    ensures { OnOk result (list.new ≡ list.old ++ (if exists_at layer global.now then difference (Place.Global at) kept.now exchanged.now else [])) }
+    ensures { OnOk result (list.new ≡ list.old ++ (if exists_at layer global.now then difference
+        (Place.Global at) kept.now exchanged.now else [])) }
 {
     if exists_at(layer, global) {
         push_difference(list, Place::Global(at), kept, exchanged)

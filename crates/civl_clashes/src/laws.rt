@@ -1,6 +1,8 @@
 //! Laws of the definitions, each the contract of a function that does nothing.
-ghost use Rattle.civl_clashes.specs.Laws.{StartsAreTold, LossesAreTold, ClashesAreTold, SpoilsAreTold, RevealsAreTold, WaitsAreTold, ViolationsAreTold};
-ghost use Rattle.civl_clashes.specs.examples.Locking.{LockClashes, HeldLockDoesNot, FreeClashes, ReadClashes, WriteClashes, GateChanges, PickWaits};
+ghost use Rattle.civl_clashes.specs.Laws.{StartsAreTold, LossesAreTold, ClashesAreTold, SpoilsAreTold};
+ghost use Rattle.civl_clashes.specs.Laws.{RevealsAreTold, WaitsAreTold, ViolationsAreTold};
+ghost use Rattle.civl_clashes.specs.examples.Locking.{LockClashes, HeldLockDoesNot, FreeClashes, ReadClashes};
+ghost use Rattle.civl_clashes.specs.examples.Locking.{WriteClashes, GateChanges, PickWaits};
 ghost use Rattle.civl_clashes.specs.examples.Pooling.{GrabDoubles, GrabMakes, FillDoubles, PoolStarts};
 
 /// K1: an initial store is told exactly where values violate it.

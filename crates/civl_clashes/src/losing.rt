@@ -40,7 +40,8 @@ fn push_global(
     global: &GlobalVar,
     value: &Value,
 ) -> Result<(), Memory>
-    ensures { OnOk result (carried.new ≡ carried.old ++ (if global.now.linear then record { carrier = carrier.Global at; permissions = permissions_of_global value.now } ∷ [] else [])) }
+    ensures { OnOk result (carried.new ≡ carried.old ++ (if global.now.linear
+        then record { carrier = carrier.Global at; permissions = permissions_of_global value.now } ∷ [] else [])) }
 {
     if !global.linear {
         return Ok(());
@@ -75,7 +76,8 @@ fn push_word(
     carrier: Carrier,
     value: &Value,
 ) -> Result<(), Memory>
-    ensures { OnOk result (carried.new ≡ carried.old ++ (if passed then record { carrier = carrier; permissions = permissions_of_word value.now } ∷ [] else [])) }
+    ensures { OnOk result (carried.new ≡ carried.old ++ (if passed
+        then record { carrier = carrier; permissions = permissions_of_word value.now } ∷ [] else [])) }
 {
     if !passed {
         return Ok(());
@@ -208,7 +210,8 @@ fn loss_in(
     effect: Effect,
     incoming: &[u32],
 ) -> Result<Option<(Effect, Loss)>, Memory>
-    ensures { IfOk result (λ found. found ≡ option_map (λ l. (effect, l)) (loss_among (carried_out program.now (meant call.now) effect) incoming.now)) }
+    ensures { IfOk result (λ found. found ≡ option_map (λ l. (effect, l))
+        (loss_among (carried_out program.now (meant call.now) effect) incoming.now)) }
 {
     match carried_out(alloc, program, call, &effect) {
         Ok(carried) => match loss_among(carried.as_slice(), incoming) {
@@ -227,7 +230,8 @@ fn loss_after(
     call: &Call<'_>,
     lists: &[List<u32>],
 ) -> Result<Option<(Effect, Loss)>, Memory>
-    ensures { IfOk result (λ found. found ≡ option_and_then (loss_in program.now (meant call.now) lists.now) (effect_of program.now store.now (meant call.now))) }
+    ensures { IfOk result (λ found. found ≡ option_and_then (loss_in program.now (meant call.now) lists.now)
+        (effect_of program.now store.now (meant call.now))) }
 {
     match effect_of(alloc, program, store, call)? {
         Some(effect) => match joined(alloc, lists) {

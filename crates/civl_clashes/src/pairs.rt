@@ -47,7 +47,8 @@ fn clashes(
     x: &Call<'_>,
     y: &Call<'_>,
 ) -> Result<Option<Violation>, Memory>
-    ensures { IfOk result (λ told. told ≡ option_map (Violation.Clashes (pair store x.now.number (meant x.now) y.now.number (meant y.now))) (clash_of program.now step store (meant x.now) (meant y.now))) }
+    ensures { IfOk result (λ told. told ≡ option_map (Violation.Clashes (pair store x.now.number (meant x.now) y.now.number
+        (meant y.now))) (clash_of program.now step store (meant x.now) (meant y.now))) }
 {
     match clash_of(alloc, program, step, &store, x, y)? {
         Some(clash) => match pair(alloc, store, x, y) {
@@ -66,7 +67,8 @@ fn spoils(
     x: &Call<'_>,
     y: &Call<'_>,
 ) -> Result<Option<Violation>, Memory>
-    ensures { IfOk result (λ told. told ≡ option_map (Violation.Spoils (pair store x.now.number (meant x.now) y.now.number (meant y.now))) (spoil_of program.now store (meant x.now) (meant y.now))) }
+    ensures { IfOk result (λ told. told ≡ option_map (Violation.Spoils (pair store x.now.number (meant x.now) y.now.number
+        (meant y.now))) (spoil_of program.now store (meant x.now) (meant y.now))) }
 {
     match spoil_of(alloc, program, &store, x, y)? {
         Some(effect) => match pair(alloc, store, x, y) {
@@ -85,7 +87,8 @@ fn reveals(
     x: &Call<'_>,
     y: &Call<'_>,
 ) -> Result<Option<Violation>, Memory>
-    ensures { IfOk result (λ told. told ≡ option_map (Violation.Reveals (pair store x.now.number (meant x.now) y.now.number (meant y.now))) (reveal_of program.now store (meant x.now) (meant y.now))) }
+    ensures { IfOk result (λ told. told ≡ option_map (Violation.Reveals (pair store x.now.number (meant x.now) y.now.number
+        (meant y.now))) (reveal_of program.now store (meant x.now) (meant y.now))) }
 {
     match reveal_of(alloc, program, &store, x, y)? {
         Some(effect) => match pair(alloc, store, x, y) {
@@ -106,7 +109,8 @@ fn pair_violation(
     x: &Call<'_>,
     y: &Call<'_>,
 ) -> Result<Option<Violation>, Memory>
-    ensures { IfOk result (λ told. told ≡ pair_violation program.now number step store x.now.number (meant x.now) y.now.number (meant y.now)) }
+    ensures { IfOk result (λ told. told ≡ pair_violation program.now number step store x.now.number (meant x.now) y.now.number
+        (meant y.now)) }
 {
     match number {
         3 => clashes(alloc, program, step, store, x, y),
@@ -128,7 +132,8 @@ pub(crate) fn apart_violation(
     x: &Call<'_>,
     y: &Call<'_>,
 ) -> Result<Option<Violation>, Memory>
-    ensures { IfOk result (λ told. told ≡ apart_violation program.now number step store x.now.number (meant x.now) y.now.number (meant y.now)) }
+    ensures { IfOk result (λ told. told ≡ apart_violation program.now number step store x.now.number (meant x.now) y.now.number
+        (meant y.now)) }
 {
     match is_apart(alloc, program, &store, x, y) {
         Ok(apart) => {

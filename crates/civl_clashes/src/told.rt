@@ -31,7 +31,10 @@ fn of_actions(
     second: &Action,
     values: &[Value],
 ) -> Result<Option<Violation>, Memory>
-    ensures { IfOk result (λ told. told ≡ apart_violation program.now number step (store_of (exists_at (step - 1)) program.now values.now) m (invoked values.now (count_of (exists_at (step - 1)) program.now) first.now) n (invoked values.now (count_of (exists_at (step - 1)) program.now + instance_count first.now) second.now)) }
+    ensures { IfOk result (λ told. told ≡ apart_violation program.now number step
+        (store_of (exists_at (step - 1)) program.now values.now) m
+        (invoked values.now (count_of (exists_at (step - 1)) program.now) first.now) n
+        (invoked values.now (count_of (exists_at (step - 1)) program.now + instance_count first.now) second.now)) }
 {
     let layer = step.saturating_sub(1);
     let rest = behind_globals(Among::Layer(layer), program, values);
@@ -53,7 +56,11 @@ fn of_pair(
     n: u32,
     values: &[Value],
 ) -> Result<Option<Violation>, Memory>
-    ensures { IfOk result (λ told. told ≡ of_action program.now m None (λ a. of_action program.now n None (λ b. apart_violation program.now number step (store_of (exists_at (step - 1)) program.now values.now) m (invoked values.now (count_of (exists_at (step - 1)) program.now) a) n (invoked values.now (count_of (exists_at (step - 1)) program.now + instance_count a) b)))) }
+    ensures { IfOk result (λ told. told ≡ of_action program.now m None
+        (λ a. of_action program.now n None (λ b. apart_violation program.now number step
+        (store_of (exists_at (step - 1)) program.now values.now) m
+        (invoked values.now (count_of (exists_at (step - 1)) program.now) a) n
+        (invoked values.now (count_of (exists_at (step - 1)) program.now + instance_count a) b)))) }
 {
     match program.actions.as_slice().get(m as usize) {
         Some(first) => match program.actions.as_slice().get(n as usize) {
@@ -73,7 +80,8 @@ fn of_action(
     action: &Action,
     values: &[Value],
 ) -> Result<Option<Violation>, Memory>
-    ensures { IfOk result (λ told. told ≡ fire_violation program.now (store_of (exists_at (step - 1)) program.now values.now) m (invoked values.now (count_of (exists_at (step - 1)) program.now) action.now)) }
+    ensures { IfOk result (λ told. told ≡ fire_violation program.now (store_of (exists_at (step - 1)) program.now values.now) m
+        (invoked values.now (count_of (exists_at (step - 1)) program.now) action.now)) }
 {
     let layer = step.saturating_sub(1);
     let x = call_of(
@@ -95,7 +103,9 @@ fn of_fire(
     m: u32,
     values: &[Value],
 ) -> Result<Option<Violation>, Memory>
-    ensures { IfOk result (λ told. told ≡ of_action program.now m None (λ a. fire_violation program.now (store_of (exists_at (step - 1)) program.now values.now) m (invoked values.now (count_of (exists_at (step - 1)) program.now) a))) }
+    ensures { IfOk result (λ told. told ≡ of_action program.now m None (λ a. fire_violation program.now
+        (store_of (exists_at (step - 1)) program.now values.now) m
+        (invoked values.now (count_of (exists_at (step - 1)) program.now) a))) }
 {
     match program.actions.as_slice().get(m as usize) {
         Some(action) => of_action(alloc, program, step, m, action, values),
@@ -112,7 +122,8 @@ fn of_kept(
     action: &Action,
     values: &[Value],
 ) -> Result<Option<Violation>, Memory>
-    ensures { IfOk result (λ told. told ≡ keep_violation program.now (store_of (exists_at (step - 1)) program.now values.now) m (invoked values.now (count_of (exists_at (step - 1)) program.now) action.now)) }
+    ensures { IfOk result (λ told. told ≡ keep_violation program.now (store_of (exists_at (step - 1)) program.now values.now) m
+        (invoked values.now (count_of (exists_at (step - 1)) program.now) action.now)) }
 {
     let layer = step.saturating_sub(1);
     let x = call_of(
@@ -134,7 +145,9 @@ fn of_keep(
     m: u32,
     values: &[Value],
 ) -> Result<Option<Violation>, Memory>
-    ensures { IfOk result (λ told. told ≡ of_action program.now m None (λ a. keep_violation program.now (store_of (exists_at (step - 1)) program.now values.now) m (invoked values.now (count_of (exists_at (step - 1)) program.now) a))) }
+    ensures { IfOk result (λ told. told ≡ of_action program.now m None (λ a. keep_violation program.now
+        (store_of (exists_at (step - 1)) program.now values.now) m
+        (invoked values.now (count_of (exists_at (step - 1)) program.now) a))) }
 {
     match program.actions.as_slice().get(m as usize) {
         Some(action) => of_kept(alloc, program, step, m, action, values),

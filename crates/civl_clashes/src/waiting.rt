@@ -94,7 +94,8 @@ fn waits(
     call: &Call<'_>,
     chosen: List<Value>,
 ) -> Result<Option<Violation>, Memory>
-    ensures { IfOk result (λ told. told ≡ Some (Violation.Waits store (record { action = call.now.number; inputs = call.now.inputs.now; chosen = chosen }))) }
+    ensures { IfOk result (λ told. told ≡ Some (Violation.Waits store
+        (record { action = call.now.number; inputs = call.now.inputs.now; chosen = chosen }))) }
 {
     match copied(alloc, call.inputs) {
         Ok(inputs) => Ok(Some(Violation::Waits(

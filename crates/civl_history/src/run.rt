@@ -80,8 +80,10 @@ pub fn tell_moves(
     requires { length plain.now.program.threads + length moves.now + 1 < 2 ^ 32 }
     ensures moves { IfOk result (λ told. told.moves ≡ history plain.now (start plain.now store.now) moves.now) }
     ensures trace { IfOk result (λ told. told.trace ≡ trace_of plain.now store.now moves.now) }
-    ensures stopped_at { IfOk result (λ told. told.stopped_at ≡ thread_stands plain.now (last_of plain.now store.now moves.now) (stopped_thread moves.now told.trace.moved)) }
-    ensures failing_at { IfOk result (λ told. told.failing_at ≡ thread_stands plain.now (last_of plain.now store.now moves.now) told.trace.failing) }
+    ensures stopped_at { IfOk result (λ told. told.stopped_at ≡ thread_stands plain.now (last_of plain.now store.now moves.now)
+        (stopped_thread moves.now told.trace.moved)) }
+    ensures failing_at { IfOk result (λ told. told.failing_at
+        ≡ thread_stands plain.now (last_of plain.now store.now moves.now) told.trace.failing) }
 {
     let places = places_of(alloc, plain)?;
     let spots = spots_of(alloc, plain)?;

@@ -52,7 +52,8 @@ fn fill<'p>(
     requires small { at + sizes_of stmts.now < 2 ^ 64 }
     requires room { at + sizes_of stmts.now ≤ length entries.old }
     ensures long { length entries.new ≡ length entries.old }
-    ensures filled { (next : ℕ) (last : Option Spot) → IsFound after.entry last → Filled entries.old entries.new at (at + sizes_of stmts.now) (spot_among stmts.now at next last) }
+    ensures filled { (next : ℕ) (last : Option Spot) → IsFound after.entry last
+        → Filled entries.old entries.new at (at + sizes_of stmts.now) (spot_among stmts.now at next last) }
 {
     let items = stmts.as_slice();
     let mut behind = at + sizes(stmts);
@@ -80,7 +81,8 @@ fn fill_inside<'p>(
     requires small { at + size_of stmt.now < 2 ^ 64 }
     requires room { at + size_of stmt.now ≤ length entries.old }
     ensures long { length entries.new ≡ length entries.old }
-    ensures filled { (next : ℕ) (last : Option Spot) → IsFound after.entry last → Filled entries.old entries.new (at + 1) (at + size_of stmt.now) (inside_of stmt.now stmt.now at next last) }
+    ensures filled { (next : ℕ) (last : Option Spot) → IsFound after.entry last
+        → Filled entries.old entries.new (at + 1) (at + size_of stmt.now) (inside_of stmt.now stmt.now at next last) }
 {
     let itself = Some(Numbered { number: at, stmt });
     match stmt {

@@ -5,7 +5,8 @@ ghost use Rattle.civl_meaning.specs.Table.{ArePlaces};
 ghost use Rattle.civl_meaning.specs.Step.{step_of};
 ghost use Rattle.civl_history.specs.History.{told};
 ghost use Rattle.civl_history.specs.inner.Spots.{AreSpots};
-ghost use Rattle.civl_history.specs.inner.Ahead.{said, call_kind, form_kind, first_kind, exit_kind, kind_seen, top_locals, locals_seen, told_kept, answer_of, move_of};
+ghost use Rattle.civl_history.specs.inner.Ahead.{said, call_kind, form_kind, first_kind, exit_kind, kind_seen};
+ghost use Rattle.civl_history.specs.inner.Ahead.{top_locals, locals_seen, told_kept, answer_of, move_of};
 
 use crate::ahead::{Ahead, stand_before};
 use crate::changes::{Changed, changed_values};
@@ -122,7 +123,8 @@ fn local_changes(
 fn tell(alloc: Global, config: &Config, thread: u32, kept: &Kept<'_>) -> Result<MadeMove, Memory>
     requires few { kept.now.threads < 2 ^ 32 }
     requires there { thread < length config.now.threads }
-    ensures { IfOk result (λ made. IfSome (slice_get config.now.threads thread) (λ behind. made ≡ told_kept thread kept.now config.now behind.state)) }
+    ensures { IfOk result (λ made. IfSome (slice_get config.now.threads thread) (λ behind. made
+        ≡ told_kept thread kept.now config.now behind.state)) }
 {
     let behind = &config.threads.get(thread as usize).state;
     let kind = step_kind(kept.threads as u32, kept.below, kept.ahead, behind);

@@ -1,7 +1,8 @@
 -- What is lost on a path: by what values violate a condition K9 or K10 (refinement by blocks between yields: Hawblitzel, Petrank,
 -- Qadeer, Tasiran, CAV 2015; Kragl, Qadeer, CAV 2018. Ranks: Floyd, 1967. Interference freedom: Owicki and Gries, 1976). The
 -- conditions themselves stand in civl_conditions, and each loss here is told where its part of them fails.
-use Rattle.std.specs.Prelude.{ℕ, ◌+◌, ◌-◌, Bool, true, false, not, ◌&&◌, nat_eq, if◌then◌else◌, List, [], ◌∷◌, ◌++◌, map, slice_get, Option, None, Some, option_and_then}
+use Rattle.std.specs.Prelude.{ℕ, ◌+◌, ◌-◌, Bool, true, false, not, ◌&&◌, nat_eq, if◌then◌else◌, List}
+use Rattle.std.specs.Prelude.{[], ◌∷◌, ◌++◌, map, slice_get, Option, None, Some, option_and_then}
 use Rattle.std.specs.Option.{option_map_or}
 use Rattle.civl_bits.specs.declared.value.Value.{Value}
 use Rattle.civl_bits.specs.Value.{same_value}
@@ -49,7 +50,8 @@ use Rattle.civl_traces.specs.declared.walked.Walked.{Walked}
 use Rattle.civl_traces.specs.Told.{progress, told}
 use Rattle.civl_traces.specs.Traces.{trace_from}
 use Rattle.civl_losses.specs.declared.loss.Loss.{Loss}
-use Rattle.civl_losses.specs.declared.loss.Loss.TheVariants.{FalseGate, FalseAssert, FalseNote, CommitAgain, NoCommit, Changes, ActionWaits, ActionGives, RankStays, TargetLost}
+use Rattle.civl_losses.specs.declared.loss.Loss.TheVariants.{FalseGate, FalseAssert, FalseNote, CommitAgain, NoCommit, Changes}
+use Rattle.civl_losses.specs.declared.loss.Loss.TheVariants.{ActionWaits, ActionGives, RankStays, TargetLost}
 
 -- the path from a cut, in the lower program of a step, told statement by statement
 abbrev pub course_of : Program → ℕ → Proc → Begun → Course
@@ -113,16 +115,19 @@ lost_at_block_end proc end loss = option_and_then (λ e. if ends_block proc e th
 -- gate: the statement fails
 abbrev pub layer_fails : Course → Progress → stmt.Stmt-F Stmt → Loss
 layer_fails c p (stmt.Call f es rs) =
-    option_map_or (λ a. FalseGate (place_of (map (λ a. a.name) c.plain.program.actions) a.name) (values_of (frame_values c.plain.program.globals c.proc p.locals) es))
+    option_map_or (λ a. FalseGate (place_of (map (λ a. a.name) c.plain.program.actions) a.name)
+    (values_of (frame_values c.plain.program.globals c.proc p.locals) es))
     (action_meant (called c.plain f)) FalseAssert
 layer_fails c p _ = FalseAssert
 
 abbrev pub gate_loss : Course → ℕ → Bool → Progress → Option Loss
-gate_loss c at failed p = if failed then Some (option_map_or (λ s. layer_fails c p (out-Stmt s)) (statement_at c.proc.body at) FalseAssert) else None
+gate_loss c at failed p =
+    if failed then Some (option_map_or (λ s. layer_fails c p (out-Stmt s)) (statement_at c.proc.body at) FalseAssert) else None
 
 -- invariant: what the cut says at which the path ends
 abbrev pub note_lost : Program → Proc → Begun → ℕ → Progress → Cut → Option Loss
-note_lost program proc b end p cut = if note_holds (end_values program proc b end p) (cut_invariant proc cut) then None else Some (FalseNote end)
+note_lost program proc b end p cut =
+    if note_holds (end_values program proc b end p) (cut_invariant proc cut) then None else Some (FalseNote end)
 
 abbrev pub note_loss : Program → Proc → Begun → Option ℕ → Progress → Option Loss
 note_loss program proc b end p = option_and_then (λ e. option_and_then (note_lost program proc b e p) (slice_get (proc_cuts proc) e)) end
@@ -155,12 +160,14 @@ chosen_behind program proc p = values_of (plain_note_values program.globals proc
 abbrev pub given : Program → ℕ → Proc → Progress → Option (Store × List Value) → Option Loss
 given program step proc p None = Some (ActionWaits (chosen_behind program proc p))
 given program step proc p (Some d) =
-    where_any ActionGives (globals_differ (exists_at step) 0 program.globals p.store.values d.0.values) (outs_differ 0 (outs_in proc p.locals) d.1)
+    where_any ActionGives (globals_differ (exists_at step) 0 program.globals p.store.values d.0.values)
+    (outs_differ 0 (outs_in proc p.locals) d.1)
 
 abbrev pub action_lost : Program → ℕ → Proc → Begun → Progress → Option Loss
 action_lost program step proc b p =
     if p.done && not b.old_done
-    then option_and_then (λ a. given program step proc p (fires program.globals b.old a (inputs_of proc b.locals) (chosen_behind program proc p))) (refined_action program proc)
+    then option_and_then (λ a. given program step proc p (fires program.globals b.old a (inputs_of proc b.locals)
+    (chosen_behind program proc p))) (refined_action program proc)
     else None
 
 abbrev pub perform_loss : Program → ℕ → Proc → Begun → Option ℕ → Progress → Option Loss
@@ -177,7 +184,8 @@ abbrev pub rank_loss : Program → Proc → ℕ → Cut → Begun → Option ℕ
 rank_loss program proc c cut b end p =
     option_and_then (λ e.
     if nat_eq e c
-    then option_and_then (λ r. stays (rank_value program proc b.store b.locals r) (rank_value program proc p.store p.locals r)) (cut_rank proc cut)
+    then option_and_then (λ r. stays (rank_value program proc b.store b.locals r) (rank_value program proc p.store p.locals r))
+    (cut_rank proc cut)
     else None) end
 
 abbrev pub part_loss : Program → ℕ → Proc → ℕ → Cut → Begun → Walked → Part → Option Loss
@@ -216,5 +224,6 @@ unfoldable pub loss : Program → Condition → List Value → Option Loss
 loss program (condition.Path part step q c) values =
     of_cut program q c None (λ proc cut. path_loss program step part proc c cut (begun program step proc cut values))
 loss program (condition.Block step q c target) values =
-    of_cut program q c None (λ proc cut. block_loss program step proc c cut (begun program step proc cut values) target values (layout program step proc cut).behind)
+    of_cut program q c None (λ proc cut. block_loss program step proc c cut (begun program step proc cut values) target values
+    (layout program step proc cut).behind)
 loss program _ values = None

@@ -101,7 +101,8 @@ pub(crate) fn choices_of_calls(
     values: &[Value],
 ) -> Result<List<Chosen>, Memory>
     requires { sizes_of from.now.proc.now.body < 2 ^ 32 }
-    ensures { IfOk result (λ list. chosen_at list ≡ choices_from from.now.program.now from.now.step from.now.proc.now from.now.cut values.now) }
+    ensures { IfOk result (λ list. chosen_at list ≡ choices_from from.now.program.now from.now.step from.now.proc.now from.now.cut
+        values.now) }
 {
     let met = met_from(alloc, from.proc, from.cut)?;
     let flat = statements(alloc, &from.proc.body)?;

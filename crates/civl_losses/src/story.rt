@@ -105,7 +105,8 @@ fn story_in(
     requires step { step ≤ src.now.layers }
     requires numbered { IsNumbered src.now }
     requires found { slice_get src.now.procs number ≡ Some proc.now }
-    ensures { IfOk result (λ told. option_map story told ≡ option_map_or (λ cut. Some (story_from src.now step values.now proc.now cut)) (slice_get (proc_cuts proc.now) cut) None) }
+    ensures { IfOk result (λ told. option_map story told ≡ option_map_or
+        (λ cut. Some (story_from src.now step values.now proc.now cut)) (slice_get (proc_cuts proc.now) cut) None) }
 {
     let cuts = cuts(alloc, src, number)?;
     match cuts.as_slice().get(cut as usize) {

@@ -56,9 +56,12 @@ locking = record {
       sets_f Right (codes "Lock") (expr.One Not f) expr.True
       ∷ sets_f Right (codes "Free") f expr.False
       ∷ sets_f Both (codes "Clear") expr.True expr.False
-      ∷ moving Right (action (codes "Read") [] (param Val (codes "v") (sort.Word 8) ∷ []) [] 0 0 expr.True expr.True (update (codes "v") (name (codes "x")) ∷ []))
-      ∷ moving Right (action (codes "Write") (param Val (codes "w") (sort.Word 8) ∷ []) [] [] 0 0 f expr.True (update (codes "x") (name (codes "w")) ∷ []))
-      ∷ moving Left (action (codes "Pick") (param Val (codes "b") sort.Bool ∷ []) [] (choice (codes "c") sort.Bool (name (codes "b")) ∷ []) 0 0 f (name (codes "c")) [])
+      ∷ moving Right (action (codes "Read") [] (param Val (codes "v") (sort.Word 8)
+      ∷ []) [] 0 0 expr.True expr.True (update (codes "v") (name (codes "x")) ∷ []))
+      ∷ moving Right (action (codes "Write") (param Val (codes "w") (sort.Word 8) ∷ []) [] [] 0 0 f expr.True (update (codes "x")
+      (name (codes "w")) ∷ []))
+      ∷ moving Left (action (codes "Pick") (param Val (codes "b") sort.Bool ∷ []) [] (choice (codes "c") sort.Bool (name (codes "b"))
+      ∷ []) 0 0 f (name (codes "c")) [])
       ∷ [];
   procs = [];
   threads = [];
@@ -84,7 +87,8 @@ clash g m n a b e = Some (Clashes (record { store = g; first = m; second = n }) 
 
 -- Lock and then Free; but where the lock is free, Free waits at once
 abbrev pub LockClashes : Type 0
-LockClashes = violation locking (Pair 3 1 0 1) (bool false ∷ word 8 3 ∷ []) ≡ clash (store false 3) (plain 0) (plain 1) (leaves true 3 []) (leaves false 3 []) WaitsAtOnce
+LockClashes = violation locking (Pair 3 1 0 1) (bool false ∷ word 8 3 ∷ [])
+    ≡ clash (store false 3) (plain 0) (plain 1) (leaves true 3 []) (leaves false 3 []) WaitsAtOnce
 
 -- where it is held, Lock itself waits, and nothing is told
 abbrev pub HeldLockDoesNot : Type 0
@@ -93,15 +97,18 @@ HeldLockDoesNot = violation locking (Pair 3 1 0 1) (bool true ∷ word 8 3 ∷ [
 -- Free and then Clear; but behind Clear, Free waits. K5 asks it of the second action and then the first
 abbrev pub FreeClashes : Type 0
 FreeClashes =
-    (violation locking (Pair 3 1 1 2) (bool true ∷ word 8 3 ∷ []) ≡ clash (store true 3) (plain 1) (plain 2) (leaves false 3 []) (leaves false 3 []) (WaitsBehind (leaves false 3 [])))
-    × (violation locking (Pair 5 1 2 1) (bool true ∷ word 8 3 ∷ []) ≡ clash (store true 3) (plain 1) (plain 2) (leaves false 3 []) (leaves false 3 []) (WaitsBehind (leaves false 3 [])))
+    (violation locking (Pair 3 1 1 2) (bool true ∷ word 8 3 ∷ []) ≡ clash (store true 3) (plain 1) (plain 2) (leaves false 3 [])
+    (leaves false 3 []) (WaitsBehind (leaves false 3 [])))
+    × (violation locking (Pair 5 1 2 1) (bool true ∷ word 8 3 ∷ []) ≡ clash (store true 3) (plain 1) (plain 2) (leaves false 3 [])
+    (leaves false 3 []) (WaitsBehind (leaves false 3 [])))
 
 -- Read gives 3 before Write, and 7 behind it
 abbrev pub ReadClashes : Type 0
 ReadClashes =
     violation locking (Pair 3 1 3 4) (bool true ∷ word 8 3 ∷ word 8 7 ∷ [])
     ≡ clash (store true 3) (plain 3) (writing 7) (leaves true 3 (word 8 3 ∷ [])) (leaves true 7 []) (
-    Ends (order (leaves true 7 []) (leaves true 7 (word 8 7 ∷ []))) (record { place = place.Output First 0; kept = word 8 3; exchanged = word 8 7 } ∷ [])
+    Ends (order (leaves true 7 []) (leaves true 7 (word 8 7 ∷ [])))
+    (record { place = place.Output First 0; kept = word 8 3; exchanged = word 8 7 } ∷ [])
     )
 
 -- of two that write, the later one's value stays; where both write the same, nothing is told
@@ -118,16 +125,20 @@ WriteClashes =
 -- Free makes the gate of Write false, and Lock makes it true
 abbrev pub GateChanges : Type 0
 GateChanges =
-    (violation locking (Pair 4 1 1 4) (bool true ∷ word 8 3 ∷ word 8 7 ∷ []) ≡ Some (Spoils (record { store = store true 3; first = plain 1; second = writing 7 }) (leaves false 3 [])))
-    × (violation locking (Pair 6 1 4 1) (bool true ∷ word 8 3 ∷ word 8 7 ∷ []) ≡ Some (Spoils (record { store = store true 3; first = plain 1; second = writing 7 }) (leaves false 3 [])))
+    (violation locking (Pair 4 1 1 4) (bool true ∷ word 8 3 ∷ word 8 7 ∷ [])
+    ≡ Some (Spoils (record { store = store true 3; first = plain 1; second = writing 7 }) (leaves false 3 [])))
+    × (violation locking (Pair 6 1 4 1) (bool true ∷ word 8 3 ∷ word 8 7 ∷ [])
+    ≡ Some (Spoils (record { store = store true 3; first = plain 1; second = writing 7 }) (leaves false 3 [])))
     × (violation locking (Pair 4 1 0 4) (bool false ∷ word 8 3 ∷ word 8 7 ∷ []) ≡ None)
-    × (violation locking (Pair 7 1 0 4) (bool false ∷ word 8 3 ∷ word 8 7 ∷ []) ≡ Some (Reveals (record { store = store false 3; first = plain 0; second = writing 7 }) (leaves true 3 [])))
+    × (violation locking (Pair 7 1 0 4) (bool false ∷ word 8 3 ∷ word 8 7 ∷ [])
+    ≡ Some (Reveals (record { store = store false 3; first = plain 0; second = writing 7 }) (leaves true 3 [])))
 
 -- ---- K8
 
 -- Pick waits at the choice that it offers, where its gate is true
 abbrev pub PickWaits : Type 0
 PickWaits =
-    (violation locking (Fire 1 5) (bool true ∷ word 8 3 ∷ bool false ∷ []) ≡ Some (Waits (store true 3) (record { action = 5; inputs = bool false ∷ []; chosen = bool false ∷ [] })))
+    (violation locking (Fire 1 5) (bool true ∷ word 8 3 ∷ bool false ∷ [])
+    ≡ Some (Waits (store true 3) (record { action = 5; inputs = bool false ∷ []; chosen = bool false ∷ [] })))
     × (violation locking (Fire 1 5) (bool true ∷ word 8 3 ∷ bool true ∷ []) ≡ None)
     × (violation locking (Fire 1 5) (bool false ∷ word 8 3 ∷ bool false ∷ []) ≡ None)

@@ -31,7 +31,8 @@ pooling = record {
   invariants = record { step = 1; expr = expr.Two Eq (name (codes "pool")) (lit 1 2) } ∷ [];
   actions =
       action (codes "Grab") [] (param Give (codes "a") (sort.Word 1) ∷ []) [] 0 0 expr.True expr.True (update (codes "a") (lit 0 1) ∷ [])
-      ∷ action (codes "Fill") (param Lend (codes "t") (sort.Word 1) ∷ []) [] [] 0 0 expr.True expr.True (update (codes "pool") (lit 3 2) ∷ [])
+      ∷ action (codes "Fill") (param Lend (codes "t") (sort.Word 1) ∷ []) [] [] 0 0 expr.True expr.True (update (codes "pool")
+      (lit 3 2) ∷ [])
       ∷ [];
   procs = [];
   threads = [];
@@ -41,7 +42,11 @@ pooling = record {
 abbrev grabs : ℕ → Loss → Option Violation
 grabs n loss =
     Some (
-    Loses (holding (word 2 n ∷ [])) (record { action = 0; inputs = []; chosen = [] }) (record { store = holding (word 2 n ∷ []); outs = word 1 0 ∷ [] }) loss
+    Loses (holding (word 2 n ∷ [])) (record { action = 0; inputs = []; chosen = [] }) (record {
+      store = holding (word 2 n
+          ∷ []);
+      outs = word 1 0 ∷ [];
+    }) loss
     )
 
 -- the permission 0 that the pool has comes out of the pool and as the output
@@ -56,9 +61,14 @@ GrabMakes = violation pooling (Keep 1 0) (word 2 2 ∷ []) ≡ grabs 2 (Nowhere 
 abbrev pub FillDoubles : Type 0
 FillDoubles =
     (violation pooling (Keep 1 1) (word 2 2 ∷ word 1 0 ∷ [])
-    ≡ Some (Loses (holding (word 2 2 ∷ [])) (record { action = 1; inputs = word 1 0 ∷ []; chosen = [] }) (record { store = holding (word 2 3 ∷ []); outs = [] }) (Twice 0 (carrier.Global 0) (carrier.Param 0))))
+    ≡ Some (Loses (holding (word 2 2 ∷ [])) (record { action = 1; inputs = word 1 0 ∷ []; chosen = [] }) (record {
+      store = holding
+          (word 2 3 ∷ []);
+      outs = [];
+    }) (Twice 0 (carrier.Global 0) (carrier.Param 0))))
     × (violation pooling (Keep 1 1) (word 2 1 ∷ word 1 0 ∷ []) ≡ None)
 
 -- a pool that isn't the one that the invariant asks for
 abbrev pub PoolStarts : Type 0
-PoolStarts = (violation pooling (Start 1 0) (word 2 2 ∷ []) ≡ Some (Starts (holding (word 2 2 ∷ [])))) × (violation pooling (Start 1 0) (word 2 1 ∷ []) ≡ None)
+PoolStarts = (violation pooling (Start 1 0) (word 2 2 ∷ []) ≡ Some (Starts (holding (word 2 2 ∷ []))))
+    × (violation pooling (Start 1 0) (word 2 1 ∷ []) ≡ None)

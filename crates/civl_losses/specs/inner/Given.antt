@@ -22,7 +22,8 @@ listed (q ∷ qs) vs = record { statement = q.0; choices = take (length q.1) vs 
 
 -- the choices of the statement with this number, where it calls an action
 abbrev pub choices_of_number : Program → ℕ → List Stmt → ℕ → List Choice
-choices_of_number program layer stmts number = option_map_or (λ s. layer_choices (program_at program layer) (out-Stmt s)) (slice_get stmts number) []
+choices_of_number program layer stmts number = option_map_or (λ s. layer_choices (program_at program layer) (out-Stmt s))
+    (slice_get stmts number) []
 
 abbrev pub calls_of : Program → ℕ → List Stmt → List ℕ → List (ℕ × List Choice)
 calls_of program layer stmts numbers = map (λ n. (n, choices_of_number program layer stmts n)) numbers
@@ -53,7 +54,8 @@ entry_begun program step proc cut values = record {
 abbrev pub frame_locals : Proc → List Value → List Value
 frame_locals proc vs =
     take (length proc.params) vs
-    ++ (take (length proc.outs) (drop (length proc.params) vs) ++ take (length proc.locals) (drop (length proc.outs) (drop (length proc.params) vs)))
+    ++ (take (length proc.outs) (drop (length proc.params) vs) ++ take (length proc.locals) (drop (length proc.outs)
+    (drop (length proc.params) vs)))
 
 abbrev pub behind_frame : Proc → List Value → List Value
 behind_frame proc vs = drop (length proc.locals) (drop (length proc.outs) (drop (length proc.params) vs))
