@@ -3,6 +3,6 @@ pub mod Offering
 pub mod Lengths
 pub mod Telling
 pub mod Clashing
-pub mod Counting
 pub mod Losses
+pub mod Targets
 pub mod Violating

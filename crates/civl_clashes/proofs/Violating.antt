@@ -9,18 +9,23 @@ use Rattle.civl_tree.specs.declared.program.Program.{Program}
 use Rattle.civl_firing.specs.declared.store.Store.{Store}
 use Rattle.civl_conditions.specs.footprints.Agreement.{exists_at}
 use Rattle.civl_conditions.specs.declared.condition.Condition.TheVariants as condition
+use Rattle.civl_conditions.specs.declared.condition.Target.{Target}
+use Rattle.civl_conditions.specs.paths.Seen.{exists_near}
 use Rattle.civl_conditions.specs.Values.{Invoked, invoked, instance_count, count_of, store_of}
 use Rattle.civl_conditions.specs.Movers.{loses, apart, waits, pair_fails}
 use Rattle.civl_conditions.specs.Invariants.{start_fails}
+use Rattle.civl_conditions.specs.Targets.{act_fails}
 use Rattle.civl_conditions.specs.Violated.{violated}
 use Rattle.civl_clashes.specs.declared.violations.Violation.TheVariants.{Starts}
 use Rattle.civl_clashes.specs.Losses.{loss_of}
 use Rattle.civl_clashes.specs.Clashes.{clash_of}
 use Rattle.civl_clashes.specs.Gates.{spoil_of, reveal_of, wait_of}
-use Rattle.civl_clashes.specs.Told.{keep_violation, pair_violation, apart_violation, fire_violation, violation}
+use Rattle.civl_clashes.specs.Strays.{stray_of}
+use Rattle.civl_clashes.specs.Told.{keep_violation, pair_violation, apart_violation, fire_violation, act_violation, violation}
 use Rattle.civl_clashes.specs.Laws.{StartsAreTold, ViolationsAreTold}
 use Rattle.civl_clashes.proofs.Losses.{losses_told}
 use Rattle.civl_clashes.proofs.Clashing.{some_mapped, clashes_told, spoils_told, reveals_told, waits_told}
+use Rattle.civl_clashes.proofs.Targets.{strays_told}
 
 if_told : {A : Type 0} (b : Bool) (o p : Option A) (s t : Bool) → is_some o ≡ s → is_some p ≡ t
     → is_some (if◌then◌else◌ {A = Option A} b o p) ≡ (if b then s else t)
@@ -52,6 +57,10 @@ fire_told program g m x = some_mapped _ (wait_of program g x) ∙ waits_told pro
 pub keep_told : (program : Program) (g : Store) (m : ℕ) (x : Invoked) → is_some (keep_violation program g m x) ≡ loses program g x
 keep_told program g m x = some_mapped _ (loss_of program g x) ∙ losses_told program g x
 
+pub act_told : (program : Program) (step : ℕ) (g : Store) (m : ℕ) (x : Invoked) (target : Target) (values : List Value) (at : ℕ) →
+    is_some (act_violation program step g m x target values at) ≡ act_fails program step g x target values at
+act_told program step g m x target values at = some_mapped _ (stray_of program step g x target values at) ∙ strays_told program step g x target values at
+
 one_told : {A : Type 0} (b : Bool) (a : A) → is_some (if◌then◌else◌ {A = Option A} b (Some a) None) ≡ b
 one_told true a = refl
 one_told false a = refl
@@ -81,4 +90,6 @@ violations_told program (condition.Fire step m) values e =
     of_told (slice_get program.actions m) _ _ (λ a. fire_told program (store program step values) m (first program step values a))
 violations_told program (condition.Path part step q c) values e = absurd (false≢true e)
 violations_told program (condition.Block step q c target) values e = absurd (false≢true e)
-violations_told program (condition.Act step m target) values e = absurd (false≢true e)
+violations_told program (condition.Act step m target) values e =
+    of_told (slice_get program.actions m) _ _ (λ a. act_told program step (store_of (exists_near step) program values) m
+    (invoked values (count_of (exists_near step) program) a) target values (count_of (exists_near step) program + instance_count a))

@@ -3,6 +3,7 @@ pub mod Differences
 pub mod Clashes
 pub mod Gates
 pub mod Losses
+pub mod Strays
 pub mod Told
 pub mod Laws
 pub mod inner

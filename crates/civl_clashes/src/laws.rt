@@ -1,6 +1,7 @@
 //! Laws of the definitions, each the contract of a function that does nothing.
 ghost use Rattle.civl_clashes.specs.Laws.{StartsAreTold, LossesAreTold, ClashesAreTold, SpoilsAreTold};
-ghost use Rattle.civl_clashes.specs.Laws.{RevealsAreTold, WaitsAreTold, ViolationsAreTold};
+ghost use Rattle.civl_clashes.specs.Laws.{RevealsAreTold, WaitsAreTold, StraysAreTold, ViolationsAreTold};
+ghost use Rattle.civl_clashes.specs.examples.Clearing.{ClearStrays, YieldStrays};
 ghost use Rattle.civl_clashes.specs.examples.Locking.{LockClashes, HeldLockDoesNot, FreeClashes, ReadClashes};
 ghost use Rattle.civl_clashes.specs.examples.Locking.{WriteClashes, GateChanges, PickWaits};
 ghost use Rattle.civl_clashes.specs.examples.Pooling.{GrabDoubles, GrabMakes, FillDoubles, PoolStarts};
@@ -35,6 +36,11 @@ pub fn waits_are_told()
     ensures { WaitsAreTold }
 {}
 
+/// K11: a lost target is told exactly where values violate it.
+pub fn strays_are_told()
+    ensures { StraysAreTold }
+{}
+
 /// A violation is told exactly where values violate a condition on actions.
 pub fn violations_are_told()
     ensures { ViolationsAreTold }
@@ -57,4 +63,10 @@ pub fn pooling()
     ensures makes { GrabMakes }
     ensures lent { FillDoubles }
     ensures starts { PoolStarts }
+{}
+
+/// A flag behind which a thread waits.
+pub fn clearing()
+    ensures invariant { ClearStrays }
+    ensures yields { YieldStrays }
 {}

@@ -3,7 +3,7 @@
 //! A rejected condition is a name with values. [`violation`] answers what they violate it by: the two orders of two actions
 //! side by side, with the wait or with the globals and outputs in which they differ; the gate that one action makes false or
 //! true for the other; the guard that is false at the offered choices; the permission that comes out twice or from nowhere;
-//! the initial store in which an invariant is false.
+//! the initial store in which an invariant is false; what an action leaves that loses an invariant or another thread's yield.
 #![tactic(auto)]
 
 mod call;
@@ -15,11 +15,12 @@ pub mod laws;
 mod losing;
 mod pairs;
 mod starting;
+mod straying;
 mod told;
 mod violations;
 mod waiting;
 
-pub use told::violation;
+pub use told::{linear_violation, violation};
 pub use violations::{
     Carried, Carrier, Clash, Difference, Effect, Exchanged, Instance, Loss, Order, Pair, Place,
     Violation, Which,

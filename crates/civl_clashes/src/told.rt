@@ -1,21 +1,24 @@
 // What values violate a condition on actions by.
 ghost use Rattle.std.specs.Prelude.{◌≡◌, ◌-◌, ◌+◌, IfOk, None};
+ghost use Rattle.civl_linear.specs.Cuts.{all_held};
 ghost use Rattle.civl_conditions.specs.footprints.Agreement.{exists_at};
+ghost use Rattle.civl_conditions.specs.paths.Seen.{exists_near};
 ghost use Rattle.civl_conditions.specs.Steps.{of_action};
 ghost use Rattle.civl_conditions.specs.Values.{invoked, store_of, count_of, instance_count};
-ghost use Rattle.civl_clashes.specs.Told.{start_violation, keep_violation, apart_violation, fire_violation, violation};
+ghost use Rattle.civl_clashes.specs.Told.{start_violation, keep_violation, apart_violation, fire_violation, act_violation, violation};
 
 use crate::call::{behind_call, call_of, copied};
 use crate::losing::keep_violation;
 use crate::pairs::apart_violation;
 use crate::starting::start_violation;
+use crate::straying::{Aim, act_violation};
 use crate::violations::Violation;
 use crate::waiting::fire_violation;
 use civl_assumed::stores::{Among, behind_globals, store_of};
 use civl_bits::Value;
-use civl_conditions::Condition;
+use civl_conditions::{Condition, Target};
 use civl_firing::Store;
-use civl_layers::{Layered, program};
+use civl_layers::{Held, Layered, program};
 use civl_tree::{Action, Memory, Program};
 use std::alloc::Global;
 
@@ -117,15 +120,14 @@ fn of_fire(
 fn of_kept(
     alloc: Global,
     program: &Program,
-    step: u32,
+    layer: u32,
     m: u32,
     action: &Action,
     values: &[Value],
 ) -> Result<Option<Violation>, Memory>
-    ensures { IfOk result (λ told. told ≡ keep_violation program.now (store_of (exists_at (step - 1)) program.now values.now) m
-        (invoked values.now (count_of (exists_at (step - 1)) program.now) action.now)) }
+    ensures { IfOk result (λ told. told ≡ keep_violation program.now (store_of (exists_at layer) program.now values.now) m
+        (invoked values.now (count_of (exists_at layer) program.now) action.now)) }
 {
-    let layer = step.saturating_sub(1);
     let x = call_of(
         m,
         action,
@@ -134,6 +136,29 @@ fn of_kept(
     match store_of(alloc, Among::Layer(layer), program, values) {
         Ok(store) => keep_violation(alloc, program, store, &x),
         Err(error) => Err(error),
+    }
+}
+
+/// What these values violate K2 by, of the action with this number in the program of a layer, which is the lower one of the
+/// condition's step; nothing where they don't violate it. They are values for the globals of the layer, the inputs and the choices.
+///
+/// # Errors
+///
+/// For want of memory.
+pub fn linear_violation(
+    alloc: Global,
+    program: &Program,
+    layer: u32,
+    m: u32,
+    values: &[Value],
+) -> Result<Option<Violation>, Memory>
+    ensures { IfOk result (λ told. told ≡ of_action program.now m None (λ a. keep_violation program.now
+        (store_of (exists_at layer) program.now values.now) m
+        (invoked values.now (count_of (exists_at layer) program.now) a))) }
+{
+    match program.actions.as_slice().get(m as usize) {
+        Some(action) => of_kept(alloc, program, layer, m, action, values),
+        None => Ok(None),
     }
 }
 
@@ -149,10 +174,7 @@ fn of_keep(
         (store_of (exists_at (step - 1)) program.now values.now) m
         (invoked values.now (count_of (exists_at (step - 1)) program.now) a))) }
 {
-    match program.actions.as_slice().get(m as usize) {
-        Some(action) => of_kept(alloc, program, step, m, action, values),
-        None => Ok(None),
-    }
+    linear_violation(alloc, program, step.saturating_sub(1), m, values)
 }
 
 /// K1.
@@ -171,8 +193,61 @@ fn of_start(
     }
 }
 
-/// What these values violate a condition of K1 to K8 by, one for each variable of the condition in their order; nothing where
-/// they don't violate it, and for another condition.
+/// K11, of this action.
+fn of_acting(
+    alloc: Global,
+    src: &Layered,
+    held: &Held,
+    step: u32,
+    m: u32,
+    action: &Action,
+    target: Target,
+    values: &[Value],
+) -> Result<Option<Violation>, Memory>
+    requires held { held.now.cuts ≡ all_held src.now }
+    ensures { IfOk result (λ told. told ≡ act_violation src.now step (store_of (exists_near step) src.now values.now) m
+        (invoked values.now (count_of (exists_near step) src.now) action.now) target
+        values.now (count_of (exists_near step) src.now + instance_count action.now)) }
+{
+    let among = Among::Step(step);
+    let rest = behind_globals(among, program(src), values);
+    let x = call_of(m, action, rest);
+    let aim = Aim {
+        src,
+        held,
+        step,
+        target,
+        values: behind_call(action, rest),
+    };
+    match store_of(alloc, among, program(src), values) {
+        Ok(store) => act_violation(alloc, &aim, store, &x),
+        Err(error) => Err(error),
+    }
+}
+
+/// K11.
+fn of_act(
+    alloc: Global,
+    src: &Layered,
+    held: &Held,
+    step: u32,
+    m: u32,
+    target: Target,
+    values: &[Value],
+) -> Result<Option<Violation>, Memory>
+    requires held { held.now.cuts ≡ all_held src.now }
+    ensures { IfOk result (λ told. told ≡ of_action src.now m None (λ a. act_violation src.now step
+        (store_of (exists_near step) src.now values.now) m (invoked values.now (count_of (exists_near step) src.now) a) target
+        values.now (count_of (exists_near step) src.now + instance_count a))) }
+{
+    match program(src).actions.as_slice().get(m as usize) {
+        Some(action) => of_acting(alloc, src, held, step, m, action, target, values),
+        None => Ok(None),
+    }
+}
+
+/// What these values violate a condition of K1 to K8 or K11 by, one for each variable of the condition in their order; nothing
+/// where they don't violate it, and for another condition. The table says which locals the program holds at its cuts.
 ///
 /// # Errors
 ///
@@ -181,9 +256,11 @@ fn of_start(
 pub fn violation(
     alloc: Global,
     src: &Layered,
+    held: &Held,
     condition: &Condition,
     values: &[Value],
 ) -> Result<Option<Violation>, Memory>
+    requires held { held.now.cuts ≡ all_held src.now }
     ensures { IfOk result (λ told. told ≡ violation src.now condition.now values.now) }
 {
     let program = program(src);
@@ -196,6 +273,6 @@ pub fn violation(
         Condition::Keep(step, m) => of_keep(alloc, program, *step, *m, values),
         Condition::Path(_, _, _, _) => Ok(None),
         Condition::Block(_, _, _, _) => Ok(None),
-        Condition::Act(_, _, _) => Ok(None),
+        Condition::Act(step, m, target) => { of_act(alloc, src, held, *step, *m, *target, values) }
     }
 }

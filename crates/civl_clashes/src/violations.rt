@@ -118,4 +118,7 @@ pub enum Violation {
     Reveals(Pair, Effect),
     /// K8: in this store the gate is true, and the guard is false at the offered choices, which the instance has.
     Waits(Store, Instance),
+    /// K11: in this store the invariants of the step hold and the gate is true, what goes in is apart, and what the action leaves
+    /// loses the target of the condition.
+    Strays(Store, Instance, Effect),
 }

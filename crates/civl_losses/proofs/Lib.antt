@@ -2,3 +2,8 @@ pub mod Told
 pub mod Parts
 pub mod Conditions
 pub mod Reading
+pub mod Counting
+pub mod Shifting
+pub mod Owning
+pub mod Worked
+pub mod Differences

@@ -19,10 +19,10 @@ use Rattle.civl_conditions.specs.paths.Flows.{flow_from}
 use Rattle.civl_conditions.specs.paths.Meets.{numbers_met}
 use Rattle.civl_conditions.specs.paths.Seen.{exists_near}
 use Rattle.civl_conditions.specs.Variables.{layer_choices, passed_choices}
-use Rattle.civl_conditions.specs.Values.{Begun, part, flag_at, store_of, count_of, chosen_in, begun}
+use Rattle.civl_conditions.specs.Values.{Begun, part, flag_at, store_of, count_of, choices_count, chosen_in, begun, layout}
 use Rattle.civl_conditions.proofs.paths.Standing.{Stand, passed_stand}
 use Rattle.civl_traces.specs.Told.{chosen_at}
-use Rattle.civl_losses.specs.inner.Given.{listed, calls_of, entry_begun, frame_locals, behind_frame, yield_begun, rank_begun}
+use Rattle.civl_losses.specs.inner.Given.{listed, calls_of, entry_begun, frame_locals, behind_frame, yield_begun, rank_begun, behind_entry, behind_yield, behind_rank}
 
 -- ---- values behind others
 
@@ -211,6 +211,53 @@ module _ (program : Program) (step : ℕ) (proc : Proc) (number : ℕ) (values :
         chosen = chosen i;
       }
 
+  -- the values behind
+
+  past_entry : behind_entry program step proc (cut Entry) values ≡ drop (layout program step proc (cut Entry)).behind values
+  past_entry =
+      let ws = drop near values in
+      let params = near + 0 in
+      let calls_at = params + length proc.params + 0 + 0 + 0 + 0 in
+      let here : Behind values params ws = same values near params ws (omega arith) refl in
+      let count = choices_count (calls Entry) in
+      more values calls_at count (calls_at + count) (drop (length proc.params) ws) refl (more values params (length proc.params) calls_at ws (omega arith) here)
+
+  past_yield_at : (kind : CutKind) → behind_yield program step proc (cut kind) values
+      ≡ drop (near + 0 + length proc.params + locals_count + 0 + 1 + 0 + choices_count (calls kind)) values
+  past_yield_at kind =
+      let ws = drop near values in
+      let params = near + 0 in
+      let rest = params + length proc.params in
+      let done = rest + locals_count + 0 in
+      let behind = behind_frame proc ws in
+      let here : Behind values params ws = same values near params ws (omega arith) refl in
+      let there : Behind values done behind = behind_is params rest ws refl here done (omega arith) in
+      let count = choices_count (calls kind) in
+      more values (done + 1 + 0) count (done + 1 + 0 + count) (drop 1 behind) refl (more values done 1 (done + 1 + 0) behind (omega arith) there)
+
+  past_yield : behind_yield program step proc (cut Yield) values ≡ drop (layout program step proc (cut Yield)).behind values
+  past_yield = past_yield_at Yield
+
+  past_yield_loop : behind_yield program step proc (cut YieldLoop) values ≡ drop (layout program step proc (cut YieldLoop)).behind values
+  past_yield_loop = past_yield_at YieldLoop
+
+  past_rank : behind_rank program step proc (cut RankLoop) values ≡ drop (layout program step proc (cut RankLoop)).behind values
+  past_rank =
+      let ws = drop near (drop near values) in
+      let params = near + near in
+      let rest = params + length proc.params in
+      let old_outs = rest + locals_count in
+      let done = old_outs + length proc.outs in
+      let behind = behind_frame proc ws in
+      let flags = drop (length proc.outs) behind in
+      let later = drop 1 flags in
+      let here : Behind values params ws = more values near near params (drop near values) refl refl in
+      let there : Behind values old_outs behind = behind_is params rest ws refl here old_outs refl in
+      let flags_at : Behind values done flags = more values old_outs (length proc.outs) done behind refl there in
+      let later_at : Behind values (done + 1) later = more values done 1 (done + 1) flags refl flags_at in
+      let count = choices_count (calls RankLoop) in
+      more values (done + 1 + 1) count (done + 1 + 1 + count) (drop 1 later) refl (more values (done + 1) 1 (done + 1 + 1) later refl later_at)
+
 -- by the kind of the cut
 module _ (program : Program) (step : ℕ) (proc : Proc) (cut : Cut) (values : List Value) where
   by_kind : (b : Program → ℕ → Proc → Cut → List Value → Begun) (kind : CutKind) → cut.kind ≡ kind
@@ -230,3 +277,21 @@ module _ (program : Program) (step : ℕ) (proc : Proc) (cut : Cut) (values : Li
 
   pub rank_begins : cut.kind ≡ RankLoop → rank_begun program step proc cut values ≡ begun program step proc cut values
   rank_begins e = by_kind rank_begun RankLoop e (rank_at program step proc cut.statement values)
+
+  past_by : (r : Program → ℕ → Proc → Cut → List Value → List Value) (kind : CutKind) → cut.kind ≡ kind
+      → r program step proc (record { statement = cut.statement; kind = kind }) values ≡ drop (layout program step proc (record { statement = cut.statement; kind = kind })).behind values
+      → r program step proc cut values ≡ drop (layout program step proc cut).behind values
+  past_by r kind e h =
+      subst (λ (k : CutKind). r program step proc (record { statement = cut.statement; kind = k }) values ≡ drop (layout program step proc (record { statement = cut.statement; kind = k })).behind values) (sym e) h
+
+  pub entry_behind : cut.kind ≡ Entry → behind_entry program step proc cut values ≡ drop (layout program step proc cut).behind values
+  entry_behind e = past_by behind_entry Entry e (past_entry program step proc cut.statement values)
+
+  pub yield_behind : cut.kind ≡ Yield → behind_yield program step proc cut values ≡ drop (layout program step proc cut).behind values
+  yield_behind e = past_by behind_yield Yield e (past_yield program step proc cut.statement values)
+
+  pub yield_loop_behind : cut.kind ≡ YieldLoop → behind_yield program step proc cut values ≡ drop (layout program step proc cut).behind values
+  yield_loop_behind e = past_by behind_yield YieldLoop e (past_yield_loop program step proc cut.statement values)
+
+  pub rank_is_behind : cut.kind ≡ RankLoop → behind_rank program step proc cut values ≡ drop (layout program step proc cut).behind values
+  rank_is_behind e = past_by behind_rank RankLoop e (past_rank program step proc cut.statement values)

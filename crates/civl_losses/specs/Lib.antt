@@ -3,3 +3,4 @@ pub mod Losses
 pub mod Stories
 pub mod Laws
 pub mod inner
+pub mod examples

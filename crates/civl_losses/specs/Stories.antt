@@ -1,10 +1,12 @@
 -- The path of a condition K9 or K10, told from the condition's values (a counterexample as an execution from its initial values: Clarke,
 -- Grumberg, McMillan, Zhao, DAC 1995).
-use Rattle.std.specs.Prelude.{ℕ, List, Option, None, Some}
+use Rattle.std.specs.Prelude.{ℕ, ◌≤◌, List, Option, None, Some, ⊤}
 use Rattle.civl_bits.specs.declared.value.Value.{Value}
 use Rattle.civl_tree.specs.declared.program.Proc.{Proc}
 use Rattle.civl_tree.specs.declared.program.Program.{Program}
 use Rattle.civl_layers.specs.declared.cut.Cut.{Cut}
+use Rattle.civl_conditions.specs.declared.condition.Condition.{Condition}
+use Rattle.civl_conditions.specs.declared.condition.Condition.TheVariants.{Path, Block}
 use Rattle.civl_conditions.specs.Steps.{of_cut}
 use Rattle.civl_conditions.specs.Values.{Begun, begun}
 use Rattle.civl_traces.specs.declared.walked.Walked.{Walked}
@@ -30,3 +32,9 @@ story_from program step values proc cut =
 -- the same by the numbers of the procedure and the cut; none where there is no such cut
 abbrev pub story_of : Program → ℕ → ℕ → ℕ → List Value → Option PathStory
 story_of program step q c values = of_cut program q c None (λ proc cut. Some (story_from program step values proc cut))
+
+-- the step of a condition on a path is one of the program
+abbrev pub IsAtStep : Program → Condition → Type 0
+IsAtStep program (Path part step q c) = step ≤ program.layers
+IsAtStep program (Block step q c target) = step ≤ program.layers
+IsAtStep program _ = ⊤

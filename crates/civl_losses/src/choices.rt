@@ -46,7 +46,7 @@ fn choice_count(program: &Program, layer: u32, stmt: &Stmt) -> usize
 }
 
 /// How many choices the statement with this number has.
-fn count_at(program: &Program, layer: u32, flat: &[&Stmt], number: usize) -> usize
+pub(crate) fn count_at(program: &Program, layer: u32, flat: &[&Stmt], number: usize) -> usize
     ensures { result ≡ length (choices_of_number program.now layer (map (λ s. s.now) flat.now) number) }
 {
     match flat.get(number) {

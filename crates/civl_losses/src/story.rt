@@ -69,7 +69,7 @@ fn walked_from(
 }
 
 /// The path from a cut, told from these values.
-fn story_from(
+pub(crate) fn story_from(
     alloc: Global,
     src: &Layered,
     step: u32,

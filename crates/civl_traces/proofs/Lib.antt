@@ -1,10 +1,10 @@
 mod Calls
-mod Telling
+pub mod Telling
 mod Going
 mod Changes
 mod Within
 mod Turning
 mod Sound
-mod Known
+pub mod Known
 mod Walks
 mod Leading

@@ -12,7 +12,7 @@ use Rattle.civl_meaning.specs.Layers.{program_at}
 use Rattle.civl_layers.specs.declared.cut.Cut.{Cut}
 use Rattle.civl_conditions.specs.paths.Seen.{exists_near}
 use Rattle.civl_conditions.specs.Variables.{layer_choices, passed_choices}
-use Rattle.civl_conditions.specs.Values.{Begun, store_of, count_of, chosen_in, flag_at}
+use Rattle.civl_conditions.specs.Values.{Begun, store_of, count_of, choices_count, chosen_in, flag_at}
 use Rattle.civl_traces.specs.declared.walked.Chosen.{Chosen}
 
 -- the choices of these calls, whose values stand one behind the other
@@ -88,3 +88,21 @@ rank_begun program step proc cut values =
       old_done = flag_at (drop 1 (rank_behind proc vs)) 0;
       chosen = choices_from program step proc cut (drop 1 (drop 1 (rank_behind proc vs)));
     }
+
+-- ---- the values behind a path's beginning
+
+abbrev pub behind_calls : Program → ℕ → Proc → Cut → List Value → List Value
+behind_calls program step proc cut vs = drop (choices_count (passed_choices program step proc cut)) vs
+
+abbrev pub behind_entry : Program → ℕ → Proc → Cut → List Value → List Value
+behind_entry program step proc cut values =
+    behind_calls program step proc cut (drop (length proc.params) (behind_near program step values))
+
+abbrev pub behind_yield : Program → ℕ → Proc → Cut → List Value → List Value
+behind_yield program step proc cut values =
+    behind_calls program step proc cut (drop 1 (behind_frame proc (behind_near program step values)))
+
+abbrev pub behind_rank : Program → ℕ → Proc → Cut → List Value → List Value
+behind_rank program step proc cut values =
+    behind_calls program step proc cut
+    (drop 1 (drop 1 (rank_behind proc (behind_near program step (behind_near program step values)))))

@@ -1,0 +1,4 @@
+pub mod Past
+pub mod Items
+pub mod Placing
+pub mod Frames

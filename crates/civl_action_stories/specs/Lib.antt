@@ -1,0 +1,9 @@
+pub mod Actors
+pub mod Starts
+pub mod Losses
+pub mod Clashes
+pub mod Gates
+pub mod Strays
+pub mod Told
+pub mod inner
+pub mod examples

@@ -1,0 +1,4 @@
+pub mod GoalLosses
+pub mod Laws
+pub mod examples
+pub mod inner

@@ -1,0 +1,3 @@
+pub mod Rendered
+pub mod Pieces
+pub mod Tokens

@@ -1,0 +1,22 @@
+//! The story of a condition K9 or K10 that fails at its values, as lines: where its path begins, each statement that the path passes,
+//! and what is lost.
+//!
+//! The definition stands in specs/ (`Paths`), over the paths and the losses of [`civl_losses`] and the lines of [`civl_lines`].
+#![tactic(auto)]
+
+mod begin;
+mod blocks;
+mod changes;
+mod ends;
+mod formulas;
+mod gates;
+pub mod laws;
+mod naming;
+mod notes;
+mod passed;
+mod route;
+mod story;
+mod targets;
+mod tokens;
+
+pub use story::push_path_story;
