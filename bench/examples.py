@@ -2,8 +2,8 @@
 """Runs what the documents show on the built programs: each block with commands, the tables of examples/README.md, each step and mistake of
 docs/TUTORIAL.md, and each change of docs/CONDITIONS.md that violates a condition.
 
-Usage: examples.py BINARY [LIFT]     (crates/civl/out/civl after `rt run` in crates/civl, and crates/civl_lift/out/civl_lift; without the
-second, its rows and commands are left out)
+Usage: examples.py BINARY [LIFT [EXPLAIN]]     (crates/civl/out/civl after `rt run` in crates/civl, crates/civl_lift/out/civl_lift, and
+crates/civl_explain/out/civl_explain; without the second and the third, their rows and commands are left out)
 
 A block of a document is run where it has lines `$ COMMAND`: each of them at the top of the repository, with the programs on the PATH, and what
 it writes has to be the lines below it, where `..` stands for any. Commands of the kit (`rt ..`) are left out.
@@ -211,20 +211,26 @@ def is_written(lines, wanted):
     return bool(lines) and lines[0] == wanted[0] and is_written(lines[1:], wanted[1:])
 
 
-def other_commands(binary, lift):
+def is_tried(command, programs):
+    """Whether a command is one of these programs and not of the kit."""
+    named = set(re.findall(r"\bcivl(?:_lift|_explain)?\b", re.sub(r"\S+/\S+", "", command)))
+    return not command.startswith("rt ") and all(programs[name] for name in named)
+
+
+def other_commands(programs):
     """For each command in a block of a document, what is told where it writes something else, and else None."""
     with tempfile.TemporaryDirectory() as room:
         for name in os.listdir(TOP):
             os.symlink(f"{TOP}/{name}", f"{room}/{name}")
         os.mkdir(f"{room}/bin")
-        for name, program in (("civl", binary), ("civl_lift", lift)):
+        for name, program in programs.items():
             if program:
                 os.symlink(os.path.abspath(program), f"{room}/bin/{name}")
         how = {"cwd": room, "env": {**os.environ, "PATH": f"{room}/bin:{os.environ['PATH']}"}, "capture_output": True, "text": True}
         for path in documents():
             for block in commands(document(path)):
                 for command, wanted in block:
-                    if command.startswith("rt ") or "civl_lift" in command and not lift:
+                    if not is_tried(command, programs):
                         continue
                     lines = subprocess.run(["bash", "-c", command], **how).stdout.splitlines()
                     is_right = is_written(lines, wanted.splitlines())
@@ -272,14 +278,15 @@ def other_conditions(binary):
         yield None if f"{name}: fails" in lines else f"docs/CONDITIONS.md: {name}: {lines}"
 
 
-def other_reports(binary, lift):
+def other_reports(programs):
     """For each text, what is told of its report where it is another, and else None."""
+    binary = programs["civl"]
     yield from other_parts()
-    yield from other_commands(binary, lift)
+    yield from other_commands(programs)
     yield from other_steps(binary)
     yield from other_conditions(binary)
     for name, words, wanted in tables():
-        program = lift if words == ["lift"] else binary
+        program = programs["civl_lift"] if words == ["lift"] else binary
         if not program:
             continue
         found = run(program, words, example(name))[:len(wanted)]
@@ -293,9 +300,9 @@ def other_reports(binary, lift):
 
 
 def main():
-    if len(sys.argv) not in (2, 3):
+    if len(sys.argv) not in (2, 3, 4):
         sys.exit(__doc__)
-    told = list(other_reports(sys.argv[1], (*sys.argv[2:], None)[0]))
+    told = list(other_reports(dict(zip(("civl", "civl_lift", "civl_explain"), (*sys.argv[1:], None, None)))))
     wrong = [line for line in told if line]
     print(*wrong, f"{len(told)} texts tried, {len(wrong)} with another report", sep="\n")
     sys.exit(bool(wrong))

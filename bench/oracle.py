@@ -1,5 +1,6 @@
 #!/usr/bin/env python3
-"""Works out, without the program and its proofs, at which values the formulas of conditions and goals are true, and what they weigh.
+"""Works out, without the program and its proofs, at which values the formulas of conditions and goals are true, what they weigh, and what
+stories have to tell.
 
 Usage: oracle.py TEXT ROW ..        (a file with a program, and beginnings of the names of formulas, as "K9 gate" or "initial")
        oracle.py --weights TEXT
@@ -7,6 +8,7 @@ Usage: oracle.py TEXT ROW ..        (a file with a program, and beginnings of th
        oracle.py --report TEXT      (a program or an outline, and on standard input a report on it)
        oracle.py --tests
        oracle.py --reports
+       oracle.py --stories
 
 What a program does, what its conditions and an outline's goals ask, and what their formulas weigh is taken from docs/CONDITIONS.md and
 docs/LANGUAGE.md: actions are fired in stores, and bodies are walked statement by statement, at one list of values after the other. The
@@ -29,6 +31,16 @@ of crates/civl_tests. It prints what differs, and then how much was tried, how m
 The exit code is 1 where something differs, where a report tells nothing of conditions, or no report of the files any values, and where a
 row can't be read.
 
+With --stories the texts, the words and the reports are the rows of the program civl_explain in these files. Of each report it works out
+what stands beside that of `civl`: where a text can't be read, by the grammar as docs/LANGUAGE.md prints it, with all tokens that may stand
+there; the place of a static rule that is broken; the moves of a run, and the whole report of it; of a condition that is violated which of
+its values may be others, the statements that a path passes, or what the actions do in both orders, what is lost, and the innermost false
+parts of the formula; and of a goal what is assumed, what the statement does, and what is false then. It compares this with the row, byte
+for byte, and prints the first line in which they differ. Then it prints how many stories are confirmed whole and how many in part, what of
+these isn't worked out, how many differ, and how many rows want no report, or a line of one. The values that violate a condition or a goal
+are those of the row: they are tried, not found. Which static rule is broken first isn't worked out. The exit code is 1 where a story
+differs, where none is confirmed whole, and where a row can't be read.
+
 The text has to be a program or an outline that keeps the static rules, E90 and E91, for these aren't tried.
 """
 import sys
@@ -37,6 +49,7 @@ from oracle.cases import Unreadable
 from oracle.reading import read_outline, read_program
 from oracle.reports import try_report, try_reports
 from oracle.rows import goal_lines, row, try_tests, weight_lines
+from oracle.stories import try_stories
 
 
 def text_of(path):
@@ -53,6 +66,7 @@ def put(lines):
 WITHOUT_TEXT = {
     "--tests": try_tests,
     "--reports": try_reports,
+    "--stories": try_stories,
 }
 
 ON_TEXT = {

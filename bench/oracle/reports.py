@@ -105,7 +105,7 @@ def other_names(lines, names):
     if count and int(count["count"]) != len(names):
         return f"there are {len(names)}"
     surveyed = [match["name"] for match in map(SURVEYED.fullmatch, lines) if match]
-    return f"the list is {names}" if SUM.fullmatch(lines[-1]) and surveyed != names else None
+    return f"the list is {names}" if any(map(SUM.fullmatch, lines)) and surveyed != names else None
 
 
 @dataclass

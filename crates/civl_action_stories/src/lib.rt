@@ -12,7 +12,7 @@ mod lines;
 mod losses;
 mod starts;
 mod strays;
-mod texts;
+pub mod texts;
 mod told;
 
-pub use told::push_violation;
+pub use told::{push_loss_story, push_violation};

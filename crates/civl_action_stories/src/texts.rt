@@ -37,8 +37,12 @@ fn put_others(out: &mut Vec<u8>, texts: &[List<u8>]) -> Result<(), Memory>
 }
 
 /// Puts texts behind what is there, with `, ` between them.
+///
+/// # Errors
+///
+/// For want of memory.
 #[tactic(auto, using(crate::proofs::Past::listed_is))]
-pub(crate) fn put_listed(out: &mut Vec<u8>, texts: &[List<u8>]) -> Result<(), Memory>
+pub fn put_listed(out: &mut Vec<u8>, texts: &[List<u8>]) -> Result<(), Memory>
     ensures { OnOk result (out.new.items ≡ out.old.items ++ listed texts.now) }
 {
     if texts.is_empty() {
@@ -108,8 +112,12 @@ fn given(alloc: Alloc, x: &Acting<'_>) -> Result<Vec<List<u8>>, Memory>
     Ok(texts)
 }
 
-/// ` with `, and the texts joined by `, `.
-fn put_with(out: &mut Vec<u8>, texts: &[List<u8>]) -> Result<(), Memory>
+/// Puts ` with ` and the texts joined by `, ` behind what is there, or nothing where there are none.
+///
+/// # Errors
+///
+/// For want of memory.
+pub fn put_with(out: &mut Vec<u8>, texts: &[List<u8>]) -> Result<(), Memory>
     ensures { OnOk result (out.new.items ≡ out.old.items ++ with_text texts.now) }
 {
     if texts.is_empty() {

@@ -23,8 +23,13 @@ use civl_lines::Line;
 use civl_tree::{Memory, Program};
 use std::alloc::Global;
 
-/// K2.
-fn of_loss(
+/// The story of K2, behind the lines that are there: what an action does in this store, and the permission that comes out twice or
+/// from nowhere. Nothing is told of an action that the program doesn't have.
+///
+/// # Errors
+///
+/// For want of memory.
+pub fn push_loss_story(
     alloc: Global,
     lines: &mut Vec<Line>,
     program: &Program,
@@ -170,7 +175,7 @@ pub fn push_violation(
     match violation {
         Violation::Starts(store) => push_start(alloc, lines, program, condition, store),
         Violation::Loses(store, instance, effect, loss) => {
-            of_loss(alloc, lines, program, store, instance, effect, loss)
+            push_loss_story(alloc, lines, program, store, instance, effect, loss)
         }
         Violation::Clashes(pair, clash) => of_clash(alloc, lines, program, pair, clash),
         Violation::Spoils(pair, effect) => of_spoil(alloc, lines, program, pair, effect),

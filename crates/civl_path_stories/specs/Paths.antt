@@ -1,7 +1,7 @@
 -- The story of a condition K9 or K10 that fails at its values, line by line: where its path begins, each statement that the path passes,
 -- with what this changes, and what is lost, with the parts of the formula that is false there. (A counterexample as an execution from its
 -- initial values: Clarke, Grumberg, McMillan, Zhao, DAC 1995. Told in the lines of the source: Ball, Naik, Rajamani, POPL 2003.)
-use Rattle.std.specs.Prelude.{ℕ, ◌+◌, ◌-◌, ◌≤◌, nat_eq, if◌then◌else◌, List, [], ◌∷◌, ◌++◌, map, codes, ⊤}
+use Rattle.std.specs.Prelude.{ℕ, ◌+◌, ◌-◌, nat_eq, if◌then◌else◌, List, [], ◌∷◌, ◌++◌, map, codes}
 use Rattle.std.specs.Prelude.{Option, None, Some, slice_get, slice_index_or}
 use Rattle.std.specs.Option.{option_map_or, unwrap_or}
 use Rattle.std.specs.List.{flat_map}
@@ -286,9 +286,3 @@ path_story program (condition.Path part step q c) values lost = of_cut program q
 path_story program (condition.Block step q c target) values lost =
     of_cut program q c [] (story_lines program step q (Some target) values lost)
 path_story program _ values lost = []
-
--- the step of a condition on a path is one of the program
-abbrev pub IsAtStep : Program → Condition → Type 0
-IsAtStep program (condition.Path part step q c) = step ≤ program.layers
-IsAtStep program (condition.Block step q c target) = step ≤ program.layers
-IsAtStep program _ = ⊤

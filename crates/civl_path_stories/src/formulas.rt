@@ -16,8 +16,12 @@ use civl_tree::{Action, Global, Memory, Program};
 use std::alloc::Global as Alloc;
 
 /// Puts the false parts of an expression of the program behind the others.
+///
+/// # Errors
+///
+/// For want of memory.
 #[tactic(auto, using(crate::proofs::Standing::stands_within), unfolding(crate::specs::Paths::parts))]
-pub(crate) fn push_formula<B: Bindings>(
+pub fn push_formula<B: Bindings>(
     alloc: Alloc,
     lines: &mut Vec<Line>,
     program: &Program,
@@ -107,7 +111,11 @@ fn push_gate_of(
 }
 
 /// The same of the action with this number.
-pub(crate) fn push_gate(
+///
+/// # Errors
+///
+/// For want of memory.
+pub fn push_gate(
     alloc: Alloc,
     lines: &mut Vec<Line>,
     program: &Program,

@@ -59,7 +59,11 @@ fn put_call(
 }
 
 /// What is said of a call whose gate is false.
-fn gate_text(
+///
+/// # Errors
+///
+/// For want of memory.
+pub fn gate_text(
     alloc: Global,
     program: &Program,
     number: usize,

@@ -59,7 +59,7 @@ fn local(locals: &[Local], place: usize) -> &[u8]
 
 /// The bytes of the name at a place; none where no name is.
 #[tactic(auto, using(civl_firing::proofs::Joining::indexing, std::proofs::lemmas::Grind::common_steps))]
-pub(crate) fn name_at<'a>(names: &Names<'a>, place: usize) -> &'a [u8]
+pub fn name_at<'a>(names: &Names<'a>, place: usize) -> &'a [u8]
     ensures { result.now ≡ (name_at (names_of names.now) place).bytes }
 {
     if place < names.globals.len() {
@@ -113,7 +113,7 @@ fn behind_outs<'a>(names: &Names<'a>, place: usize) -> &'a [u8]
 
 /// The names of the globals, and behind them those of the parameters, outputs and locals of a procedure.
 #[tactic(auto, using(civl_firing::proofs::Joining::appending))]
-pub(crate) fn noted<'a>(globals: &'a [Global], proc: &'a Proc) -> Names<'a>
+pub fn noted<'a>(globals: &'a [Global], proc: &'a Proc) -> Names<'a>
     ensures { names_of result ≡ note_names globals.now proc.now }
 {
     Names {

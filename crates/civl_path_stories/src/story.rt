@@ -7,7 +7,8 @@ ghost use Rattle.civl_layers.specs.Cuts.{proc_cuts};
 ghost use Rattle.civl_conditions.specs.Steps.{of_cut};
 ghost use Rattle.civl_conditions.specs.Variables.{variables};
 ghost use Rattle.civl_losses.specs.Stories.{story, story_of};
-ghost use Rattle.civl_path_stories.specs.Paths.{IsAtStep, loss_lines, path_story, story_lines, target_lines, told_lines};
+ghost use Rattle.civl_losses.specs.Stories.{IsAtStep};
+ghost use Rattle.civl_path_stories.specs.Paths.{loss_lines, path_story, story_lines, target_lines, told_lines};
 ghost use Rattle.civl_path_stories.specs.inner.Routes.{told, Fits};
 
 use crate::begin::push_begin;

@@ -111,6 +111,15 @@ fn walk_items(program: &Program, item: usize) -> Walk
     then_each(procs, &program.threads, threads_start(program))
 }
 
+/// How many tokens the spelling of a program has. No spelling is made, and nothing is allocated.
+#[tactic(auto, using(crate::proofs::Counts::counts))]
+pub fn program_count(program: &Program) -> usize
+    requires { length (spell_program program.now) < 2 ^ 64 }
+    ensures { result ≡ length (spell_program program.now) }
+{
+    threads_start(program) + count_each(program.threads.as_slice())
+}
+
 /// The token, counted from 0, at which the item with this number begins, in the spelling of the program; `None` exactly
 /// where there is no such item.
 pub fn item_token(program: &Program, item: usize) -> Option<usize>

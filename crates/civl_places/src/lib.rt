@@ -19,7 +19,7 @@ mod walk;
 mod within;
 
 pub use formula::{Formula, InAction, InStatement, formula_at, formula_token};
-pub use item::item_token;
+pub use item::{item_token, program_count};
 pub use line::line_at;
 pub use placed::{formula_position, item_position, statement_position, token_position};
 pub use position::{Position, position_at};

@@ -10,6 +10,7 @@ use Rattle.civl_tree.specs.Numbering.{item_count}
 use Rattle.civl_lex.specs.declared.token.Token.{Token as Placed}
 use Rattle.civl_places.specs.Lines.{line_at, column_of}
 use Rattle.civl_places.specs.Starts.{item_start, statement_start}
+use Rattle.civl_subjects.specs.Told.{subject, told_text}
 use Rattle.civl_expected.specs.declared.candidate.Candidate.{Candidate}
 use Rattle.civl_expected.specs.declared.candidate.Candidate.TheVariants.{Sign, Word, Name, Number}
 use Rattle.civl_expected.specs.declared.expected.Expected.{Expected}
@@ -104,6 +105,10 @@ rule_text code =
     else if nat_lt code 50 then linear_rule code
     else yields_rule code
 
+-- and behind it what the refusal is about, where that is told
+abbrev pub rule_told : Program → Refusal → List ℕ
+rule_told program refusal = rule_text refusal.code ++ told_text (subject program refusal)
+
 -- a number behind so many others, if it is
 abbrev pub behind : ℕ → ℕ → Option ℕ
 behind count number = if nat_lt number count then None else Some (number - count)
@@ -127,14 +132,15 @@ item_at program item = if nat_lt item (item_count program) then item_start progr
 abbrev pub item_line : Program → Refusal → Line
 item_line program refusal = record { token = item_at program refusal.item; shown = Tokens 2; kind = Info; text = [] }
 
--- the item, where it is a procedure, and the place in it, with what the rule forbids; or the item alone with that
+-- the item, where it is a procedure, and the place in it, with what the rule forbids and what that is about; or the item alone
+-- with these
 abbrev pub refusal_told : Form → List ℕ → List Placed → Program → Refusal → List ℕ
 refusal_told form bytes tokens program refusal =
     option_map_or (λ at.
     lines_text form bytes tokens (item_line program refusal ∷ [])
-    ++ fault_told form bytes (offset_of bytes tokens at) (rule_text refusal.code))
+    ++ fault_told form bytes (offset_of bytes tokens at) (rule_told program refusal))
     (refused_statement program refusal)
-    (fault_told form bytes (offset_of bytes tokens (item_at program refusal.item)) (rule_text refusal.code))
+    (fault_told form bytes (offset_of bytes tokens (item_at program refusal.item)) (rule_told program refusal))
 
 -- no store is initial, which the item of `init` says
 abbrev pub no_initial_told : Form → List ℕ → List Placed → Program → List ℕ

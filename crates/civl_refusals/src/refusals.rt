@@ -1,14 +1,16 @@
 // Where a program breaks a static rule.
-ghost use Rattle.std.specs.Prelude.{◌≡◌, ◌<◌, ◌^◌, ◌++◌, [], ◌∷◌, OnOk, length};
+ghost use Rattle.std.specs.Prelude.{◌≡◌, ◌<◌, ◌^◌, ◌++◌, [], ◌∷◌, IfOk, OnOk, length};
 ghost use Rattle.civl_tree.specs.SpellingProgram.{spell_program};
 ghost use Rattle.civl_lines.specs.Tokens.{AreTokens};
 ghost use Rattle.civl_lines.specs.Rendered.{lines_text, offset_of};
-ghost use Rattle.civl_refusals.specs.Refusals.{fault_told, behind, item_at, item_line, proc_of_item, layers_rule, linear_rule, names_rule, no_initial_told, refusal_told, refused_statement, rule_text, sorts_rule, yields_rule};
+ghost use Rattle.civl_refusals.specs.Refusals.{fault_told, behind, item_at, item_line, proc_of_item, layers_rule, linear_rule, names_rule, no_initial_told, refusal_told, refused_statement, rule_text, rule_told, sorts_rule, yields_rule};
 
 use crate::faults::put_fault;
 use civl_lines::{Form, Kind, Line, Shown, Text, offset_of, put_lines};
 use civl_places::{item_token, statement_token};
+use civl_subjects::push_subject;
 use civl_tree::{List, Memory, Program, Refusal};
+use civl_verdicts::reports::put;
 use std::alloc::Global;
 
 /// What the rules on names and counts forbid.
@@ -208,7 +210,36 @@ pub fn put_at(
     put_fault(out, form, text.bytes, offset_of(text, token), said)
 }
 
-/// Puts the item and the statement that a refusal names, and what the rule forbids, behind what is there.
+/// What the rule forbids, and what the refusal is about.
+fn rule_told(alloc: Global, program: &Program, refusal: Refusal) -> Result<Vec<u8>, Memory>
+    ensures { IfOk result (λ said. said.items ≡ rule_told program.now refusal) }
+{
+    let mut said = Vec::new(alloc);
+    put(&mut said, rule_text(refusal.code))?;
+    push_subject(alloc, &mut said, program, refusal)?;
+    Ok(said)
+}
+
+/// What the rule forbids and what the refusal is about, at a token's place.
+fn put_rule(
+    alloc: Global,
+    out: &mut Vec<u8>,
+    form: Form,
+    text: &Text<'_>,
+    program: &Program,
+    refusal: Refusal,
+    token: usize,
+) -> Result<(), Memory>
+    requires { AreTokens text.now.bytes.now text.now.tokens.now }
+    ensures { OnOk result (out.new.items ≡ out.old.items
+        ++ fault_told form text.now.bytes.now (offset_of text.now.bytes.now text.now.tokens.now token) (rule_told program.now refusal)) }
+{
+    let said = rule_told(alloc, program, refusal)?;
+    put_at(out, form, text, token, &said)
+}
+
+/// Puts the item and the statement that a refusal names, what the rule forbids, and what the refusal is about, behind what
+/// is there.
 ///
 /// # Errors
 ///
@@ -229,11 +260,11 @@ pub fn put_refusal(
     match refused_statement(program, refusal) {
         Some(token) => {
             put_item(alloc, out, form, text, program, refusal)?;
-            put_at(out, form, text, token, rule_text(refusal.code))
+            put_rule(alloc, out, form, text, program, refusal, token)
         }
         None => {
             let token = item_at(program, refusal.item as usize);
-            put_at(out, form, text, token, rule_text(refusal.code))
+            put_rule(alloc, out, form, text, program, refusal, token)
         }
     }
 }

@@ -3,6 +3,7 @@
 use crate::case::{Case, number_at, text_at};
 use crate::provers::stranger_named;
 use civl_command::command;
+use civl_explain_command::explain_command;
 use civl_lift_command::lift_command;
 use civl_outside::{MemorySink, MemorySource, PlainSink, Sink};
 use civl_portfolio::Prover;
@@ -100,8 +101,11 @@ fn ended<K: Sink>(
     for name in text_at(case, "provers").split_ascii_whitespace() {
         provers.push(stranger_named(alloc, name, &token)?)?;
     }
-    let status = if text_at(case, "program") == "civl_lift" {
+    let program = text_at(case, "program");
+    let status = if program == "civl_lift" {
         lift_command(alloc, words, source, sink)
+    } else if program == "civl_explain" {
+        explain_command(alloc, words, source, sink, &mut provers)
     } else {
         command(alloc, words, source, sink, &mut provers)
     };

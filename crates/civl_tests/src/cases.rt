@@ -1,15 +1,16 @@
 // Files of cases: a head, and behind each blank line a row (`Case`). A line is written on each file: how many rows it has, which all
 // hold, or the first that doesn't and what was given there, or the first that can't be read, which ends the run.
 //
-// What a case says, by names in the head or parts of the row: `program`, where it is `civl_lift`, and `words`; the text, of which `base` is
-// a file that comes first, `edits` are made in it, and `text` stands behind it, or `lines` with their ends (`texts`); the number of a `read`
-// or `write` that fails, and the sink's `room`, where `sink` says `plain` of a sink that has nothing else; the `provers`. What is wanted
-// is a `report`, byte for byte, or one that `begins` so, `has` this in it, or has this `line`; a `status` other than the report's own; how
-// many first `bytes` of the report were written, and how many provers are `left` (`wanted`). Where the head says `signs: yes`, signs in the
-// text stand for line feeds, tabs, carriage returns and blanks (`texts`). Where there is `next`, each of the 256 bytes is put behind the
-// text, and the first fault is that byte but where it is one of these, or they are `any`. Where there are `from` and `to`, the words are asked
-// on each front of the text of so many bytes. Where there is `then`, these words are asked on the report of the first ones, or, beside a
-// `store` and `threads`, on the moves that this report lifted (`lifted`).
+// What a case says, by names in the head or parts of the row: `program`, where it is `civl_lift` or `civl_explain`, and `words`; the
+// text, of which `base` is a file that comes first, `edits` are made in it, and `text` stands behind it, or `lines` with their ends
+// (`texts`); the number of a `read` or `write` that fails, and the sink's `room`, where `sink` says `plain` of a sink that has nothing
+// else; the `provers`. What is wanted is a `report`, byte for byte, or one that `begins` so, `has` this in it, or has this `line`; a
+// `status` other than the report's own; how many first `bytes` of the report were written, and how many provers are `left` (`wanted`).
+// Where the head says `signs: yes`, signs in the text stand for line feeds, tabs, carriage returns and blanks (`texts`); where it says
+// `indented: yes`, two blanks stand before the report, as before each line of a story. Where there is `next`, each of the 256 bytes is
+// put behind the text, and the first fault is that byte but where it is one of these, or they are `any`. Where there are `from` and
+// `to`, the words are asked on each front of the text of so many bytes. Where there is `then`, these words are asked on the report of
+// the first ones, or, beside a `store` and `threads`, on the moves that this report lifted (`lifted`).
 
 use crate::asking::{Given, NOTHING, asked, report_of};
 use crate::case::{Case, number_at, text_at, value};

@@ -4,8 +4,8 @@ use crate::case::{Case, names_of_parts, text_at, value};
 
 /// The names to which a case gives values.
 const NAMES: &str =
-    "program words base edits text lines signs read write room sink provers report begins has line status bytes left next \
-                     from to then store threads row";
+    "program words base edits text lines signs indented read write room sink provers report begins has line status bytes left \
+                     next from to then store threads row";
 
 /// Those of them whose values are numbers.
 const NUMBERS: &str = "read write room status bytes left from to";

@@ -4,10 +4,11 @@
 //! script that begins with the twin's text. Of each design there are lines on what `civl` answers on it, on its twin, and on the schedule:
 //! a name and the first line of the answer, or, of a schedule, the first two.
 //!
-//! Behind them is a line on each file of cases, data/cases/NAME.cases: texts with the reports that `civl` and `civl_lift` give on them,
-//! devices and provers that fail, schedules that are lifted and replayed. How such a file is read, `cases` says; a row that can't be read
-//! fails the run, with the file's name and the row's line. Lines on some files of such rows follow (data/cases/unread), behind which the run
-//! goes on. At last there are lines on calls of the crates that no command makes: exchanges of moves, and frames of threads.
+//! Behind them is a line on each file of cases, data/cases/NAME.cases: texts with the reports that `civl`, `civl_explain` and `civl_lift`
+//! give on them, devices and provers that fail, schedules that are lifted and replayed. How such a file is read, `cases` says; a row that
+//! can't be read fails the run, with the file's name and the row's line. Lines on some files of such rows follow (data/cases/unread),
+//! behind which the run goes on. At last there are lines on calls of the crates that no command makes: exchanges of moves, and frames of
+//! threads.
 #![tactic(auto)]
 
 mod asking;
@@ -153,7 +154,24 @@ schedules_go_through_three_layers
 waits_for_a_lock_are_lifted
 choices_are_what_blocks_did
 threads_that_are_started_are_lifted
-blocks_that_go_on_are_told";
+blocks_that_go_on_are_told
+stories_of_broken_designs
+stories_of_a_spinlock
+stories_of_tickets
+stories_of_examples
+stories_of_each_condition
+stories_with_more_in_them
+stories_of_all_conditions
+stories_of_goals
+stories_of_runs
+stories_by_lines
+slips_are_told
+places_of_first_faults
+places_of_broken_rules
+reports_with_a_place_or_without
+stories_and_devices
+words_of_civl_explain
+words_that_are_commands";
 
 /// Files of cases with a row that can't be read.
 const UNREAD: &str = "\

@@ -59,11 +59,22 @@ fn is_written(case: Case<'_>, given: &str, lines: &str) -> bool {
     }
 }
 
+/// What was given behind the two blanks with which a line of a story begins, where the head says that the report has them.
+fn outdented<'a>(case: Case<'_>, given: &'a str) -> Option<&'a str> {
+    if value(case, "indented").is_none() {
+        return Some(given);
+    }
+    given.strip_prefix("  ")
+}
+
 /// Whether a report is `report`, byte for byte; or has the line `line` once, and begins with `begins` where that is said too; or has the text
 /// `has` in it; or begins with `begins`.
 fn is_told(case: Case<'_>, report: &str) -> bool {
     if let Some(lines) = value(case, "report") {
-        return is_written(case, report, lines);
+        return match outdented(case, report) {
+            Some(given) => is_written(case, given, lines),
+            None => false,
+        };
     }
     if let Some(line) = value(case, "line") {
         return lines_at(report, line) == 1 && report.starts_with(text_at(case, "begins"));

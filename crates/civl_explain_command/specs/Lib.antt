@@ -1,0 +1,10 @@
+pub mod Tasks
+pub mod Stories
+pub mod Expects
+pub mod Runs
+pub mod Outcome
+pub mod Told
+pub mod Judge
+pub mod Laws
+pub mod Promises
+pub mod inner

@@ -1,0 +1,28 @@
+// Laws of words, each the contract of a function that does nothing.
+ghost use Rattle.civl_explain_words.specs.Words.{NumbersFit, OneCommand};
+ghost use Rattle.civl_explain_words.specs.examples.Lines.{EachCommandHasWords, NumbersAreRead, OthersAreNoCommand};
+
+/// No list of words is that of two commands.
+pub fn one_command()
+    ensures { OneCommand }
+{}
+
+/// The numbers of each command that words call lie where they may.
+pub fn numbers_fit()
+    ensures { NumbersFit }
+{}
+
+/// Each command has its words.
+pub fn each_command_has_words()
+    ensures { EachCommandHasWords }
+{}
+
+/// Numbers in words are read.
+pub fn numbers_are_read()
+    ensures { NumbersAreRead }
+{}
+
+/// Words that are no command.
+pub fn others_are_no_command()
+    ensures { OthersAreNoCommand }
+{}

@@ -1,0 +1,4 @@
+pub mod Standing
+pub mod Fitting
+pub mod Chained
+pub mod Texts

@@ -1,0 +1,5 @@
+pub mod Places
+pub mod Frames
+pub mod GoalStories
+pub mod Laws
+pub mod examples

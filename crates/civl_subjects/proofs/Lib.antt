@@ -1,0 +1,9 @@
+pub mod Inner
+pub mod Arguments
+pub mod Choosing
+pub mod Telling
+pub mod Unknowns
+pub mod Absences
+pub mod Again
+pub mod Hiding
+pub mod Computing

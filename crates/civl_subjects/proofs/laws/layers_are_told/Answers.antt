@@ -1,0 +1,7 @@
+use Rattle.std.proofs.Common.{refl}
+use Rattle.civl_subjects.proofs.Computing.{computing}
+use Rattle.civl_subjects.proofs.laws.layers_are_told.Goals as goal
+
+pub returns : goal.returns
+returns c =
+    (simp computing, simp computing, simp computing, simp computing, simp computing, simp computing, refl, simp computing, simp computing)

@@ -1,0 +1,13 @@
+pub mod Strays
+pub mod Subjects
+pub mod Counts
+pub mod Layers
+pub mod Laws
+pub mod Linear
+pub mod Parts
+pub mod Places
+pub mod Texts
+pub mod Told
+pub mod Twice
+pub mod examples
+pub mod inner

@@ -1,0 +1,29 @@
+//! What a refusal by a static rule is about.
+#![tactic(auto)]
+
+mod code;
+mod counts;
+mod declared;
+mod expr_rule;
+mod expressions;
+mod fitting;
+mod hidden;
+mod inside;
+pub mod laws;
+mod layers;
+mod linear;
+mod linearity;
+mod missing;
+mod naming;
+mod part;
+mod statements;
+mod strays;
+mod subject;
+mod texts;
+mod told;
+mod twice;
+mod uses;
+mod writing;
+
+pub use subject::{Counted, HeaderNumber, Limited, Needed, Subject};
+pub use told::push_subject;
