@@ -33,13 +33,15 @@ row can't be read.
 
 With --stories the texts, the words and the reports are the rows of the program civl_explain in these files. Of each report it works out
 what stands beside that of `civl`: where a text can't be read, by the grammar as docs/LANGUAGE.md prints it, with all tokens that may stand
-there; the place of a static rule that is broken; the moves of a run, and the whole report of it; of a condition that is violated which of
+there; the place of a static rule that is broken; what a formula is about that weighs too much, which entry or move of a script doesn't fit,
+and which part of a rule of outlines is broken; the moves of a run, and the whole report of it; of a condition that is violated which of
 its values may be others, the statements that a path passes, or what the actions do in both orders, what is lost, and the innermost false
-parts of the formula; and of a goal what is assumed, what the statement does, and what is false then. It compares this with the row, byte
+parts of the formula, with what the condition assumes where the words ask for that (--assumed); and of a goal what is assumed, what the
+statement does, and what is false then. It compares this with the row, byte
 for byte, and prints the first line in which they differ. Then it prints how many stories are confirmed whole and how many in part, what of
 these isn't worked out, how many differ, and how many rows want no report, or a line of one. The values that violate a condition or a goal
-are those of the row: they are tried, not found. Which static rule is broken first isn't worked out. The exit code is 1 where a story
-differs, where none is confirmed whole, and where a row can't be read.
+are those of the row: they are tried, not found. Which static rule is broken first isn't worked out, nor which goal weighs too much. The
+exit code is 1 where a story differs, where none is confirmed whole, and where a row can't be read.
 
 The text has to be a program or an outline that keeps the static rules, E90 and E91, for these aren't tried.
 """

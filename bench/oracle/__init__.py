@@ -8,6 +8,6 @@ tell.
 
 `stories` holds the rows of civl_explain against what they have to tell: `grammar` reads the grammar off the page and says which tokens
 may stand behind others, `sources` knows where tokens stand, and `lines` how a line of a story is written and why a formula is false;
-`refusals`, `path_stories`, `action_stories`, `goal_stories` and `run_stories` have the lines, the last over `plain`, the moves of plain
-programs, and `marks` says which values may be others.
+`refusals`, `misfits` (of scripts), `path_stories`, `action_stories`, `goal_stories` and `run_stories` have the lines, the last over
+`plain`, the moves of plain programs, `assumptions` has what a condition assumes, and `marks` says which values may be others.
 """

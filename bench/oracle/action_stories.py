@@ -1,6 +1,6 @@
 """Stories of K1 to K8 and of K11: what actions do in the order that is kept and in the other one, and what is lost by them."""
 from .actions import Fired, Instance, instance, of_globals, store_of, values_of
-from .lines import HEAD, Line, changes, equation, part_lines, shown
+from .lines import HEAD, Line, changes, equation, of_another, part_lines, shown
 from .programs import cuts, invariants, lower_globals, near_globals
 
 
@@ -15,8 +15,8 @@ class ActionStory:
     def at_action(self, action, text, is_error=False):
         return Line(self.source.item("action", action.name), 2, text, is_error)
 
-    def parts(self, expr, scope):
-        return part_lines(self.placed, expr, scope)
+    def parts(self, expr, scope, **naming):
+        return part_lines(self.placed, expr, scope, **naming)
 
     def called(self, x):
         """The action and the values of its parameters and choices."""
@@ -81,8 +81,8 @@ class ActionStory:
 
     # ---- K3 and K5
 
-    def clash(self, store, x, y):
-        """x and then y, and the exchanged order, which doesn't come to the same."""
+    def clash(self, store, x, y, letters):
+        """x and then y, and the exchanged order, which doesn't come to the same; reports begin the names of their values with these."""
         first = x.fire(store)
         second = y.fire(first.store)
         kept = [self.makes("first ", x, store, first), self.makes("then ", y, first.store, second)]
@@ -93,14 +93,15 @@ class ActionStory:
         late = x.fire(early.store)
         if late is None:
             return [*exchanged, self.at_action(x.action, f"then {x.action.name} waits", True), *self.guard_parts(x, early.store)]
-        differing = self.differences(x, y, Fired(second.store, [first.outs, second.outs]), Fired(late.store, [late.outs, early.outs]))
+        ends = Fired(second.store, [first.outs, second.outs]), Fired(late.store, [late.outs, early.outs])
+        differing = self.differences(x, y, letters, *ends)
         return [*exchanged, self.remakes("then ", x, early.store, late), self.at_action(y.action, ", ".join(differing), True)]
 
-    def differences(self, x, y, kept, other):
+    def differences(self, x, y, letters, kept, other):
         """The globals and the outputs of x and y that differ."""
         pairs = [(g.name, kept.store[g.name], other.store[g.name]) for g in lower_globals(self.program, self.step)]
-        for action, first, second in zip((x.action, y.action), kept.outs, other.outs):
-            pairs += [(out.name, one, two) for out, one, two in zip(action.outs, first, second)]
+        for letter, action, first, second in zip(letters, (x.action, y.action), kept.outs, other.outs):
+            pairs += [(letter + out.name, one, two) for out, one, two in zip(action.outs, first, second)]
         return [f"{name} is {shown(one)}, and {shown(two)} in the exchanged order" for name, one, two in pairs if one != two]
 
     # ---- K4, K6, K7 and K8
@@ -126,7 +127,8 @@ class ActionStory:
     def lost_yield(self, other, cut, store):
         names = {part.name: self.given["other." + part.name] for part in other.names()}
         scope = {**store, **names, "done": self.given["other.done"]}
-        return [Line(self.placed.begins[cut], HEAD, "what it says is lost", True), *self.parts(cut.invariant, scope)]
+        lost = Line(self.placed.begins[cut], HEAD, "what it says is lost", True)
+        return [lost, *self.parts(cut.invariant, scope, naming=of_another(self.program))]
 
     def act(self, x, store, kind, *which):
         fired = x.fire(store)
@@ -138,9 +140,9 @@ class ActionStory:
 
 
 PAIRS = {
-    "K3": lambda story, store, x, y: story.clash(store, x, y),
+    "K3": lambda story, store, x, y: story.clash(store, x, y, ["X.", "Y."]),
     "K4": lambda story, store, x, y: story.spoil(store, x, y),
-    "K5": lambda story, store, x, y: story.clash(store, y, x),
+    "K5": lambda story, store, x, y: story.clash(store, y, x, ["Y.", "X."]),
     "K6": lambda story, store, x, y: story.spoil(store, y, x),
     "K7": lambda story, store, x, y: story.reveal(store, x, y),
 }

@@ -1,6 +1,7 @@
 """Stories of goals: what is assumed before a statement, what it does, and the gate, the invariant or the note that is false then."""
 from .actions import instance, store_of
 from .action_stories import ActionStory
+from .assumptions import Assumptions
 from .goals import Goals
 from .lines import HEAD, NOTHING, Line, changes, equation, part_lines, shown
 from .programs import Assert, If, Loop, globals_at, roots
@@ -47,6 +48,15 @@ class GoalStory:
 
     def false_holds(self, store):
         return [line for hold in self.outline.holds for line in self.parts(hold, store)]
+
+    # ---- what is assumed beside the note before a statement
+
+    def holds_assumed(self):
+        return [Line(self.placed.span(hold)[0] - 1, HEAD, "is assumed") for hold in self.outline.holds]
+
+    def assumed_elsewhere(self, place):
+        token = self.note_of(place)
+        return [] if token is None else [Line(token, HEAD, "is assumed of another thread")]
 
     # ---- O1
 
@@ -127,6 +137,18 @@ O2 = {
     "spawn": GoalStory.spawn,
     "next": GoalStory.next,
 }
+
+
+def goal_assumed(source, placed, outline, name, given):
+    """The lines on what a goal assumes: of the beginning and of permissions as K1 and K2, and of a statement the holds, and another's note."""
+    story, (kind, *rest) = GoalStory(source, placed, outline, given), name.split()
+    program = outline.program
+    if kind == "O1" and rest[0] == "linear":
+        return Assumptions(source, placed, program, program.layers + 1).keep(program.actions[rest[1]])
+    if kind == "O1":
+        return Assumptions(source, placed, program, 1).start()
+    elsewhere = story.assumed_elsewhere(story.places[rest[4], int(rest[6])]) if kind == "O3" else []
+    return [*story.holds_assumed(), *elsewhere]
 
 
 def goal_story(source, placed, outline, name, given):

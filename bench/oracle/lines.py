@@ -95,8 +95,18 @@ def reads(expr):
     return list(dict.fromkeys(name for part in expr.parts for name in reads(part)))
 
 
-def read_text(name, scope):
-    said = f"old({name.removeprefix('old.')})" if name.startswith("old.") else name
+def as_written(name):
+    return name
+
+
+def of_another(program):
+    """How the names in what another thread's yield says are told: the globals as they are, and all others as that thread's."""
+    plain = {g.name for g in program.globals}
+    return lambda name: name if name in plain else f"other.{name}"
+
+
+def read_text(name, scope, naming):
+    said = f"old({naming(name.removeprefix('old.'))})" if name.startswith("old.") else naming(name)
     return f", {equation(said, scope[name])}"
 
 
@@ -110,12 +120,12 @@ class Line(NamedTuple):
     is_error: bool = False
 
 
-def part_lines(placed, expr, scope):
-    """The lines on the false parts of an expression."""
+def part_lines(placed, expr, scope, naming=as_written):
+    """The lines on the false parts of an expression, whose names are told so."""
     found = []
     for part in false_parts(expr, scope):
         token, count = placed.span(part)
-        found.append(Line(token, count, "is false" + "".join(read_text(name, scope) for name in reads(part))))
+        found.append(Line(token, count, "is false" + "".join(read_text(name, scope, naming) for name in reads(part))))
     return found
 
 
@@ -138,4 +148,6 @@ def fault_lines(source, offset, text, is_by_lines):
     place = source.place(offset)
     if is_by_lines:
         return [f"{place}: error: {text}"]
-    return [f"  {place}  {text}", f"    {source.line(offset)}", "    " + " " * (source.column(offset) - 1) + "^"]
+    line = source.line(offset)
+    margin = "".join("\t" if sign == "\t" else " " for sign in line[:source.column(offset) - 1])
+    return [f"  {place}  {text}", "    " + line.removesuffix("\r"), f"    {margin}^"]

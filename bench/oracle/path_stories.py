@@ -3,9 +3,9 @@ from dataclasses import replace
 from typing import Any, NamedTuple
 
 from .actions import Instance
-from .lines import HEAD, NOTHING, Line, changes, equation, part_lines, shown
+from .lines import HEAD, NOTHING, Line, changes, equation, of_another, part_lines, shown
 from .paths import EXIT, FAILS, WAITS, Paths, note_scope
-from .programs import CUTS, Assert, Commit, If, Loop, RankLoop, cuts, invariants, meant, upper_globals
+from .programs import CUTS, Assert, Commit, If, Loop, RankLoop, around, cuts, invariants, meant, upper_globals
 from .values import value
 
 
@@ -57,14 +57,23 @@ class Told(Paths):
 
 # ---- lines
 
-class PathStory:
-    """The story of a path that these values begin."""
+BRANCHES, IN_BODY = ("around it, where it is true", "around it, where it is false"), "around it, in its body"
 
-    def __init__(self, placed, program, step, proc, cut, given):
+
+class PathStory:
+    """The story of a path that these values begin, of a condition on this part of it."""
+
+    def __init__(self, placed, program, step, proc, cut, given, is_once):
         self.placed, self.program, self.step, self.proc, self.cut, self.given = placed, program, step, proc, cut, given
+        self.is_once = is_once
         self.paths = Told(program, step, proc, cut)
         self.path = self.paths.walk(given)
         self.scope = {**self.path.now.store, **self.path.now.names, "done": self.path.now.done}
+
+    def again(self):
+        """The passage of a second commit, where the condition is on commits and there is one."""
+        seconds = (passage for passage in self.paths.passed if isinstance(passage.stmt, Commit) and passage.before.done)
+        return next(seconds, None) if self.is_once else None
 
     def names(self):
         """The globals that there are, and the procedure's own names."""
@@ -80,6 +89,16 @@ class PathStory:
             return Line(item, 2, "begins here")
         return Line(self.placed.begins[self.cut], HEAD, "begins here")
 
+    def around(self):
+        """The statements around the cut, with the part of each in which it stands."""
+        found = around(self.proc.body, self.cut) if self.cut else []
+        return [Line(self.placed.begins[stmt], HEAD, BRANCHES[part] if isinstance(stmt, If) else IN_BODY) for stmt, part in found]
+
+    def told(self):
+        """What is passed, but of a second commit only what is passed before it."""
+        again = self.again()
+        return self.paths.passed if again is None else self.paths.passed[:self.paths.passed.index(again)]
+
     def passage(self, passage):
         text = self.changed(passage) if passage.took is None else shown(passage.took)
         return Line(self.placed.begins[passage.stmt], HEAD, text)
@@ -94,8 +113,8 @@ class PathStory:
         """At the exit, or before the statement at which the path ends."""
         return self.lost_at_exit(f"the exit: {text}") if self.path.end == EXIT else self.lost_at(self.paths.stopped, text)
 
-    def parts(self, expr, scope):
-        return part_lines(self.placed, expr, scope)
+    def parts(self, expr, scope, **naming):
+        return part_lines(self.placed, expr, scope, **naming)
 
     # ---- what is lost, by the parts of K9
 
@@ -114,8 +133,8 @@ class PathStory:
         return [self.lost_at(end, "what it says is false"), *self.parts(end.invariant, scope)]
 
     def once(self):
-        again = [passage.stmt for passage in self.paths.passed if isinstance(passage.stmt, Commit) and passage.before.done]
-        return [self.lost_at(again[0], "a second commit") if again else self.lost_at_exit("the exit, without a commit")]
+        again = self.again()
+        return [self.lost_at(again.stmt, "a second commit") if again else self.lost_at_exit("the exit, without a commit")]
 
     def above(self):
         return [g.name for g in upper_globals(self.program, self.step)]
@@ -163,7 +182,8 @@ class PathStory:
         """What another thread's yield says."""
         names = {part.name: self.given["other." + part.name] for part in other.names()}
         scope = {**self.path.now.store, **names, "done": self.given["other.done"]}
-        return [self.lost_at_end("what another thread's yield says is lost here"), *self.parts(cut.invariant, scope)]
+        lost = self.lost_at_end("what another thread's yield says is lost here")
+        return [lost, *self.parts(cut.invariant, scope, naming=of_another(self.program))]
 
 
 LOST = {
@@ -192,5 +212,5 @@ def path_story(source, placed, program, name, given):
     words = name.split()
     at = words.index("step")
     step, proc, cut = int(words[at + 1]), program.procs[words[at + 2]], int(words[at + 4])
-    story = PathStory(placed, program, step, proc, cuts(proc)[cut], given)
-    return [story.begin(source.item("proc", proc.name)), *map(story.passage, story.paths.passed), *lost(story, words)]
+    story = PathStory(placed, program, step, proc, cuts(proc)[cut], given, words[:2] == ["K9", "once"])
+    return [story.begin(source.item("proc", proc.name)), *story.around(), *map(story.passage, story.told()), *lost(story, words)]

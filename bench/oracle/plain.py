@@ -28,8 +28,10 @@ class Config(NamedTuple):
 
 
 class Move(NamedTuple):
+    """A move: its thread, the choices, and the number of the token at which it begins."""
     thread: int
     chosen: list
+    token: int
 
 
 class Made(NamedTuple):
@@ -129,7 +131,7 @@ class Plain:
         if fired is None:
             return BLOCKED
         if thread.frames is None:
-            return fired.store, [], [], ""
+            return fired.store, [], [], ", ends"
         *below, frame = thread.frames
         names = frame.names | dict(zip(frame.rest[0].results, fired.outs))
         return fired.store, [*below, goes_on(frame, names, frame.rest[1:])], [], ""

@@ -190,6 +190,19 @@ def behind(body, wanted, then=()):
     return None
 
 
+def around(body, wanted):
+    """The statements of a body in which a statement of it stands, each with the number of the part in which it does; None where it isn't in
+    the body."""
+    for stmt in body:
+        if stmt is wanted:
+            return []
+        for part, inner in enumerate(stmt.inner):
+            found = around(inner, wanted)
+            if found is not None:
+                return [(stmt, part), *found]
+    return None
+
+
 def meant(program, callee):
     """The action that a call means, where it calls an action or a procedure that means the one that it refines."""
     if callee in program.actions:

@@ -1,7 +1,7 @@
 """Stories of runs: each move with the thread, where it stood, what its step did and what that changed; and where the run stops or fails."""
 from typing import NamedTuple
 
-from .lines import HEAD, NOTHING, Line, changes, equation
+from .lines import HEAD, Line, changes, equation
 from .plain import MOVED, Move, Plain
 from .reports import value_of
 
@@ -32,9 +32,10 @@ def entry(reader):
 
 
 def step(reader):
+    begins = reader.at
     reader.skip("move")
     thread = reader.number()
-    return Move(thread, reader.ended(lambda: reader.listed(lambda: literal(reader))))
+    return Move(thread, reader.ended(lambda: reader.listed(lambda: literal(reader))), begins)
 
 
 def script_behind(reader, program):
@@ -66,7 +67,7 @@ class RunStory:
         if thread.frames is None:
             return self.at_proc(thread.callee, text, is_error)
         if not thread.frames:
-            return Line(0, NOTHING, text, is_error)
+            return self.at_proc(thread.callee, text, is_error)
         frame = thread.frames[-1]
         return Line(self.placed.begins[frame.rest[0]], HEAD, text, is_error) if frame.rest else self.at_proc(frame.proc, text, is_error)
 
@@ -94,8 +95,9 @@ class RunStory:
         """Makes the moves up to the first that isn't made, and tells where the run ends."""
         for move in self.moves:
             if not self.make(move):
-                if move.thread < len(self.config.threads):
-                    self.lines.append(self.at_thread(move.thread, f"thread {move.thread}: {self.stopped}"))
+                text = f"thread {move.thread}: {self.stopped}"
+                is_there = move.thread < len(self.config.threads)
+                self.lines.append(self.at_thread(move.thread, text) if is_there else Line(move.token, HEAD, text))
                 break
         failing = self.plain.failing(self.config)
         if failing is not None:

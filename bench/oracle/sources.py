@@ -79,7 +79,7 @@ class Source:
 
     def between(self, first, last):
         """From one token on to the end of another, without what stands behind a line feed."""
-        return self.text[self.tokens[first].start:self.tokens[last].end()].partition("\n")[0]
+        return self.text[self.tokens[first].start:self.tokens[last].end()].partition("\n")[0].removesuffix("\r")
 
     def head(self, first):
         """Of a statement that begins at this token: up to its first `;`, or to before its first `{`."""

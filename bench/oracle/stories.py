@@ -5,25 +5,29 @@ from collections import Counter
 from typing import NamedTuple
 
 from .action_stories import action_story
+from .assumptions import assumed_lines
 from .cases import all_cases
 from .conditions import formulas, initial
 from .formulas import is_initial
-from .goal_stories import goal_story
+from .goal_stories import goal_assumed, goal_story
 from .goals import goals
 from .lines import Placed, written
 from .marks import marks
 from .path_stories import path_story
-from .refusals import BROKEN, broken, unread, without_initial_store
+from .misfits import misfit
+from .refusals import BROKEN, broken, descending, heavy, unfit, unread, without_initial_store
 from .reports import told_in, unlike
 from .rows import lists_of
 from .run_stories import RunStory, script_behind
 from .sources import Source, plain
 
 PROGRAM = "civl_explain"
-USAGE = "usage: civl_explain check|conditions|run|prove [--lines]"
+USAGE = "usage: civl_explain check|conditions|run|prove [--lines] [--assumed]"
 KINDS = {"check": "program", "conditions": "program", "prove": "outline", "run": "script"}
+FLAGS = ("--lines", "--assumed")
 SUM = re.compile(r"\d+ hold, \d+ fail, \d+ undecided")
 HEAVY = re.compile(r"refused E61 at (?P<name>.+) over 400000")
+UNFIT = re.compile(r"refused E90 at note (?P<number>\d+)")
 MOST_WEIGHT, MOST_BUDGET = 400000, 10000000
 
 
@@ -42,10 +46,10 @@ def is_option(words):
 
 
 def are_options(words):
-    """Whether these are `--lines` and a budget, each at most once."""
-    if words.count("--lines") > 1 or " ".join(words).count("--budget") > 1:
+    """Whether these are `--lines`, `--assumed` and a budget, each at most once."""
+    if any(words.count(flag) > 1 for flag in FLAGS) or " ".join(words).count("--budget") > 1:
         return False
-    rest = [word for word in words if word != "--lines"]
+    rest = [word for word in words if word not in FLAGS]
     return not rest or is_option(rest)
 
 
@@ -58,21 +62,25 @@ def is_command(words):
 # ---- texts that are read
 
 class Case(NamedTuple):
-    """A text that is read, its program, its outline where it is one, whether lines are asked for, and the lines that are wanted."""
+    """A text that is read, its program, its outline where it is one, whether lines are asked for and what is assumed, and the lines that
+    are wanted."""
     source: Source
     placed: Placed
     program: object
     outline: object
     is_by_lines: bool
+    is_assumed: bool
     wanted: list
 
     def lines(self, found):
         return [written(self.source, line, self.is_by_lines) for line in found]
 
     def story(self, formula, given):
-        """The values that may be others, and the lines on a condition that these values violate."""
+        """The values that may be others, what is assumed where that is asked for, and the lines on a condition that these values violate."""
         tell = path_story if formula.name.split()[0] in ("K9", "K10") else action_story
-        return marks(formula, given) + self.lines(tell(self.source, self.placed, self.program, formula.name, given))
+        of_this = self.source, self.placed, self.program, formula.name, given
+        assumed = assumed_lines(*of_this) if self.is_assumed else []
+        return marks(formula, given) + self.lines([*assumed, *tell(*of_this)])
 
 
 def violated(case):
@@ -92,8 +100,9 @@ def of_goal(case):
     lost = unlike(formula, told)
     if lost:
         raise ValueError(f"{told.name}: {lost}")
-    story = goal_story(case.source, case.placed, case.outline, told.name, dict(told.values))
-    return Told([*report_lines(case), *case.lines(story)])
+    of_this = case.source, case.placed, case.outline, told.name, dict(told.values)
+    assumed = goal_assumed(*of_this) if case.is_assumed else []
+    return Told([*report_lines(case), *case.lines([*assumed, *goal_story(*of_this)])])
 
 
 def report_lines(case):
@@ -137,8 +146,23 @@ def of_no_initial_store(case):
 
 
 def of_heavy_formula(case):
-    first = next((formula.name for formula in formulas(case.program) if formula.weight() > MOST_WEIGHT), "none")
-    return Told([f"refused E61 at {first} over {MOST_WEIGHT}"])
+    """The weights of goals aren't worked out: such a name is the row's."""
+    wanted = HEAVY.fullmatch(case.wanted[0])["name"]
+    first = next((formula.name for formula in formulas(case.program) if formula.weight() > MOST_WEIGHT), None)
+    is_goal = first is None and wanted.startswith("O")
+    name = wanted if is_goal else str(first)
+    lines = heavy(case.source, case.placed, case.program, name, case.is_by_lines)
+    return Told([f"refused E61 at {name} over {MOST_WEIGHT}", *lines], ("which goal weighs too much",) if is_goal else ())
+
+
+def of_unfit_note(case):
+    number = int(UNFIT.fullmatch(case.wanted[0])["number"])
+    lines, is_sure = unfit(case.source, case.placed, case.outline, number, case.is_by_lines)
+    return Told([case.wanted[0], *lines], () if is_sure else ("that a hold or a note says nothing of its place",))
+
+
+def of_misfit(case):
+    return Told(misfit(case.source, case.placed, case.program, case.is_by_lines))
 
 
 def of_acceptance(case):
@@ -159,6 +183,12 @@ def of_program(case):
         return of_no_initial_store(case)
     if HEAVY.fullmatch(first):
         return of_heavy_formula(case)
+    if UNFIT.fullmatch(first):
+        return of_unfit_note(case)
+    if first.startswith("refused E91"):
+        return Told(descending(case.source, case.placed, case.program, case.is_by_lines))
+    if first.startswith("refused E80"):
+        return of_misfit(case)
     if first.startswith("accepted "):
         return of_acceptance(case)
     if any(map(SUM.fullmatch, case.wanted)):
@@ -180,7 +210,8 @@ def told(text, words, wanted):
         return Told(fault)
     placed = Placed(text)
     outline = placed.outline() if words[0] == "prove" else None
-    case = Case(source, placed, outline.program if outline else placed.program(), outline, is_by_lines, wanted)
+    program = outline.program if outline else placed.program()
+    case = Case(source, placed, program, outline, is_by_lines, "--assumed" in words, wanted)
     is_run = words[0] == "run" and not wanted[0].startswith("refused ")
     return of_run(case, "top" in words) if is_run else of_program(case)
 

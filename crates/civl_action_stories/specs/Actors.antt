@@ -25,7 +25,7 @@ use Rattle.civl_lines.specs.declared.line.Kind.{Kind}
 use Rattle.civl_lines.specs.declared.line.Kind.TheVariants as kind
 use Rattle.civl_lines.specs.declared.line.Shown.TheVariants.{Tokens}
 use Rattle.civl_lines.specs.declared.line.Line.{Line}
-use Rattle.civl_lines.specs.Pieces.{equation, change_text, part_lines}
+use Rattle.civl_lines.specs.Pieces.{Naming, as_written, equation, change_text, named_part_lines}
 
 -- ---- actions with their values
 
@@ -111,9 +111,13 @@ goes_wrong x text = at_item x.token kind.Error text
 
 -- ---- false formulas
 
--- why a formula of the program is false in a scope
+-- why a formula of the program is false in a scope, with its names told so
+abbrev pub named_parts_of : Program → Naming → Formula → Scope → List Line
+named_parts_of program naming f scope = option_map_or (named_part_lines naming scope) (formula_at program f) []
+
+-- the same with the names as they are
 abbrev pub parts_of : Program → Formula → Scope → List Line
-parts_of program f scope = option_map_or (part_lines scope) (formula_at program f) []
+parts_of program = named_parts_of program as_written
 
 -- why its gate is false in a store
 abbrev pub gate_parts : Program → Actor → Store → List Line

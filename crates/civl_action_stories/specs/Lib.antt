@@ -5,5 +5,6 @@ pub mod Clashes
 pub mod Gates
 pub mod Strays
 pub mod Told
+pub mod Laws
 pub mod inner
 pub mod examples

@@ -23,7 +23,8 @@ use Rattle.civl_clashes.specs.declared.violations.Effect.{Effect}
 use Rattle.civl_lines.specs.declared.line.Kind.TheVariants as kind
 use Rattle.civl_lines.specs.declared.line.Shown.TheVariants.{Head}
 use Rattle.civl_lines.specs.declared.line.Line.{Line}
-use Rattle.civl_action_stories.specs.Actors.{Actor, makes, parts_of}
+use Rattle.civl_lines.specs.Pieces.{of_other}
+use Rattle.civl_action_stories.specs.Actors.{Actor, makes, named_parts_of}
 use Rattle.civl_action_stories.specs.Starts.{invariant_place, invariant_story}
 
 -- the token of a statement of the procedure with this number, or 0
@@ -34,11 +35,11 @@ statement_token program q statement = option_map_or (λ t. t) (statement_start p
 abbrev pub cut_line : ℕ → Line
 cut_line token = record { token = token; shown = Head; kind = kind.Error; text = codes "what it says is lost" }
 
--- that what a cut of the procedure with this number says is lost of this frame, and why
+-- that what a cut of the procedure with this number says is lost of this frame, and why, with the names of the frame as another thread's
 abbrev pub yield_story : Program → ℕ → Store → Proc → Cut → Other → List Line
 yield_story program q g proc cut other =
     cut_line (statement_token program q cut.statement)
-    ∷ parts_of program (formula.Statement q cut.statement of_statement.Invariant)
+    ∷ named_parts_of program (of_other program.globals) (formula.Statement q cut.statement of_statement.Invariant)
     (steady_note_values program.globals proc g other.locals other.done)
 
 -- the same of the frame whose values stand from a place on

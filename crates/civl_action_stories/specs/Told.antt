@@ -10,7 +10,7 @@ use Rattle.civl_lines.specs.declared.line.Line.{Line}
 use Rattle.civl_action_stories.specs.Actors.{Actor, of_actor}
 use Rattle.civl_action_stories.specs.Starts.{start_story}
 use Rattle.civl_action_stories.specs.Losses.{loss_story}
-use Rattle.civl_action_stories.specs.Clashes.{clash_story}
+use Rattle.civl_action_stories.specs.Clashes.{clash_story, is_y_first}
 use Rattle.civl_action_stories.specs.Gates.{spoil_story, reveal_story, wait_story}
 use Rattle.civl_action_stories.specs.Strays.{stray_story}
 
@@ -22,7 +22,8 @@ of_pair program pair tell = of_actor program pair.first (λ x. of_actor program 
 unfoldable pub violation_story : Program → Condition → List Value → Violation → List Line
 violation_story program condition values (Starts g) = start_story program condition g
 violation_story program condition values (Loses g i e loss) = of_actor program i (loss_story program g e loss)
-violation_story program condition values (Clashes pair clash) = of_pair program pair (clash_story program pair.store clash)
+violation_story program condition values (Clashes pair clash) =
+    of_pair program pair (clash_story program pair.store (is_y_first condition) clash)
 violation_story program condition values (Spoils pair e) = of_pair program pair (spoil_story program pair.store e)
 violation_story program condition values (Reveals pair e) = of_pair program pair (reveal_story program pair.store e)
 violation_story program condition values (Waits g i) = of_actor program i (wait_story program g)

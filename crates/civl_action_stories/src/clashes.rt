@@ -3,7 +3,8 @@ ghost use Rattle.std.specs.Prelude.{◌≡◌, ◌++◌, ◌∷◌, [], ◌<◌,
 ghost use Rattle.civl_tree.specs.SpellingProgram.{spell_program};
 ghost use Rattle.civl_verdicts.specs.models.Text.{listed, value_text};
 ghost use Rattle.civl_action_stories.specs.Actors.{goes_wrong, guard_parts, makes, remakes};
-ghost use Rattle.civl_action_stories.specs.Clashes.{clash_story, difference_text, exchanged_story, place_name};
+ghost use Rattle.civl_action_stories.specs.Clashes.{clash_story, difference_text, exchanged_story, is_y_first};
+ghost use Rattle.civl_action_stories.specs.Clashes.{letter, output_name, place_name};
 ghost use Rattle.civl_action_stories.specs.inner.Acting.{meant};
 
 use crate::acting::Acting;
@@ -12,33 +13,84 @@ use crate::losses::{global_name, param_name};
 use crate::texts::put_listed;
 use civl_bits::Value;
 use civl_clashes::{Clash, Difference, Effect, Exchanged, Order, Place, Which};
+use civl_conditions::Condition;
 use civl_firing::Store;
 use civl_lines::{Kind, Line};
-use civl_tree::{List, Memory, Program};
+use civl_tree::{List, Memory, Param, Program};
 use civl_verdicts::models::put_value_text;
 use civl_verdicts::reports::put;
 use std::alloc::Global;
 
 // ---- differences
 
-/// The name of a place.
-fn place_name<'a>(program: &'a Program, x: &Acting<'a>, y: &Acting<'a>, place: &Place) -> &'a [u8]
-    ensures { result.now ≡ place_name program.now (meant x.now) (meant y.now) place.now }
+/// Whether the first action of a condition's pair is its Y.
+pub(crate) fn is_y_first(condition: &Condition) -> bool
+    ensures { result ≡ is_y_first condition.now }
+{
+    match condition {
+        Condition::Pair(number, _, _, _) => *number == 5,
+        Condition::Start(_, _) => false,
+        Condition::Keep(_, _) => false,
+        Condition::Fire(_, _) => false,
+        Condition::Act(_, _, _) => false,
+        Condition::Path(_, _, _, _) => false,
+        Condition::Block(_, _, _, _) => false,
+    }
+}
+
+/// With what the report's names of an action's values begin.
+fn letter(y_first: bool, which: Which) -> &'static [u8]
+    ensures { result.now ≡ letter y_first which }
+{
+    match which {
+        Which::First => { if y_first { b"Y." } else { b"X." } }
+        Which::Second => { if y_first { b"X." } else { b"Y." } }
+    }
+}
+
+/// Puts the name of an output behind what is there.
+fn put_output(out: &mut Vec<u8>, front: &[u8], outs: &[Param], at: usize) -> Result<(), Memory>
+    ensures { OnOk result (out.new.items ≡ out.old.items ++ (front.now ++ output_name outs.now at)) }
+{
+    put(out, front)?;
+    put(out, param_name(outs, at))
+}
+
+/// Puts the name of a place behind what is there.
+fn put_place(
+    out: &mut Vec<u8>,
+    program: &Program,
+    y_first: bool,
+    x: &Acting<'_>,
+    y: &Acting<'_>,
+    place: &Place,
+) -> Result<(), Memory>
+    ensures { OnOk result (out.new.items ≡ out.old.items
+        ++ place_name program.now y_first (meant x.now) (meant y.now) place.now) }
 {
     match place {
-        Place::Global(at) => global_name(program.globals.as_slice(), *at),
+        Place::Global(at) => put(out, global_name(program.globals.as_slice(), *at)),
         Place::Output(which, at) => match which {
-            Which::First => param_name(x.action.outs.as_slice(), *at),
-            Which::Second => param_name(y.action.outs.as_slice(), *at),
+            Which::First => put_output(
+                out,
+                letter(y_first, Which::First),
+                x.action.outs.as_slice(),
+                *at,
+            ),
+            Which::Second => put_output(
+                out,
+                letter(y_first, Which::Second),
+                y.action.outs.as_slice(),
+                *at,
+            ),
         },
     }
 }
 
-/// `name is kept`
-fn put_kept(out: &mut Vec<u8>, name: &[u8], kept: &Value) -> Result<(), Memory>
-    ensures { OnOk result (out.new.items ≡ out.old.items ++ (name.now ++ (codes " is " ++ value_text kept.now))) }
+/// ` is kept`
+fn put_kept(out: &mut Vec<u8>, kept: &Value) -> Result<(), Memory>
+    ensures { OnOk result (out.new.items ≡ out.old.items ++ (codes " is " ++ value_text kept.now)) }
 {
-    put(out, name)?;
     put(out, b" is ")?;
     put_value_text(out, kept)
 }
@@ -57,18 +109,16 @@ fn put_changed(out: &mut Vec<u8>, exchanged: &Value) -> Result<(), Memory>
 fn put_difference(
     out: &mut Vec<u8>,
     program: &Program,
+    y_first: bool,
     x: &Acting<'_>,
     y: &Acting<'_>,
     difference: &Difference,
 ) -> Result<(), Memory>
     ensures { OnOk result (out.new.items ≡ out.old.items
-        ++ difference_text program.now (meant x.now) (meant y.now) difference.now) }
+        ++ difference_text program.now y_first (meant x.now) (meant y.now) difference.now) }
 {
-    put_kept(
-        out,
-        place_name(program, x, y, &difference.place),
-        &difference.kept,
-    )?;
+    put_place(out, program, y_first, x, y, &difference.place)?;
+    put_kept(out, &difference.kept)?;
     put_changed(out, &difference.exchanged)
 }
 
@@ -76,14 +126,15 @@ fn put_difference(
 fn difference_text(
     alloc: Global,
     program: &Program,
+    y_first: bool,
     x: &Acting<'_>,
     y: &Acting<'_>,
     difference: &Difference,
 ) -> Result<List<u8>, Memory>
-    ensures { IfOk result (λ text. text ≡ difference_text program.now (meant x.now) (meant y.now) difference.now) }
+    ensures { IfOk result (λ text. text ≡ difference_text program.now y_first (meant x.now) (meant y.now) difference.now) }
 {
     let mut text = Vec::new(alloc);
-    put_difference(&mut text, program, x, y, difference)?;
+    put_difference(&mut text, program, y_first, x, y, difference)?;
     Ok(List::from_vec(text))
 }
 
@@ -91,16 +142,17 @@ fn difference_text(
 fn difference_texts(
     alloc: Global,
     program: &Program,
+    y_first: bool,
     x: &Acting<'_>,
     y: &Acting<'_>,
     differences: &[Difference],
 ) -> Result<Vec<List<u8>>, Memory>
     ensures { IfOk result (λ texts. texts.items
-        ≡ map (difference_text program.now (meant x.now) (meant y.now)) differences.now) }
+        ≡ map (difference_text program.now y_first (meant x.now) (meant y.now)) differences.now) }
 {
     let mut texts = Vec::new(alloc);
     for difference in differences {
-        texts.push(difference_text(alloc, program, x, y, difference)?)?;
+        texts.push(difference_text(alloc, program, y_first, x, y, difference)?)?;
     }
     Ok(texts)
 }
@@ -109,14 +161,15 @@ fn difference_texts(
 fn differs(
     alloc: Global,
     program: &Program,
+    y_first: bool,
     x: &Acting<'_>,
     y: &Acting<'_>,
     differences: &[Difference],
 ) -> Result<Line, Memory>
     ensures { IfOk result (λ line. line ≡ goes_wrong (meant y.now)
-        (listed (map (difference_text program.now (meant x.now) (meant y.now)) differences.now))) }
+        (listed (map (difference_text program.now y_first (meant x.now) (meant y.now)) differences.now))) }
 {
-    let texts = difference_texts(alloc, program, x, y, differences)?;
+    let texts = difference_texts(alloc, program, y_first, x, y, differences)?;
     let mut text = Vec::new(alloc);
     put_listed(&mut text, texts.as_slice())?;
     Ok(at_item(y.token, Kind::Error, text))
@@ -155,7 +208,9 @@ fn push_waits_behind(
 ) -> Result<(), Memory>
     requires { length (spell_program program.now) < 2 ^ 64 }
     ensures { OnOk result (lines.new.items ≡ lines.old.items
-        ++ exchanged_story program.now store.now (meant x.now) (meant y.now) (Exchanged.WaitsBehind effect.now)) }
+        ++ (remakes (codes "exchanged, ") program.now (meant y.now) store.now effect.now
+        ∷ goes_wrong (meant x.now) (codes "then " ++ (x.now.action.now.name.bytes ++ codes " waits"))
+        ∷ guard_parts program.now (meant x.now) effect.now.store)) }
 {
     lines.push(remakes(alloc, b"exchanged, ", program, y, store, effect)?)?;
     push_waits(alloc, lines, program, b"then ", x, b" waits", &effect.store)
@@ -193,16 +248,17 @@ fn push_ends(
     lines: &mut Vec<Line>,
     program: &Program,
     store: &Store,
+    y_first: bool,
     x: &Acting<'_>,
     y: &Acting<'_>,
     order: &Order,
     differences: &[Difference],
 ) -> Result<(), Memory>
     ensures { OnOk result (lines.new.items ≡ lines.old.items
-        ++ exchanged_story program.now store.now (meant x.now) (meant y.now) (Exchanged.Ends order.now differences.now)) }
+        ++ exchanged_story program.now store.now y_first (meant x.now) (meant y.now) (Exchanged.Ends order.now differences.now)) }
 {
     push_remade(alloc, lines, program, store, x, y, order)?;
-    lines.push(differs(alloc, program, x, y, differences)?)?;
+    lines.push(differs(alloc, program, y_first, x, y, differences)?)?;
     Ok(())
 }
 
@@ -212,13 +268,14 @@ fn push_exchanged(
     lines: &mut Vec<Line>,
     program: &Program,
     store: &Store,
+    y_first: bool,
     x: &Acting<'_>,
     y: &Acting<'_>,
     exchanged: &Exchanged,
 ) -> Result<(), Memory>
     requires { length (spell_program program.now) < 2 ^ 64 }
     ensures { OnOk result (lines.new.items ≡ lines.old.items
-        ++ exchanged_story program.now store.now (meant x.now) (meant y.now) exchanged.now) }
+        ++ exchanged_story program.now store.now y_first (meant x.now) (meant y.now) exchanged.now) }
 {
     match exchanged {
         Exchanged::WaitsAtOnce => push_waits(
@@ -238,6 +295,7 @@ fn push_exchanged(
             lines,
             program,
             store,
+            y_first,
             x,
             y,
             order,
@@ -278,14 +336,24 @@ pub(crate) fn push_clash(
     lines: &mut Vec<Line>,
     program: &Program,
     store: &Store,
+    y_first: bool,
     clash: &Clash,
     x: &Acting<'_>,
     y: &Acting<'_>,
 ) -> Result<(), Memory>
     requires { length (spell_program program.now) < 2 ^ 64 }
     ensures { OnOk result (lines.new.items ≡ lines.old.items
-        ++ clash_story program.now store.now clash.now (meant x.now) (meant y.now)) }
+        ++ clash_story program.now store.now y_first clash.now (meant x.now) (meant y.now)) }
 {
     push_order(alloc, lines, program, store, &clash.kept, x, y)?;
-    push_exchanged(alloc, lines, program, store, x, y, &clash.exchanged)
+    push_exchanged(
+        alloc,
+        lines,
+        program,
+        store,
+        y_first,
+        x,
+        y,
+        &clash.exchanged,
+    )
 }

@@ -3,7 +3,9 @@ ghost use Rattle.std.specs.Prelude.{◌≡◌, ◌++◌, ◌<◌, ◌^◌, IfOk,
 ghost use Rattle.civl_tree.specs.SpellingProgram.{spell_program};
 ghost use Rattle.civl_firing.specs.Scope.{gate_values, guard_values};
 ghost use Rattle.civl_firing.specs.Settings.{scope_in};
-ghost use Rattle.civl_action_stories.specs.Actors.{at_item, called, gate_parts, goes_wrong, guard_parts, makes, parts_of, remakes};
+ghost use Rattle.civl_lines.specs.inner.Named.{told};
+ghost use Rattle.civl_action_stories.specs.Actors.{at_item, called, gate_parts, goes_wrong, guard_parts, makes, remakes};
+ghost use Rattle.civl_action_stories.specs.Actors.{named_parts_of, parts_of};
 ghost use Rattle.civl_action_stories.specs.inner.Acting.{meant};
 
 use crate::acting::Acting;
@@ -13,7 +15,7 @@ use civl_clashes::Effect;
 use civl_firing::Store;
 use civl_firing::names::Names;
 use civl_firing::setting::{Bindings, Setting};
-use civl_lines::{Kind, Line, Shown, push_parts};
+use civl_lines::{Kind, Line, Naming, Shown, as_written, push_named_parts};
 use civl_places::{Formula, InAction, formula_at};
 use civl_tree::{Action, Global, List, Memory, Program};
 use civl_verdicts::reports::put;
@@ -101,7 +103,26 @@ pub(crate) fn called_wrong(
 
 // ---- false formulas
 
-/// Why a formula of the program is false, behind the other lines.
+/// Why a formula of the program is false, behind the other lines, with its names told so.
+pub(crate) fn push_named_parts_of<B: Bindings>(
+    alloc: Alloc,
+    lines: &mut Vec<Line>,
+    program: &Program,
+    naming: &Naming<'_>,
+    formula: &Formula,
+    bindings: &B,
+) -> Result<(), Memory>
+    requires { length (spell_program program.now) < 2 ^ 64 }
+    ensures { OnOk result (lines.new.items ≡ lines.old.items
+        ++ named_parts_of program.now (told naming.now) formula.now (B.scope bindings.now)) }
+{
+    match formula_at(program, formula) {
+        Some(part) => push_named_parts(alloc, lines, naming, bindings, &part),
+        None => Ok(()),
+    }
+}
+
+/// The same with the names as they are.
 pub(crate) fn push_parts_of<B: Bindings>(
     alloc: Alloc,
     lines: &mut Vec<Line>,
@@ -112,10 +133,7 @@ pub(crate) fn push_parts_of<B: Bindings>(
     requires { length (spell_program program.now) < 2 ^ 64 }
     ensures { OnOk result (lines.new.items ≡ lines.old.items ++ parts_of program.now formula.now (B.scope bindings.now)) }
 {
-    match formula_at(program, formula) {
-        Some(part) => push_parts(alloc, lines, bindings, &part),
-        None => Ok(()),
-    }
+    push_named_parts_of(alloc, lines, program, &as_written(), formula, bindings)
 }
 
 /// What an action's gate is about.

@@ -8,12 +8,13 @@ ghost use Rattle.civl_conditions.specs.Targets.{other_of};
 ghost use Rattle.civl_conditions.specs.Values.{count_of, flag_at, instance_count};
 ghost use Rattle.civl_conditions.specs.paths.NoteValues.{steady_note_values};
 ghost use Rattle.civl_conditions.specs.paths.Seen.{exists_near};
-ghost use Rattle.civl_action_stories.specs.Actors.{parts_of};
+ghost use Rattle.civl_lines.specs.Pieces.{of_other};
+ghost use Rattle.civl_action_stories.specs.Actors.{named_parts_of};
 ghost use Rattle.civl_action_stories.specs.Strays.{act_story, cut_line, statement_token, stray_story, target_story, yield_at, yield_story};
 ghost use Rattle.civl_action_stories.specs.inner.Acting.{meant, frame};
 
 use crate::acting::Acting;
-use crate::lines::{makes, push_parts_of};
+use crate::lines::{makes, push_named_parts_of};
 use crate::starts::{invariant_place, push_invariant};
 use civl_assumed::frames::{behind_frame, frame_values};
 use civl_assumed::steady;
@@ -24,7 +25,7 @@ use civl_conditions::{Condition, Target};
 use civl_firing::Store;
 use civl_firing::values::is_true;
 use civl_layers::{Cut, Layered, cuts, program};
-use civl_lines::{Kind, Line, Shown};
+use civl_lines::{Kind, Line, Shown, of_other};
 use civl_meaning::slices::behind;
 use civl_places::{Formula, InStatement};
 use civl_tree::{Action, List, Memory, Proc, Program};
@@ -94,7 +95,7 @@ fn push_why(
 ) -> Result<(), Memory>
     requires { length (spell_program program.now) < 2 ^ 64 }
     ensures { OnOk result (lines.new.items ≡ lines.old.items
-        ++ parts_of program.now (Formula.Statement number cut.statement InStatement.Invariant)
+        ++ named_parts_of program.now (of_other program.now.globals) (Formula.Statement number cut.statement InStatement.Invariant)
         (steady_note_values program.now.globals proc.now store.now other.now.locals.now other.now.done)) }
 {
     let note = steady(
@@ -104,10 +105,11 @@ fn push_why(
         other.locals,
         other.done,
     );
-    push_parts_of(
+    push_named_parts_of(
         alloc,
         lines,
         program,
+        &of_other(program.globals.as_slice()),
         &Formula::Statement(
             number as usize,
             cut.statement as usize,

@@ -9,7 +9,7 @@ ghost use Rattle.civl_action_stories.specs.Strays.{stray_story};
 ghost use Rattle.civl_action_stories.specs.Told.{of_pair, violation_story};
 
 use crate::acting::actor_of;
-use crate::clashes::push_clash;
+use crate::clashes::{is_y_first, push_clash};
 use crate::gates::{push_reveal, push_spoil, push_wait};
 use crate::losses::push_loss;
 use crate::starts::push_start;
@@ -53,16 +53,17 @@ fn of_clash(
     alloc: Global,
     lines: &mut Vec<Line>,
     program: &Program,
+    y_first: bool,
     pair: &Pair,
     clash: &Clash,
 ) -> Result<(), Memory>
     requires { length (spell_program program.now) < 2 ^ 64 }
     ensures { OnOk result (lines.new.items ≡ lines.old.items
-        ++ of_pair program.now pair.now (clash_story program.now pair.now.store clash.now)) }
+        ++ of_pair program.now pair.now (clash_story program.now pair.now.store y_first clash.now)) }
 {
     match actor_of(program, &pair.first) {
         Some(x) => match actor_of(program, &pair.second) {
-            Some(y) => push_clash(alloc, lines, program, &pair.store, clash, &x, &y),
+            Some(y) => push_clash(alloc, lines, program, &pair.store, y_first, clash, &x, &y),
             None => Ok(()),
         },
         None => Ok(()),
@@ -177,7 +178,14 @@ pub fn push_violation(
         Violation::Loses(store, instance, effect, loss) => {
             push_loss_story(alloc, lines, program, store, instance, effect, loss)
         }
-        Violation::Clashes(pair, clash) => of_clash(alloc, lines, program, pair, clash),
+        Violation::Clashes(pair, clash) => of_clash(
+            alloc,
+            lines,
+            program,
+            is_y_first(condition),
+            pair,
+            clash,
+        ),
         Violation::Spoils(pair, effect) => of_spoil(alloc, lines, program, pair, effect),
         Violation::Reveals(pair, effect) => of_reveal(alloc, lines, program, pair, effect),
         Violation::Waits(store, instance) => of_wait(alloc, lines, program, store, instance),

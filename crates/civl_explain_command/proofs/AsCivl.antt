@@ -36,15 +36,15 @@ traces_as plain_of script (Broken program refusal) h = h.1
 traces_as plain_of script (Heavy program first) h = h.1
 traces_as plain_of script (Judged program budget verdict) h = h.1
 traces_as plain_of script (Surveyed program budget survey) h = h.1
-traces_as plain_of script (Misfit number) h = h.1
-traces_as plain_of script (Ran plain store moves) h = (
-  h.1,
+traces_as plain_of script (Misfit told number) h = h.1
+traces_as plain_of script (Ran told plain store moves) h = (
   h.2,
+  h.3,
   record {
     store = store;
     moves = moves;
-    fits = h.3;
-    trace_is = ap (λ (p : Plain). trace_of p store moves) h.0;
+    fits = h.4;
+    trace_is = ap (λ (p : Plain). trace_of p store moves) h.1;
   },
 )
 traces_as plain_of script (Proven outline budget found) h = h.1

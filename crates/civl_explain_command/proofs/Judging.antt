@@ -10,7 +10,7 @@ use Rattle.civl_frontend.specs.declared.status.Status.{Status}
 use Rattle.civl_frontend.specs.declared.status.Status.TheVariants.{ReadFault, Usage}
 use Rattle.civl_explain_words.specs.Words.{AreWordsOf}
 use Rattle.civl_explain_words.specs.declared.words.Request.{Request}
-use Rattle.civl_explain_command.specs.Tasks.{AskForSome, form_of, kind_of}
+use Rattle.civl_explain_command.specs.Tasks.{AskForSome, manner_of, kind_of}
 use Rattle.civl_explain_command.specs.Outcome.{Outcome, TooLong, FindsBy, status_of}
 use Rattle.civl_explain_command.specs.Told.{IsTold}
 use Rattle.civl_explain_command.specs.Judge.{IsJudged, Judges, ReadsLong, ReadsWhole, usage_text}
@@ -23,7 +23,7 @@ module _ (words : List (List ℕ)) (request : Request) (before after : ReadState
 
   -- an input that was read past the limit
   pub long_judged : (input : List ℕ) → ReadsPast limit before after
-      → IsJudged (kind_of request.command) (form_of request) input (λ outcome. outcome ≡ TooLong limit) judged
+      → IsJudged (kind_of request.command) (manner_of request) input (λ outcome. outcome ≡ TooLong limit) judged
       → Judges words before after judged.status (bytes_of judged.report)
   long_judged input past (inl t) = inl (record {
     request = request;
@@ -32,13 +32,13 @@ module _ (words : List (List ℕ)) (request : Request) (before after : ReadState
     outcome = TooLong limit;
     reads = ReadsLong input past;
     status_is = t.status_is ∙ ap status_of t.says_so;
-    is_told = subst (λ (o : Outcome). IsTold (kind_of request.command) (form_of request) input o (bytes_of judged.report)) t.says_so t.is_told;
+    is_told = subst (λ (o : Outcome). IsTold (kind_of request.command) (manner_of request) input o (bytes_of judged.report)) t.says_so t.is_told;
   })
   long_judged input past (inr wants) = input_wanted wants
 
   -- an input that was read whole
   pub input_judged : (bytes : List ℕ) → ReadsText before after bytes
-      → IsJudged (kind_of request.command) (form_of request) bytes (FindsBy request.command bytes) judged
+      → IsJudged (kind_of request.command) (manner_of request) bytes (FindsBy request.command bytes) judged
       → Judges words before after judged.status (bytes_of judged.report)
   input_judged bytes reads (inl t) = inl (record {
     request = request;

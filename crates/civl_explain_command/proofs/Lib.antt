@@ -6,3 +6,5 @@ pub mod Reports
 pub mod Sizes
 pub mod Replaying
 pub mod Promising
+pub mod Losing
+pub mod OfCivl

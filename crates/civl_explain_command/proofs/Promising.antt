@@ -20,7 +20,7 @@ use Rattle.civl_command.specs.Outcome.{survey_status, proved_status, proving_sta
 use Rattle.civl_explain_words.specs.Words.{AreWordsOf}
 use Rattle.civl_explain_words.specs.declared.words.Request.{Request}
 use Rattle.civl_explain_words.proofs.Once.{one_command}
-use Rattle.civl_explain_command.specs.Tasks.{AskForSome, form_of, kind_of}
+use Rattle.civl_explain_command.specs.Tasks.{AskForSome, manner_of, kind_of}
 use Rattle.civl_explain_command.specs.Outcome.{Outcome, TooLong, Unread, Broken, Heavy, Judged, Surveyed, Misfit, Ran, Proven, CallsFor, FindsBy, status_of}
 use Rattle.civl_explain_command.specs.Told.{IsTold}
 use Rattle.civl_explain_command.specs.Judge.{IsExplained, JudgesInput, Judges, Fails, Reads, ReadsLong, ReadsWhole, usage_text}
@@ -53,8 +53,8 @@ outcome_code (Broken program refusal) = omega arith
 outcome_code (Heavy program first) = omega arith
 outcome_code (Judged program budget v) = verdict_code v
 outcome_code (Surveyed program budget s) = survey_code s
-outcome_code (Misfit number) = omega arith
-outcome_code (Ran plain store moves) = omega arith
+outcome_code (Misfit script number) = omega arith
+outcome_code (Ran script plain store moves) = omega arith
 outcome_code (Proven outline budget found) = proving_code found
 
 no_outcome : (status : Status) (outcome : Outcome) → 3 < code_of status → status ≡ status_of outcome → ⊥
@@ -84,8 +84,8 @@ module _ (call : Call) (request : Request) (input : List ℕ) (ask : AreWordsOf 
     (stayed : Stayed call.source.faults call.source_after.faults) where
   -- what was read calls for an outcome of the input, and is told of it
   in_input : (report read : List ℕ) (outcome : Outcome) → Reads request call.source call.source_after read outcome
-      → IsTold (kind_of request.command) (form_of request) read outcome report
-      → CallsFor request.command input outcome × IsTold (kind_of request.command) (form_of request) input outcome report
+      → IsTold (kind_of request.command) (manner_of request) read outcome report
+      → CallsFor request.command input outcome × IsTold (kind_of request.command) (manner_of request) input outcome report
   in_input report read outcome (ReadsLong _ past) is =
       let taken = subst (λ (left : Option (List ℕ)). Consumes left call.source_after.left past.0) told past.1 in
       let size = consumed_part input past.0 call.source_after.left taken in
@@ -95,7 +95,7 @@ module _ (call : Call) (request : Request) (input : List ℕ) (ask : AreWordsOf 
       let taken = subst (λ (left : Option (List ℕ)). Consumes left call.source_after.left read) told reads.taken in
       let whole = consumed input read call.source_after.left taken reads.at_end in (
         inr (subst (λ (bytes : List ℕ). FindsBy request.command bytes outcome) whole.0 says),
-        subst (λ (bytes : List ℕ). IsTold (kind_of request.command) (form_of request) bytes outcome report) whole.0 is,
+        subst (λ (bytes : List ℕ). IsTold (kind_of request.command) (manner_of request) bytes outcome report) whole.0 is,
       )
 
   judged : (report : List ℕ) → Appends call.sink.bytes call.sink_after.bytes report
@@ -103,7 +103,7 @@ module _ (call : Call) (request : Request) (input : List ℕ) (ask : AreWordsOf 
   judged report grown h =
       let same : h.request ≡ request = one_command call.words h.request request h.words_are ask in
       let reads = subst (λ (r : Request). Reads r call.source call.source_after h.input h.outcome) same h.reads in
-      let is = subst (λ (r : Request). IsTold (kind_of r.command) (form_of r) h.input h.outcome report) same h.is_told in
+      let is = subst (λ (r : Request). IsTold (kind_of r.command) (manner_of r) h.input h.outcome report) same h.is_told in
       let both = in_input report h.input h.outcome reads is in
       record {
         outcome = h.outcome;

@@ -24,3 +24,7 @@ few_moves program source store steps end plain values moves plain_is h few =
     let same : plain.program ≡ program = ap (λ (p : Plain). p.program) plain_is ∙ plain_program end program in
     let threads : length plain.program.threads ≡ length program.threads = ap (λ (p : Program). length p.threads) same in
     omega (arith, threads, moves_count steps moves h.1, few)
+
+pub same_count : (source : Program) (store : List Entry) (steps : List Told) (values : Store) (moves : List Move)
+    → IsSchedule source.globals store steps (Fits values moves) → length moves ≡ length steps
+same_count source store steps values moves h = moves_count steps moves h.1

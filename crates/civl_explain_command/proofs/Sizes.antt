@@ -1,12 +1,14 @@
 -- What a text spells is no longer than the text, and a byte at which no token begins lies within it.
 use Rattle.std.specs.Prelude.{codes}
-use Rattle.std.proofs.Common.{◌≡◌, ◌≢◌, ℕ, zero, suc, ◌<◌, ◌≤◌, ◌^◌, List, [], ◌∷◌, ◌++◌, map, length, drop, Err, refl, ap, arith}
+use Rattle.std.proofs.Common.{◌≡◌, ◌≢◌, ℕ, zero, suc, ◌+◌, ◌<◌, ◌≤◌, ◌^◌, List, [], ◌∷◌, ◌++◌, map, length, drop, Err, refl, ap, arith}
 use Rattle.std.proofs.lemmas.List.{length-append}
 use Rattle.civl_tree.specs.declared.program.Program.{Program}
+use Rattle.civl_tree.specs.declared.script.Entry.{Entry}
 use Rattle.civl_tree.specs.declared.script.Script.{Script}
+use Rattle.civl_tree.specs.declared.script.Told.{Told}
 use Rattle.civl_tree.specs.Spelling.{joined}
 use Rattle.civl_tree.specs.SpellingProgram.{spell_program}
-use Rattle.civl_tree.specs.SpellingScript.{spell_entry, spell_step}
+use Rattle.civl_tree.specs.SpellingScript.{spell_entry, spell_script, spell_step}
 use Rattle.civl_tree.specs.Token.{Token, Reserved}
 use Rattle.civl_script.proofs.Counting.{tokens_within}
 use Rattle.civl_outlines.specs.declared.outline.Outline.{Outline}
@@ -31,6 +33,30 @@ script_short bytes script h short =
       length-append (spell_program script.program) (Reserved (codes "schedule") ∷ joined (map spell_entry script.store) ++ joined (map spell_step script.moves)),
       short,
     )
+
+entry_some : (entry : Entry) → 0 < length (spell_entry entry)
+entry_some entry = omega arith
+
+step_some : (told : Told) → 0 < length (spell_step told)
+step_some told = omega arith
+
+each_some : {X : Type 0} (spell : X → List Token) → ((x : X) → 0 < length (spell x)) → (xs : List X) → length xs ≤ length (joined (map spell xs))
+each_some spell some [] = omega arith
+each_some spell some (x ∷ xs) = omega (arith, each_some spell some xs, some x, length-append (spell x) (joined (map spell xs)))
+
+-- entries and moves are no more than tokens
+pub parts_within : (script : Script) → length script.store + length script.moves ≤ length (spell_script script)
+parts_within script =
+    omega (
+      arith,
+      each_some spell_entry entry_some script.store,
+      each_some spell_step step_some script.moves,
+      length-append (spell_program script.program) (Reserved (codes "schedule") ∷ joined (map spell_entry script.store) ++ joined (map spell_step script.moves)),
+      length-append (joined (map spell_entry script.store)) (joined (map spell_step script.moves)),
+    )
+
+pub script_whole : (bytes : List ℕ) (script : Script) → SpellsScript bytes script → length bytes ≤ limit → length (spell_script script) < 2 ^ 64
+script_whole bytes script h short = omega (arith, tokens_within bytes h.spells.tokens h.spells.has, ap length h.spells.spelled.1, short)
 
 pub outline_short : (bytes : List ℕ) (outline : Outline) → SpellsOutline bytes outline → length bytes ≤ limit
     → length (spell_program outline.program) < 2 ^ 64

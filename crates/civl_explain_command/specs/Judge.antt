@@ -9,27 +9,27 @@ use Rattle.civl_frontend.specs.Told.{WantsMemory, Fails as FailsOf}
 use Rattle.civl_frontend.specs.declared.judged.Judged.{Judged}
 use Rattle.civl_frontend.specs.declared.status.Status.{Status}
 use Rattle.civl_expected.specs.declared.kind.TextKind.{TextKind}
-use Rattle.civl_lines.specs.declared.render.Form.{Form}
+use Rattle.civl_explain_command.specs.declared.manner.Manner.{Manner}
 use Rattle.civl_explain_words.specs.Words.{AreWordsOf}
 use Rattle.civl_explain_words.specs.declared.words.Request.{Request}
-use Rattle.civl_explain_command.specs.Tasks.{AskForSome, form_of, kind_of}
+use Rattle.civl_explain_command.specs.Tasks.{AskForSome, manner_of, kind_of}
 use Rattle.civl_explain_command.specs.Outcome.{Outcome, TooLong, FindsBy, status_of}
 use Rattle.civl_explain_command.specs.Told.{IsTold}
 
 abbrev pub usage_text : List ℕ
-usage_text = line (codes "usage: civl_explain check|conditions|run|prove [--lines]")
+usage_text = line (codes "usage: civl_explain check|conditions|run|prove [--lines] [--assumed]")
 
 -- the status and the report tell an outcome of which this is so
-pub record Tells (kind : TextKind) (form : Form) (input : List ℕ) (says : Outcome → Type 0) (status : Status) (report : List ℕ) : Type 0 where
+pub record Tells (kind : TextKind) (manner : Manner) (input : List ℕ) (says : Outcome → Type 0) (status : Status) (report : List ℕ) : Type 0 where
   pub outcome : Outcome
   pub says_so : says outcome
   pub status_is : status ≡ status_of outcome
-  pub is_told : IsTold kind form input outcome report
+  pub is_told : IsTold kind manner input outcome report
 
 -- the same of what is judged, or memory is wanting
-abbrev pub IsJudged : TextKind → Form → List ℕ → (Outcome → Type 0) → Judged → Type 0
-IsJudged kind form input says judged =
-    Tells kind form input says judged.status (bytes_of judged.report) ⊎ WantsMemory judged.status (bytes_of judged.report)
+abbrev pub IsJudged : TextKind → Manner → List ℕ → (Outcome → Type 0) → Judged → Type 0
+IsJudged kind manner input says judged =
+    Tells kind manner input says judged.status (bytes_of judged.report) ⊎ WantsMemory judged.status (bytes_of judged.report)
 
 -- the whole input was read, which is these bytes, and that is found of it; or more than it may have was read
 pub data Reads (request : Request) (before after : ReadState) : List ℕ → Outcome → Type 0 where
@@ -45,7 +45,7 @@ pub record JudgesInput (words : List (List ℕ)) (before after : ReadState) (sta
   pub outcome : Outcome
   pub reads : Reads request before after input outcome
   pub status_is : status ≡ status_of outcome
-  pub is_told : IsTold (kind_of request.command) (form_of request) input outcome report
+  pub is_told : IsTold (kind_of request.command) (manner_of request) input outcome report
 
 -- there is no such outcome, since the source failed, the words ask for nothing, or memory is wanting, at the words already where they
 -- ask for nothing

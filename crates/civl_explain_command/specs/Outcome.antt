@@ -27,7 +27,8 @@ use Rattle.civl_explain_words.specs.declared.words.Command.TheVariants.{Check, C
 
 -- the input is longer than it may be; it spells nothing, with its first fault; its program breaks a static rule, with the first; a formula
 -- weighs too much, with the first; its program has this verdict, or this is found of its conditions; its store or its moves don't fit, with
--- the number of the first that doesn't; its moves run from its store in this plain program; or this is found of it as an outline
+-- the script and the number of the first that doesn't; its moves run from its store in this plain program, with the script; or this is found
+-- of it as an outline
 pub data Outcome : Type 0 where
   TooLong : ℕ → Outcome
   Unread : Fault → Outcome
@@ -35,8 +36,8 @@ pub data Outcome : Type 0 where
   Heavy : Program → Option Condition → Outcome
   Judged : Program → ℕ → Verdict → Outcome
   Surveyed : Program → ℕ → Survey → Outcome
-  Misfit : ℕ → Outcome
-  Ran : Plain → Store → List Move → Outcome
+  Misfit : Script → ℕ → Outcome
+  Ran : Script → Plain → Store → List Move → Outcome
   Proven : Outline → ℕ → Proving → Outcome
 
 -- what `civl` finds there
@@ -47,8 +48,8 @@ of_civl (Broken program refusal) = CivlBroken refusal
 of_civl (Heavy program first) = CivlHeavy program first
 of_civl (Judged program budget verdict) = CivlJudged program budget verdict
 of_civl (Surveyed program budget survey) = CivlSurveyed program budget survey
-of_civl (Misfit number) = CivlMisfit number
-of_civl (Ran plain store moves) = CivlRan plain.program (trace_of plain store moves)
+of_civl (Misfit script number) = CivlMisfit number
+of_civl (Ran script plain store moves) = CivlRan plain.program (trace_of plain store moves)
 of_civl (Proven outline budget found) = CivlProven outline budget found
 
 -- the status of an outcome, and what `civl` reports of it
@@ -75,9 +76,10 @@ Outlines budget outline outcome = IsOf outline.program outcome × Proves budget 
 
 -- `run`: the plain program is that of the script, and the store and the moves are the script's
 abbrev pub Traces : (Program → Plain) → Script → Outcome → Type 0
-Traces plain_of script (Ran plain store moves) =
-    (plain ≡ plain_of script.program) × (plain.program ≡ script.program) × IsLawful script.program
+Traces plain_of script (Ran told plain store moves) =
+    (told ≡ script) × (plain ≡ plain_of script.program) × (plain.program ≡ script.program) × IsLawful script.program
     × IsSchedule script.program.globals script.store script.moves (Fits store moves)
+Traces plain_of script (Misfit told number) = (told ≡ script) × Runs plain_of script (of_civl (Misfit told number))
 Traces plain_of script outcome = IsOf script.program outcome × Runs plain_of script (of_civl outcome)
 
 -- of what is read: as this says of the program, script or outline, or its first fault

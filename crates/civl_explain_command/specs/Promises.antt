@@ -6,7 +6,7 @@ use Rattle.civl_frontend.specs.Streams.{Writes}
 use Rattle.civl_frontend.specs.declared.status.Status.TheVariants.{Memory}
 use Rattle.civl_explain_words.specs.Words.{AreWordsOf}
 use Rattle.civl_explain_words.specs.declared.words.Request.{Request}
-use Rattle.civl_explain_command.specs.Tasks.{form_of, kind_of}
+use Rattle.civl_explain_command.specs.Tasks.{manner_of, kind_of}
 use Rattle.civl_explain_command.specs.Outcome.{Outcome, CallsFor, CivlCallsFor, of_civl, status_of}
 use Rattle.civl_explain_command.specs.Told.{IsTold}
 use Rattle.civl_explain_command.specs.Judge.{IsExplained}
@@ -19,7 +19,7 @@ pub record Answers (call : Call) (request : Request) (input : List ℕ) : Type 0
   pub as_civl : CivlCallsFor request.command input (of_civl outcome)
   pub status_is : call.status ≡ status_of outcome
   pub report : List ℕ
-  pub is_told : IsTold (kind_of request.command) (form_of request) input outcome report
+  pub is_told : IsTold (kind_of request.command) (manner_of request) input outcome report
   pub written : Writes call.sink call.sink_after report
 
 -- What is so of each call, whatever its words are, its source and its sink.

@@ -6,7 +6,7 @@ use Rattle.civl_explain_words.specs.declared.words.Command.TheVariants as word
 use Rattle.civl_explain_words.specs.declared.words.Request.{Request}
 use Rattle.civl_expected.specs.declared.kind.TextKind.{TextKind}
 use Rattle.civl_expected.specs.declared.kind.TextKind.TheVariants as text
-use Rattle.civl_lines.specs.declared.render.Form.{Form}
+use Rattle.civl_explain_command.specs.declared.manner.Manner.{Manner}
 use Rattle.civl_lines.specs.declared.render.Form.TheVariants.{Story, Findings}
 
 -- what its input is: a program, a script or an outline
@@ -16,9 +16,9 @@ kind_of word.RunTop = text.Script
 kind_of (word.Prove budget) = text.Outline
 kind_of _ = text.Program
 
--- how places are told
-abbrev pub form_of : Request → Form
-form_of request = if request.by_lines then Findings else Story
+-- how stories are told
+abbrev pub manner_of : Request → Manner
+manner_of request = record { form = if request.by_lines then Findings else Story; assumed = request.assumed }
 
 -- the words ask for something
 abbrev pub AskForSome : List (List ℕ) → Type 0

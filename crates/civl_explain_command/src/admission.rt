@@ -25,7 +25,7 @@ fn report_broken(
     refusal: Refusal,
 ) -> Result<Vec<u8>, Memory>
     requires short { length (spell_program program.now) < 2 ^ 64 }
-    ensures { IfOk result (λ out. IsTold input.now.kind input.now.form input.now.bytes.now (Broken program.now refusal) out.items) }
+    ensures { IfOk result (λ out. IsTold input.now.kind input.now.manner input.now.bytes.now (Broken program.now refusal) out.items) }
 {
     let found = all_tokens(alloc, input.bytes)?;
     let text = Text {
@@ -33,14 +33,14 @@ fn report_broken(
         tokens: found.as_slice(),
     };
     let mut out = report_refusal(alloc, refusal)?;
-    put_refusal(alloc, &mut out, input.form, &text, program, refusal)?;
+    put_refusal(alloc, &mut out, input.manner.form, &text, program, refusal)?;
     Ok(out)
 }
 
 /// What is written of a program that breaks a static rule.
 fn refuse(alloc: Global, input: &Input<'_>, program: &Program, refusal: Refusal) -> Judged
     requires short { length (spell_program program.now) < 2 ^ 64 }
-    ensures { IsJudged input.now.kind input.now.form input.now.bytes.now (λ outcome. outcome ≡ Broken program.now refusal) result }
+    ensures { IsJudged input.now.kind input.now.manner input.now.bytes.now (λ outcome. outcome ≡ Broken program.now refusal) result }
 {
     let Ok(report) = report_broken(alloc, input, program, refusal) else {
         return Judged::wanting();
@@ -54,7 +54,7 @@ pub(crate) fn admit(alloc: Global, input: &Input<'_>, program: &Program) -> Resu
     requires short { length (spell_program program.now) < 2 ^ 64 }
     ensures same { IfOk result (λ admitted. admitted ≡ program.now) }
     ensures lawful { IfOk result (λ admitted. IsLawful program.now) }
-    ensures refused { IfErr result (IsJudged input.now.kind input.now.form input.now.bytes.now (IsBroken program.now)) }
+    ensures refused { IfErr result (IsJudged input.now.kind input.now.manner input.now.bytes.now (IsBroken program.now)) }
 {
     let Ok(copy) = copy_program(alloc, program) else {
         return Err(Judged::wanting());

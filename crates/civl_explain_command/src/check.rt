@@ -23,7 +23,7 @@ use civl_layers::{Layered, program};
 use civl_lines::Text;
 use civl_maker::Maker;
 use civl_portfolio::Prover;
-use civl_refusals::put_no_initial;
+use civl_refusals::{put_heavy, put_no_initial};
 use civl_tree::{Memory, Program};
 use civl_verdicts::Verdict;
 use civl_verdicts::judging::verify;
@@ -50,7 +50,7 @@ pub(crate) fn put_verdict(
     requires held { told.now.held.now.cuts ≡ all_held told.now.src.now }
     requires short { length (spell_program told.now.src.now) < 2 ^ 64 }
     ensures { OnOk result (TellsBehind input.now.bytes.now out.old.items out.new.items
-        (λ tokens. verdict_behind input.now.form input.now.bytes.now tokens told.now.src.now verdict.now)) }
+        (λ tokens. verdict_behind input.now.manner input.now.bytes.now tokens told.now.src.now verdict.now)) }
 {
     let found = all_tokens(alloc, input.bytes)?;
     let text = Text {
@@ -61,13 +61,13 @@ pub(crate) fn put_verdict(
         Verdict::Rejected(counter) => put_story(
             alloc,
             out,
-            input.form,
+            input.manner,
             &text,
             told,
             &counter.condition,
             counter.values.as_slice(),
         ),
-        Verdict::NoInitial => put_no_initial(out, input.form, &text, program(told.src)),
+        Verdict::NoInitial => put_no_initial(out, input.manner.form, &text, program(told.src)),
         Verdict::Accepted(_) => Ok(()),
         Verdict::Undecided(_, _) => Ok(()),
     }
@@ -84,7 +84,7 @@ fn report_told(
     requires verdict { IsVerdict told.now.src.now budget verdict.now }
     requires held { told.now.held.now.cuts ≡ all_held told.now.src.now }
     requires short { length (spell_program told.now.src.now) < 2 ^ 64 }
-    ensures { IfOk result (λ out. IsTold input.now.kind input.now.form input.now.bytes.now
+    ensures { IfOk result (λ out. IsTold input.now.kind input.now.manner input.now.bytes.now
         (JudgedBy told.now.src.now budget verdict.now) out.items) }
 {
     let mut out = report_verdict(alloc, told.src, budget, verdict)?;
@@ -103,7 +103,7 @@ fn decided(
     requires verdict { IsVerdict told.now.src.now budget verdict.now }
     requires held { told.now.held.now.cuts ≡ all_held told.now.src.now }
     requires short { length (spell_program told.now.src.now) < 2 ^ 64 }
-    ensures { IsJudged input.now.kind input.now.form input.now.bytes.now (λ outcome. outcome ≡ JudgedBy told.now.src.now budget verdict.now) result }
+    ensures { IsJudged input.now.kind input.now.manner input.now.bytes.now (λ outcome. outcome ≡ JudgedBy told.now.src.now budget verdict.now) result }
 {
     let Ok(report) = report_told(alloc, input, told, budget, verdict) else {
         return Judged::wanting();
@@ -121,10 +121,16 @@ fn report_weight(
     src: &Layered,
     formula: Option<Condition>,
 ) -> Result<Vec<u8>, Memory>
-    ensures { IfOk result (λ out. IsTold input.now.kind input.now.form input.now.bytes.now (Heavy src.now formula) out.items) }
+    requires { length (spell_program src.now) < 2 ^ 64 }
+    ensures { IfOk result (λ out. IsTold input.now.kind input.now.manner input.now.bytes.now (Heavy src.now formula) out.items) }
 {
-    let _found = all_tokens(alloc, input.bytes)?;
-    let out = report_heavy(alloc, src, formula)?;
+    let found = all_tokens(alloc, input.bytes)?;
+    let text = Text {
+        bytes: input.bytes,
+        tokens: found.as_slice(),
+    };
+    let mut out = report_heavy(alloc, src, formula)?;
+    put_heavy(alloc, &mut out, input.manner.form, &text, src, formula)?;
     Ok(out)
 }
 
@@ -135,7 +141,8 @@ pub(crate) fn too_heavy(
     src: &Layered,
     formula: Option<Condition>,
 ) -> Judged
-    ensures { IsJudged input.now.kind input.now.form input.now.bytes.now (λ outcome. outcome ≡ Heavy src.now formula) result }
+    requires { length (spell_program src.now) < 2 ^ 64 }
+    ensures { IsJudged input.now.kind input.now.manner input.now.bytes.now (λ outcome. outcome ≡ Heavy src.now formula) result }
 {
     let Ok(report) = report_weight(alloc, input, src, formula) else {
         return Judged::wanting();
@@ -154,7 +161,7 @@ fn check_admitted(
     requires rules { IsLawful admitted.now }
     requires written { IsTrue (allows_program admitted.now) }
     requires short { length (spell_program admitted.now) < 2 ^ 64 }
-    ensures { IsJudged input.now.kind input.now.form input.now.bytes.now (Explains (Checks budget) admitted.now) result }
+    ensures { IsJudged input.now.kind input.now.manner input.now.bytes.now (Explains (Checks budget) admitted.now) result }
 {
     let told = Told {
         src: source(admitted),
@@ -178,7 +185,7 @@ fn check_program(
     requires numbered { IsNumbered program.now }
     requires written { IsTrue (allows_program program.now) }
     requires short { length (spell_program program.now) < 2 ^ 64 }
-    ensures { IsJudged input.now.kind input.now.form input.now.bytes.now (Explains (Checks budget) program.now) result }
+    ensures { IsJudged input.now.kind input.now.manner input.now.bytes.now (Explains (Checks budget) program.now) result }
 {
     match admit(alloc, input, program) {
         Ok(admitted) => check_admitted(alloc, input, budget, &admitted, provers),
@@ -194,7 +201,7 @@ pub(crate) fn check_text(
     provers: &mut Vec<Box<dyn Prover>>,
 ) -> Judged
     requires { length input.now.bytes.now ≤ limit }
-    ensures { IsJudged input.now.kind input.now.form input.now.bytes.now (Finds IsReading (Explains (Checks budget)) input.now.bytes.now) result }
+    ensures { IsJudged input.now.kind input.now.manner input.now.bytes.now (Finds IsReading (Explains (Checks budget)) input.now.bytes.now) result }
 {
     match read_program(alloc, input.bytes) {
         Read::Spelled(program) => check_program(alloc, input, budget, &program, provers),

@@ -22,10 +22,11 @@ use crate::admission::admit;
 use crate::check::too_heavy;
 use crate::condition::{Told, put_story};
 use crate::judged::{Input, all_tokens, judge_fault};
+use crate::manner::Manner;
 use civl_conditions::{Condition, listed, name};
 use civl_frontend::{Judged, Report, Status, Text as Read, read_program};
 use civl_layers::program;
-use civl_lines::{Form, Text};
+use civl_lines::Text;
 use civl_maker::Maker;
 use civl_portfolio::Prover;
 use civl_refusals::put_no_initial;
@@ -37,10 +38,10 @@ use civl_weights::TooMuch;
 use civl_yields::verify::{Admitted, locals_held, source};
 use std::alloc::Global;
 
-/// A text and the form in which its places are told.
+/// A text and how its stories are told.
 #[derive(Clone, Copy)]
 struct Written<'a> {
-    form: Form,
+    manner: Manner,
     text: &'a Text<'a>,
 }
 
@@ -58,7 +59,7 @@ fn put_failed(
     requires short { length (spell_program told.now.src.now) < 2 ^ 64 }
     requires tokens { AreTokens written.now.text.now.bytes.now written.now.text.now.tokens.now }
     ensures { OnOk result (out.new.items ≡ out.old.items ++ (line (name_text told.now.src.now condition.now)
-        ++ story_text written.now.form written.now.text.now.bytes.now written.now.text.now.tokens.now told.now.src.now condition.now counter.now.values)) }
+        ++ story_text written.now.manner written.now.text.now.bytes.now written.now.text.now.tokens.now told.now.src.now condition.now counter.now.values)) }
 {
     let name = name(alloc, told.src, condition)?;
     put(out, name.as_slice())?;
@@ -66,7 +67,7 @@ fn put_failed(
     put_story(
         alloc,
         out,
-        written.form,
+        written.manner,
         written.text,
         told,
         condition,
@@ -88,7 +89,7 @@ fn put_found(
     requires short { length (spell_program told.now.src.now) < 2 ^ 64 }
     requires tokens { AreTokens written.now.text.now.bytes.now written.now.text.now.tokens.now }
     ensures { OnOk result (out.new.items ≡ out.old.items
-        ++ found_story written.now.form written.now.text.now.bytes.now written.now.text.now.tokens.now told.now.src.now condition.now found.now) }
+        ++ found_story written.now.manner written.now.text.now.bytes.now written.now.text.now.tokens.now told.now.src.now condition.now found.now) }
 {
     match found {
         Found::Fails(counter) => put_failed(alloc, out, written, told, condition, counter),
@@ -111,7 +112,7 @@ fn put_all(
     requires short { length (spell_program told.now.src.now) < 2 ^ 64 }
     requires tokens { AreTokens written.now.text.now.bytes.now written.now.text.now.tokens.now }
     ensures { OnOk result (out.new.items ≡ out.old.items
-        ++ beside (found_story written.now.form written.now.text.now.bytes.now written.now.text.now.tokens.now told.now.src.now) list.now findings.now) }
+        ++ beside (found_story written.now.manner written.now.text.now.bytes.now written.now.text.now.tokens.now told.now.src.now) list.now findings.now) }
 {
     for at in 0..list.len().min(findings.len()) {
         put_found(alloc, out, written, told, list.get(at), findings.get(at))?;
@@ -131,7 +132,7 @@ fn put_stories(
     requires short { length (spell_program told.now.src.now) < 2 ^ 64 }
     requires tokens { AreTokens written.now.text.now.bytes.now written.now.text.now.tokens.now }
     ensures { OnOk result (out.new.items ≡ out.old.items
-        ++ survey_stories written.now.form written.now.text.now.bytes.now written.now.text.now.tokens.now told.now.src.now findings.now) }
+        ++ survey_stories written.now.manner written.now.text.now.bytes.now written.now.text.now.tokens.now told.now.src.now findings.now) }
 {
     let list = listed(alloc, told.src)?;
     put_all(alloc, out, written, told, &list, findings)
@@ -149,10 +150,15 @@ fn put_survey(
     requires short { length (spell_program told.now.src.now) < 2 ^ 64 }
     requires tokens { AreTokens written.now.text.now.bytes.now written.now.text.now.tokens.now }
     ensures { OnOk result (out.new.items ≡ out.old.items
-        ++ survey_behind written.now.form written.now.text.now.bytes.now written.now.text.now.tokens.now told.now.src.now survey.now) }
+        ++ survey_behind written.now.manner written.now.text.now.bytes.now written.now.text.now.tokens.now told.now.src.now survey.now) }
 {
     match survey {
-        Survey::NoInitial => put_no_initial(out, written.form, written.text, program(told.src)),
+        Survey::NoInitial => put_no_initial(
+            out,
+            written.manner.form,
+            written.text,
+            program(told.src),
+        ),
         Survey::Findings(_, findings) => put_stories(alloc, out, written, told, findings),
     }
 }
@@ -167,7 +173,7 @@ fn report_told(
 ) -> Result<Vec<u8>, Memory>
     requires held { told.now.held.now.cuts ≡ all_held told.now.src.now }
     requires short { length (spell_program told.now.src.now) < 2 ^ 64 }
-    ensures { IfOk result (λ out. IsTold input.now.kind input.now.form input.now.bytes.now
+    ensures { IfOk result (λ out. IsTold input.now.kind input.now.manner input.now.bytes.now
         (Surveyed told.now.src.now budget survey.now) out.items) }
 {
     let found = all_tokens(alloc, input.bytes)?;
@@ -176,7 +182,7 @@ fn report_told(
         tokens: found.as_slice(),
     };
     let written = Written {
-        form: input.form,
+        manner: input.manner,
         text: &text,
     };
     let mut out = report_survey(alloc, told.src, budget, survey)?;
@@ -204,7 +210,7 @@ fn surveyed(
 ) -> Judged
     requires held { told.now.held.now.cuts ≡ all_held told.now.src.now }
     requires short { length (spell_program told.now.src.now) < 2 ^ 64 }
-    ensures { IsJudged input.now.kind input.now.form input.now.bytes.now (λ outcome. outcome ≡ Surveyed told.now.src.now budget survey.now) result }
+    ensures { IsJudged input.now.kind input.now.manner input.now.bytes.now (λ outcome. outcome ≡ Surveyed told.now.src.now budget survey.now) result }
 {
     let Ok(report) = report_told(alloc, input, told, budget, survey) else {
         return Judged::wanting();
@@ -226,7 +232,7 @@ fn survey_admitted(
     requires rules { IsLawful admitted.now }
     requires written { IsTrue (allows_program admitted.now) }
     requires short { length (spell_program admitted.now) < 2 ^ 64 }
-    ensures { IsJudged input.now.kind input.now.form input.now.bytes.now (Explains (Surveys budget) admitted.now) result }
+    ensures { IsJudged input.now.kind input.now.manner input.now.bytes.now (Explains (Surveys budget) admitted.now) result }
 {
     let told = Told {
         src: source(admitted),
@@ -250,7 +256,7 @@ fn survey_program(
     requires numbered { IsNumbered program.now }
     requires written { IsTrue (allows_program program.now) }
     requires short { length (spell_program program.now) < 2 ^ 64 }
-    ensures { IsJudged input.now.kind input.now.form input.now.bytes.now (Explains (Surveys budget) program.now) result }
+    ensures { IsJudged input.now.kind input.now.manner input.now.bytes.now (Explains (Surveys budget) program.now) result }
 {
     match admit(alloc, input, program) {
         Ok(admitted) => survey_admitted(alloc, input, budget, &admitted, provers),
@@ -266,7 +272,7 @@ pub(crate) fn survey_text(
     provers: &mut Vec<Box<dyn Prover>>,
 ) -> Judged
     requires { length input.now.bytes.now ≤ limit }
-    ensures { IsJudged input.now.kind input.now.form input.now.bytes.now (Finds IsReading (Explains (Surveys budget)) input.now.bytes.now) result }
+    ensures { IsJudged input.now.kind input.now.manner input.now.bytes.now (Finds IsReading (Explains (Surveys budget)) input.now.bytes.now) result }
 {
     match read_program(alloc, input.bytes) {
         Read::Spelled(program) => survey_program(alloc, input, budget, &program, provers),

@@ -1,16 +1,17 @@
 // What the words and the input call for.
-ghost use Rattle.std.specs.Prelude.{◌≡◌, ◌≤◌, ℕ, List, length, map, string_bytes};
+ghost use Rattle.std.specs.Prelude.{◌≡◌, ◌≤◌, ℕ, List, length, map, string_bytes, if◌then◌else◌};
 ghost use Rattle.civl_explain_words.specs.Words.{AreWordsOf};
 ghost use Rattle.civl_frontend.specs.Report.{bytes_of};
 ghost use Rattle.civl_frontend.specs.Streams.{reading};
 ghost use Rattle.civl_frontend.specs.Texts.{limit};
-ghost use Rattle.civl_explain_command.specs.Tasks.{AskForSome, AskProvers, AsksProvers, form_of, kind_of};
+ghost use Rattle.civl_explain_command.specs.Tasks.{AskForSome, AskProvers, AsksProvers, manner_of, kind_of};
 ghost use Rattle.civl_explain_command.specs.Outcome.{FindsBy};
 ghost use Rattle.civl_explain_command.specs.Judge.{IsJudged, Judges};
 
 use crate::check::check_text;
 use crate::conditions::survey_text;
 use crate::judged::{Input, too_long, usage};
+use crate::manner::Manner;
 use crate::prove::prove_text;
 use crate::run::{End, run_text};
 use civl_expected::TextKind;
@@ -34,14 +35,24 @@ fn kind_of(command: Command) -> TextKind
     }
 }
 
-/// How places are told.
-fn form_of(request: Request) -> Form
-    ensures { result ≡ form_of request }
+/// The form of the lines of stories.
+fn form_of(by_lines: bool) -> Form
+    ensures { result ≡ if by_lines then Form.Findings else Form.Story }
 {
-    if request.by_lines {
+    if by_lines {
         Form::Findings
     } else {
         Form::Story
+    }
+}
+
+/// How stories are told.
+fn manner_of(request: Request) -> Manner
+    ensures { result ≡ manner_of request }
+{
+    Manner {
+        form: form_of(request.by_lines),
+        assumed: request.assumed,
     }
 }
 
@@ -53,7 +64,7 @@ fn judge_text(
     provers: &mut Vec<Box<dyn Prover>>,
 ) -> Judged
     requires { length input.now.bytes.now ≤ limit }
-    ensures judged { IsJudged input.now.kind input.now.form input.now.bytes.now (FindsBy command input.now.bytes.now) result }
+    ensures judged { IsJudged input.now.kind input.now.manner input.now.bytes.now (FindsBy command input.now.bytes.now) result }
     ensures unasked { (AsksProvers command → ⊥) → provers.new ≡ provers.old }
 {
     match command {
@@ -73,12 +84,12 @@ fn judge_bytes(
     provers: &mut Vec<Box<dyn Prover>>,
 ) -> Judged
     requires { length bytes.now ≤ limit }
-    ensures judged { IsJudged (kind_of request.command) (form_of request) bytes.now (FindsBy request.command bytes.now) result }
+    ensures judged { IsJudged (kind_of request.command) (manner_of request) bytes.now (FindsBy request.command bytes.now) result }
     ensures unasked { (AsksProvers request.command → ⊥) → provers.new ≡ provers.old }
 {
     let input = Input {
         kind: kind_of(request.command),
-        form: form_of(request),
+        manner: manner_of(request),
         bytes,
     };
     judge_text(alloc, request.command, &input, provers)
@@ -99,7 +110,7 @@ fn judge_input<S: Source>(
 {
     match read_whole(alloc, source, LIMIT) {
         Whole::Bytes(bytes) => judge_bytes(alloc, request, bytes.as_slice(), provers),
-        Whole::Long => too_long(alloc, kind_of(request.command), form_of(request), LIMIT),
+        Whole::Long => too_long(alloc, kind_of(request.command), manner_of(request), LIMIT),
         Whole::Failed => Judged {
             status: Status::ReadFault,
             report: Report::Fixed(b""),

@@ -8,19 +8,20 @@ ghost use Rattle.civl_explain_command.specs.Judge.{IsJudged, usage_text};
 ghost use Rattle.civl_refusals.specs.Refusals.{expected_text};
 ghost use Rattle.civl_explain_command.specs.inner.Read.{IsWithin};
 
+use crate::manner::Manner;
 use civl_expected::{Expected, TextKind, expected_at};
 use civl_frontend::{Fault, Judged, Report, Status, report_fault, report_long};
 use civl_lex::{Token, tokens};
-use civl_lines::{Form, Text};
+use civl_lines::Text;
 use civl_refusals::{put_at, put_expected, put_fault};
 use civl_tree::Memory;
 use std::alloc::Global;
 
-/// An input that is read, its kind and the form in which places are told.
+/// An input that is read, its kind, and how stories are told of it.
 #[derive(Clone, Copy)]
 pub(crate) struct Input<'a> {
     pub kind: TextKind,
-    pub form: Form,
+    pub manner: Manner,
     pub bytes: &'a [u8],
 }
 
@@ -31,7 +32,9 @@ pub(crate) fn usage() -> Judged
 {
     Judged {
         status: Status::Usage,
-        report: Report::Fixed(b"usage: civl_explain check|conditions|run|prove [--lines]\n"),
+        report: Report::Fixed(
+            b"usage: civl_explain check|conditions|run|prove [--lines] [--assumed]\n",
+        ),
     }
 }
 
@@ -57,8 +60,8 @@ pub(crate) fn refused(report: Vec<u8>) -> Judged
 }
 
 /// What is written of a text that is longer than it may be.
-pub(crate) fn too_long(alloc: Global, kind: TextKind, form: Form, most: usize) -> Judged
-    ensures { (input : List ℕ) → IsJudged kind form input (λ outcome. outcome ≡ TooLong most) result }
+pub(crate) fn too_long(alloc: Global, kind: TextKind, manner: Manner, most: usize) -> Judged
+    ensures { (input : List ℕ) → IsJudged kind manner input (λ outcome. outcome ≡ TooLong most) result }
 {
     let Ok(report) = report_long(alloc, most) else {
         return Judged::wanting();
@@ -69,12 +72,12 @@ pub(crate) fn too_long(alloc: Global, kind: TextKind, form: Form, most: usize) -
 /// The report of a byte at which no token begins.
 fn report_byte(alloc: Global, input: &Input<'_>, place: usize) -> Result<Vec<u8>, Memory>
     requires { place ≤ length input.now.bytes.now }
-    ensures { IfOk result (λ out. IsTold input.now.kind input.now.form input.now.bytes.now (Unread (Fault.NoToken place)) out.items) }
+    ensures { IfOk result (λ out. IsTold input.now.kind input.now.manner input.now.bytes.now (Unread (Fault.NoToken place)) out.items) }
 {
     let mut out = report_fault(alloc, Fault::NoToken(place))?;
     put_fault(
         &mut out,
-        input.form,
+        input.manner.form,
         input.bytes,
         place,
         b"no token begins here",
@@ -100,19 +103,19 @@ fn put_not_here(
 ) -> Result<Vec<u8>, Memory>
     requires bytes { text.now.bytes.now ≡ input.now.bytes.now }
     requires tokens { AreTokens text.now.bytes.now text.now.tokens.now }
-    ensures { IfOk result (λ out. IsTold input.now.kind input.now.form input.now.bytes.now (Unread (Fault.NotHere place)) out.items) }
+    ensures { IfOk result (λ out. IsTold input.now.kind input.now.manner input.now.bytes.now (Unread (Fault.NotHere place)) out.items) }
 {
     let behind = place.min(text.tokens.len());
     let expected = expected_at(alloc, text.tokens, behind, input.kind)?;
     let said = expected_text(alloc, &expected)?;
     let mut out = report_fault(alloc, Fault::NotHere(place))?;
-    put_at(&mut out, input.form, text, place, said.as_slice())?;
+    put_at(&mut out, input.manner.form, text, place, said.as_slice())?;
     Ok(out)
 }
 
 /// The report of a token that can't stand where it does.
 fn report_not_here(alloc: Global, input: &Input<'_>, place: usize) -> Result<Vec<u8>, Memory>
-    ensures { IfOk result (λ out. IsTold input.now.kind input.now.form input.now.bytes.now (Unread (Fault.NotHere place)) out.items) }
+    ensures { IfOk result (λ out. IsTold input.now.kind input.now.manner input.now.bytes.now (Unread (Fault.NotHere place)) out.items) }
 {
     let found = all_tokens(alloc, input.bytes)?;
     let text = Text {
@@ -125,7 +128,7 @@ fn report_not_here(alloc: Global, input: &Input<'_>, place: usize) -> Result<Vec
 
 /// The report of a token that opens one bracket too many.
 fn report_deep(alloc: Global, input: &Input<'_>, place: usize) -> Result<Vec<u8>, Memory>
-    ensures { IfOk result (λ out. IsTold input.now.kind input.now.form input.now.bytes.now (Unread (Fault.Deep place)) out.items) }
+    ensures { IfOk result (λ out. IsTold input.now.kind input.now.manner input.now.bytes.now (Unread (Fault.Deep place)) out.items) }
 {
     let found = all_tokens(alloc, input.bytes)?;
     let text = Text {
@@ -135,7 +138,7 @@ fn report_deep(alloc: Global, input: &Input<'_>, place: usize) -> Result<Vec<u8>
     let mut out = report_fault(alloc, Fault::Deep(place))?;
     put_at(
         &mut out,
-        input.form,
+        input.manner.form,
         &text,
         place,
         b"this opens the 65th bracket",
@@ -146,7 +149,7 @@ fn report_deep(alloc: Global, input: &Input<'_>, place: usize) -> Result<Vec<u8>
 /// The report of the first fault of a text.
 fn report_unread(alloc: Global, input: &Input<'_>, fault: Fault) -> Result<Vec<u8>, Memory>
     requires { IsWithin input.now.bytes.now fault }
-    ensures { IfOk result (λ out. IsTold input.now.kind input.now.form input.now.bytes.now (Unread fault) out.items) }
+    ensures { IfOk result (λ out. IsTold input.now.kind input.now.manner input.now.bytes.now (Unread fault) out.items) }
 {
     match fault {
         Fault::NoToken(place) => report_byte(alloc, input, place),
@@ -158,7 +161,7 @@ fn report_unread(alloc: Global, input: &Input<'_>, fault: Fault) -> Result<Vec<u
 /// What is written of the first fault of a text.
 pub(crate) fn judge_fault(alloc: Global, input: &Input<'_>, fault: Fault) -> Judged
     requires { IsWithin input.now.bytes.now fault }
-    ensures { IsJudged input.now.kind input.now.form input.now.bytes.now (λ outcome. outcome ≡ Unread fault) result }
+    ensures { IsJudged input.now.kind input.now.manner input.now.bytes.now (λ outcome. outcome ≡ Unread fault) result }
 {
     let Ok(report) = report_unread(alloc, input, fault) else {
         return Judged::wanting();

@@ -11,6 +11,7 @@ mod conditions;
 mod judge;
 mod judged;
 pub mod laws;
+mod manner;
 mod moves;
 mod prove;
 mod run;

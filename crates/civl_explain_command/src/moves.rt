@@ -7,7 +7,7 @@ ghost use Rattle.civl_firing.specs.Names.{names_of};
 ghost use Rattle.civl_path_stories.specs.Paths.{name_at};
 ghost use Rattle.civl_lines.specs.Pieces.{change_text};
 ghost use Rattle.civl_refusals.specs.Refusals.{item_at};
-ghost use Rattle.civl_explain_command.specs.Runs.{changed_proc, changes_text, frame_names, kind_text, move_line, move_text, names_changed, proc_name, proc_token, stand_line, stand_shown, stand_token};
+ghost use Rattle.civl_explain_command.specs.Runs.{changed_proc, changes_text, first_text, frame_names, kind_text, move_line, move_text, names_changed, proc_name, proc_token, stand_line, stand_shown, stand_token, step_text};
 
 use civl_firing::names::Names;
 use civl_history::{Changed, MadeMove, Stand, StepKind};
@@ -55,7 +55,7 @@ fn stand_token(program: &Program, stand: Stand) -> usize
             0,
         ),
         Stand::Leaves(number) => proc_token(program, number),
-        Stand::Ended => 0,
+        Stand::Ended(number) => proc_token(program, number),
     }
 }
 
@@ -67,7 +67,7 @@ fn stand_shown(stand: Stand) -> Shown
         Stand::Begins(_) => Shown::Tokens(2),
         Stand::Before(_, _) => Shown::Head,
         Stand::Leaves(_) => Shown::Tokens(2),
-        Stand::Ended => Shown::Nothing,
+        Stand::Ended(_) => Shown::Tokens(2),
     }
 }
 
@@ -115,6 +115,31 @@ fn put_kind(out: &mut Vec<u8>, program: &Program, kind: StepKind) -> Result<(), 
         StepKind::Returns(number) => put_proc(out, b", returns to ", program, number),
         StepKind::Ends => put(out, b", ends"),
         StepKind::Spawns(thread) => put_count(out, b", spawns thread ", thread as usize),
+    }
+}
+
+/// What a thread's first step does.
+fn put_first(out: &mut Vec<u8>, program: &Program, kind: StepKind) -> Result<(), Memory>
+    ensures { OnOk result (out.new.items ≡ out.old.items ++ first_text program.now kind) }
+{
+    match kind {
+        StepKind::Acts => put(out, b", ends"),
+        _ => put_kind(out, program, kind),
+    }
+}
+
+/// What the step of a thread does that stood here.
+fn put_step(
+    out: &mut Vec<u8>,
+    program: &Program,
+    stood: Stand,
+    kind: StepKind,
+) -> Result<(), Memory>
+    ensures { OnOk result (out.new.items ≡ out.old.items ++ step_text program.now stood kind) }
+{
+    match stood {
+        Stand::Begins(_) => put_first(out, program, kind),
+        _ => put_kind(out, program, kind),
     }
 }
 
@@ -218,7 +243,7 @@ fn put_move(out: &mut Vec<u8>, program: &Program, made: &MadeMove) -> Result<(),
 {
     put(out, b"thread ")?;
     put_number(out, made.thread as usize)?;
-    put_kind(out, program, made.kind)?;
+    put_step(out, program, made.stood, made.kind)?;
     put_changes(out, &globals_of(program), made.globals.as_slice())?;
     put_changes(out, &names_changed(program, made), made.locals.as_slice())
 }

@@ -1,15 +1,17 @@
 // Schedules of scripts, move by move.
-ghost use Rattle.std.specs.Prelude.{◌≡◌, ◌≤◌, ◌+◌, ◌<◌, ◌^◌, ◌++◌, length, IfOk, OnOk};
+ghost use Rattle.std.specs.Prelude.{◌≡◌, ◌≤◌, ◌+◌, ◌<◌, ◌^◌, ◌++◌, length, IfOk, IfSome, OnOk};
 ghost use Rattle.civl_tree.specs.Numbered.{IsNumbered};
 ghost use Rattle.civl_tree.specs.Numbering.{item_count};
 ghost use Rattle.civl_tree.specs.SpellingProgram.{spell_program};
+ghost use Rattle.civl_tree.specs.SpellingScript.{spell_script};
+ghost use Rattle.std.specs.Option.{option_map_or};
 ghost use Rattle.civl_meaning.specs.Step.{start};
 ghost use Rattle.civl_script.specs.replays.Trace.{trace_of};
 ghost use Rattle.civl_history.specs.History.{last_of, stopped_thread, thread_stands};
 ghost use Rattle.civl_frontend.specs.Rules.{IsLawful};
 ghost use Rattle.civl_frontend.specs.Texts.{IsScriptReading, limit};
 ghost use Rattle.civl_lines.specs.Tokens.{AreTokens};
-ghost use Rattle.civl_explain_command.specs.Runs.{end_line, failing_text, run_lines, run_told, stopped_text};
+ghost use Rattle.civl_explain_command.specs.Runs.{at_move, end_line, failing_text, run_lines, run_told, stand_line, stopped_lines, stopped_text};
 ghost use Rattle.civl_explain_command.specs.Outcome.{Finds, Misfit, Ran, Traces};
 ghost use Rattle.civl_explain_command.specs.Told.{IsTold};
 ghost use Rattle.civl_explain_command.specs.Judge.{IsJudged};
@@ -23,10 +25,11 @@ use crate::running::{answer_name, put_run};
 use civl_frontend::{Judged, Report, Status, Text as Read, read_script, report_misfit};
 use civl_history::{History, Stand, tell_moves};
 use civl_layers::{Layered, low, program, top};
-use civl_lines::{Form, Kind, Line, Text, put_lines};
+use civl_lines::{Form, Kind, Line, Shown, Text, put_lines};
 use civl_meaning::{Move, Plain, Stepped, Store};
+use civl_refusals::{part_start, put_misfit};
 use civl_script::{Schedule, read_schedule};
-use civl_tree::{Entry, List, Memory, Program, Script, Told};
+use civl_tree::{List, Memory, Program, Script};
 use civl_verdicts::reports::{put, put_number};
 use civl_yields::verify::source;
 use std::alloc::Global;
@@ -50,7 +53,8 @@ fn plain_at(alloc: Global, end: End, src: &Layered) -> Result<Plain, Memory>
 
 /// The thread of the first move that isn't made, where so many are.
 fn stopped_thread(moves: &[Move], moved: usize) -> Option<u32>
-    ensures { result ≡ stopped_thread moves.now moved }
+    ensures is { result ≡ stopped_thread moves.now moved }
+    ensures there { IfSome result (λ thread. moved < length moves.now) }
 {
     if moved < moves.len() {
         Some(moves[moved].thread)
@@ -110,29 +114,98 @@ fn push_end(
     Ok(())
 }
 
+/// A line at the move with this number.
+fn at_move(script: &Script, number: usize, text: List<u8>) -> Line
+    requires short { length (spell_script script.now) < 2 ^ 64 }
+    requires there { number < length script.now.moves }
+    ensures { result ≡ at_move script.now number text }
+{
+    Line {
+        token: part_start(script, script.store.len() + number),
+        shown: Shown::Head,
+        kind: Kind::Info,
+        text,
+    }
+}
+
+/// The line of the move with this number, which isn't made.
+fn stopped_line(
+    script: &Script,
+    program: &Program,
+    number: usize,
+    stand: Option<Stand>,
+    text: List<u8>,
+) -> Line
+    requires whole { length (spell_script script.now) < 2 ^ 64 }
+    requires there { number < length script.now.moves }
+    requires short { length (spell_program program.now) < 2 ^ 64 }
+    requires items { item_count program.now < 2 ^ 32 }
+    ensures { result ≡ option_map_or (λ s. stand_line program.now Kind.Info s text) stand (at_move script.now number text) }
+{
+    match stand {
+        Some(stand) => stand_line(program, Kind::Info, stand, text),
+        None => at_move(script, number, text),
+    }
+}
+
+/// Adds it, where a move isn't made.
+fn push_stopped(
+    lines: &mut Vec<Line>,
+    script: &Script,
+    program: &Program,
+    number: usize,
+    thread: Option<u32>,
+    stand: Option<Stand>,
+    text: List<u8>,
+) -> Result<(), Memory>
+    requires whole { length (spell_script script.now) < 2 ^ 64 }
+    requires there { IfSome thread (λ t. number < length script.now.moves) }
+    requires short { length (spell_program program.now) < 2 ^ 64 }
+    requires items { item_count program.now < 2 ^ 32 }
+    ensures { OnOk result (lines.new.items ≡ lines.old.items ++ stopped_lines script.now program.now number thread stand text) }
+{
+    if let Some(_) = thread {
+        lines.push(stopped_line(script, program, number, stand, text))?;
+    }
+    Ok(())
+}
+
 /// The lines of a run: its moves, where it stopped, and which thread fails.
 fn push_run(
     alloc: Global,
     lines: &mut Vec<Line>,
+    script: &Script,
     program: &Program,
     moves: &[Move],
     history: &History,
 ) -> Result<(), Memory>
+    requires whole { length (spell_script script.now) < 2 ^ 64 }
+    requires same { length moves.now ≡ length script.now.moves }
     requires short { length (spell_program program.now) < 2 ^ 64 }
     requires items { item_count program.now < 2 ^ 32 }
-    ensures { OnOk result (lines.new.items ≡ lines.old.items ++ history_lines program.now moves.now history.now) }
+    ensures { OnOk result (lines.new.items ≡ lines.old.items ++ history_lines script.now program.now moves.now history.now) }
 {
-    let stopped = stopped_thread(moves, history.trace.moved);
+    let number = history.trace.moved;
+    let stopped = stopped_thread(moves, number);
     push_moves(alloc, lines, program, history.moves.as_slice())?;
     let text = stopped_text(alloc, stopped, history.trace.stopped)?;
-    push_end(lines, program, Kind::Info, history.stopped_at, text)?;
+    push_stopped(
+        lines,
+        script,
+        program,
+        number,
+        stopped,
+        history.stopped_at,
+        text,
+    )?;
     let text = failing_text(alloc, history.trace.failing)?;
     push_end(lines, program, Kind::Error, history.failing_at, text)
 }
 
-/// A run as it is told: the program that is run, from a store, by moves.
+/// A run as it is told: the script, and the program that is run, from a store, by moves.
 #[derive(Clone, Copy)]
 struct Running<'a> {
+    script: &'a Script,
     plain: &'a Plain,
     store: &'a Store,
     moves: &'a List<Move>,
@@ -147,17 +220,20 @@ fn put_told(
     running: &Running<'_>,
 ) -> Result<(), Memory>
     requires few { length running.now.plain.now.program.threads + length running.now.moves.now + 1 < 2 ^ 32 }
+    requires whole { length (spell_script running.now.script.now) < 2 ^ 64 }
+    requires same { length running.now.moves.now ≡ length running.now.script.now.moves }
     requires short { length (spell_program running.now.plain.now.program) < 2 ^ 64 }
     requires items { item_count running.now.plain.now.program < 2 ^ 32 }
     requires tokens { AreTokens text.now.bytes.now text.now.tokens.now }
     ensures { OnOk result (out.new.items ≡ out.old.items
-        ++ run_told form text.now.bytes.now text.now.tokens.now running.now.plain.now running.now.store.now running.now.moves.now) }
+        ++ run_told form text.now.bytes.now text.now.tokens.now running.now.script.now running.now.plain.now running.now.store.now running.now.moves.now) }
 {
     let history = tell_moves(alloc, running.plain, running.store, running.moves)?;
     let mut lines = Vec::new(alloc);
     push_run(
         alloc,
         &mut lines,
+        running.script,
         &running.plain.program,
         running.moves.as_slice(),
         &history,
@@ -169,10 +245,12 @@ fn put_told(
 /// The report of a run.
 fn report_told(alloc: Global, input: &Input<'_>, running: &Running<'_>) -> Result<Vec<u8>, Memory>
     requires few { length running.now.plain.now.program.threads + length running.now.moves.now + 1 < 2 ^ 32 }
+    requires whole { length (spell_script running.now.script.now) < 2 ^ 64 }
+    requires same { length running.now.moves.now ≡ length running.now.script.now.moves }
     requires short { length (spell_program running.now.plain.now.program) < 2 ^ 64 }
     requires items { item_count running.now.plain.now.program < 2 ^ 32 }
-    ensures { IfOk result (λ out. IsTold input.now.kind input.now.form input.now.bytes.now
-        (Ran running.now.plain.now running.now.store.now running.now.moves.now) out.items) }
+    ensures { IfOk result (λ out. IsTold input.now.kind input.now.manner input.now.bytes.now
+        (Ran running.now.script.now running.now.plain.now running.now.store.now running.now.moves.now) out.items) }
 {
     let found = all_tokens(alloc, input.bytes)?;
     let text = Text {
@@ -180,29 +258,21 @@ fn report_told(alloc: Global, input: &Input<'_>, running: &Running<'_>) -> Resul
         tokens: found.as_slice(),
     };
     let mut out = Vec::new(alloc);
-    put_told(alloc, &mut out, input.form, &text, running)?;
+    put_told(alloc, &mut out, input.manner.form, &text, running)?;
     Ok(out)
 }
 
 /// What is written of a run.
-fn replay(
-    alloc: Global,
-    input: &Input<'_>,
-    plain: &Plain,
-    store: &Store,
-    moves: &List<Move>,
-) -> Judged
-    requires few { length plain.now.program.threads + length moves.now + 1 < 2 ^ 32 }
-    requires short { length (spell_program plain.now.program) < 2 ^ 64 }
-    requires items { item_count plain.now.program < 2 ^ 32 }
-    ensures { IsJudged input.now.kind input.now.form input.now.bytes.now (λ outcome. outcome ≡ Ran plain.now store.now moves.now) result }
+fn replay(alloc: Global, input: &Input<'_>, running: &Running<'_>) -> Judged
+    requires few { length running.now.plain.now.program.threads + length running.now.moves.now + 1 < 2 ^ 32 }
+    requires whole { length (spell_script running.now.script.now) < 2 ^ 64 }
+    requires same { length running.now.moves.now ≡ length running.now.script.now.moves }
+    requires short { length (spell_program running.now.plain.now.program) < 2 ^ 64 }
+    requires items { item_count running.now.plain.now.program < 2 ^ 32 }
+    ensures { IsJudged input.now.kind input.now.manner input.now.bytes.now
+        (λ outcome. outcome ≡ Ran running.now.script.now running.now.plain.now running.now.store.now running.now.moves.now) result }
 {
-    let running = Running {
-        plain,
-        store,
-        moves,
-    };
-    let Ok(report) = report_told(alloc, input, &running) else {
+    let Ok(report) = report_told(alloc, input, running) else {
         return Judged::wanting();
     };
     Judged {
@@ -212,19 +282,31 @@ fn replay(
 }
 
 /// The report of an entry or a move that doesn't fit.
-fn report_wrong(alloc: Global, input: &Input<'_>, number: usize) -> Result<Vec<u8>, Memory>
-    ensures { IfOk result (λ out. IsTold input.now.kind input.now.form input.now.bytes.now (Misfit number) out.items) }
+fn report_wrong(
+    alloc: Global,
+    input: &Input<'_>,
+    script: &Script,
+    number: usize,
+) -> Result<Vec<u8>, Memory>
+    requires { length (spell_script script.now) < 2 ^ 64 }
+    ensures { IfOk result (λ out. IsTold input.now.kind input.now.manner input.now.bytes.now (Misfit script.now number) out.items) }
 {
-    let _found = all_tokens(alloc, input.bytes)?;
-    let out = report_misfit(alloc, number)?;
+    let found = all_tokens(alloc, input.bytes)?;
+    let text = Text {
+        bytes: input.bytes,
+        tokens: found.as_slice(),
+    };
+    let mut out = report_misfit(alloc, number)?;
+    put_misfit(alloc, &mut out, input.manner.form, &text, script, number)?;
     Ok(out)
 }
 
 /// What is written where an entry or a move doesn't fit.
-fn misfit(alloc: Global, input: &Input<'_>, number: usize) -> Judged
-    ensures { IsJudged input.now.kind input.now.form input.now.bytes.now (λ outcome. outcome ≡ Misfit number) result }
+fn misfit(alloc: Global, input: &Input<'_>, script: &Script, number: usize) -> Judged
+    requires { length (spell_script script.now) < 2 ^ 64 }
+    ensures { IsJudged input.now.kind input.now.manner input.now.bytes.now (λ outcome. outcome ≡ Misfit script.now number) result }
 {
-    let Ok(report) = report_wrong(alloc, input, number) else {
+    let Ok(report) = report_wrong(alloc, input, script, number) else {
         return Judged::wanting();
     };
     refused(report)
@@ -236,22 +318,30 @@ fn judge_lawful(
     input: &Input<'_>,
     end: End,
     src: &Layered,
-    store: &List<Entry>,
-    moves: &List<Told>,
+    script: &Script,
 ) -> Judged
+    requires source { src.now ≡ script.now.program }
     requires rules { IsLawful src.now }
-    requires few { length src.now.threads + length moves.now + 1 < 2 ^ 32 }
+    requires few { length src.now.threads + length script.now.moves + 1 < 2 ^ 32 }
+    requires whole { length (spell_script script.now) < 2 ^ 64 }
     requires short { length (spell_program src.now) < 2 ^ 64 }
     requires items { item_count src.now < 2 ^ 32 }
-    ensures { IsJudged input.now.kind input.now.form input.now.bytes.now
-        (Traces (plain_for end) (record { program = src.now; store = store.now; moves = moves.now })) result }
+    ensures { IsJudged input.now.kind input.now.manner input.now.bytes.now (Traces (plain_for end) script.now) result }
 {
-    match read_schedule(alloc, &program(src).globals, store, moves) {
+    match read_schedule(alloc, &program(src).globals, &script.store, &script.moves) {
         Ok(Schedule::Fits(store, moves)) => match plain_at(alloc, end, src) {
-            Ok(plain) => replay(alloc, input, &plain, &store, &moves),
+            Ok(plain) => {
+                let running = Running {
+                    script,
+                    plain: &plain,
+                    store: &store,
+                    moves: &moves,
+                };
+                replay(alloc, input, &running)
+            }
             Err(Memory) => Judged::wanting(),
         },
-        Ok(Schedule::Wrong(number)) => misfit(alloc, input, number),
+        Ok(Schedule::Wrong(number)) => misfit(alloc, input, script, number),
         Err(Memory) => Judged::wanting(),
     }
 }
@@ -261,17 +351,11 @@ fn judge_script(alloc: Global, input: &Input<'_>, end: End, script: &Script) -> 
     requires numbered { IsNumbered script.now.program }
     requires few { length script.now.program.threads + length script.now.moves + 1 < 2 ^ 32 }
     requires short { length (spell_program script.now.program) < 2 ^ 64 }
-    ensures { IsJudged input.now.kind input.now.form input.now.bytes.now (Traces (plain_for end) script.now) result }
+    requires whole { length (spell_script script.now) < 2 ^ 64 }
+    ensures { IsJudged input.now.kind input.now.manner input.now.bytes.now (Traces (plain_for end) script.now) result }
 {
     match admit(alloc, input, &script.program) {
-        Ok(admitted) => judge_lawful(
-            alloc,
-            input,
-            end,
-            source(&admitted),
-            &script.store,
-            &script.moves,
-        ),
+        Ok(admitted) => judge_lawful(alloc, input, end, source(&admitted), script),
         Err(judged) => judged,
     }
 }
@@ -279,7 +363,7 @@ fn judge_script(alloc: Global, input: &Input<'_>, end: End, script: &Script) -> 
 /// What `run` finds of a text.
 pub(crate) fn run_text(alloc: Global, input: &Input<'_>, end: End) -> Judged
     requires { length input.now.bytes.now ≤ limit }
-    ensures { IsJudged input.now.kind input.now.form input.now.bytes.now (Finds IsScriptReading (Traces (plain_for end)) input.now.bytes.now) result }
+    ensures { IsJudged input.now.kind input.now.manner input.now.bytes.now (Finds IsScriptReading (Traces (plain_for end)) input.now.bytes.now) result }
 {
     match read_script(alloc, input.bytes) {
         Read::Spelled(script) => judge_script(alloc, input, end, &script),

@@ -9,7 +9,7 @@ use Rattle.civl_explain_words.specs.Line.{command_line}
 use Rattle.clap.specs.ValueTests.{is_unsigned_in}
 use Rattle.clap.specs.declared.builder.value_parser.ValueParser.TheVariants as vp
 use Rattle.clap.proofs.ValueTestLemmas.{accepts-Accepts}
-use Rattle.civl_explain_words.specs.Words.{number_between, number_of, budget_among, lines_among, run_of, run_among, numbered, called, asked, asked_of, most_budget, HasFitNumbers, NumbersFit}
+use Rattle.civl_explain_words.specs.Words.{number_between, number_of, budget_among, lines_among, assumed_among, run_of, run_among, numbered, called, asked, asked_of, most_budget, HasFitNumbers, NumbersFit}
 use Rattle.civl_explain_words.specs.declared.words.Command.{Command}
 use Rattle.civl_explain_words.specs.declared.words.Command.TheVariants.{Check, Conditions, RunLow, RunTop, Prove}
 use Rattle.civl_explain_words.specs.declared.words.Request.{Request}
@@ -77,13 +77,14 @@ abbrev RequestFits : Option Request → Type 0
 RequestFits None = ⊤
 RequestFits (Some asked) = HasFitNumbers asked.command
 
-with_lines : (by_lines : Bool) (o : Option Command) → AllFit o → RequestFits (option_map (λ command. record { command = command; by_lines = by_lines }) o)
-with_lines by_lines None h = tt
-with_lines by_lines (Some command) h = h
+with_flags : (by_lines assumed : Bool) (o : Option Command) → AllFit o
+    → RequestFits (option_map (λ command. record { command = command; by_lines = by_lines; assumed = assumed }) o)
+with_flags by_lines assumed None h = tt
+with_flags by_lines assumed (Some command) h = h
 
 found_fits : (o : Option (Text × List Row)) → RequestFits (option_and_then (λ p. asked p.0 p.1) o)
 found_fits None = tt
-found_fits (Some p) = with_lines (lines_among p.1) (called p.0 p.1) (called_fits p.0 p.1)
+found_fits (Some p) = with_flags (lines_among p.1) (assumed_among p.1) (called p.0 p.1) (called_fits p.0 p.1)
 
 chosen : (b : Bool) (x : Option Request) → RequestFits x → RequestFits (cond b x None)
 chosen true x a = a

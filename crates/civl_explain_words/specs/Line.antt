@@ -22,6 +22,10 @@ usual_budget_option = record budget_option { defaults = codes "200000" ∷ [] }
 abbrev pub lines_flag : Rule
 lines_flag = record (new_rule (codes "lines")) { long = Some (codes "lines"); action = Some SetTrue }
 
+-- `--assumed`, true where it is given
+abbrev pub assumed_flag : Rule
+assumed_flag = record (new_rule (codes "assumed")) { long = Some (codes "assumed"); action = Some SetTrue }
+
 -- a word that is wanted
 abbrev pub wanted_rule : Text → Rule
 wanted_rule id = record (new_rule id) { required = true }
@@ -29,16 +33,16 @@ wanted_rule id = record (new_rule id) { required = true }
 -- ---- the subcommands
 
 abbrev pub check_line : App
-check_line = with_rule (with_rule (new_app (codes "check")) usual_budget_option) lines_flag
+check_line = with_rule (with_rule (with_rule (new_app (codes "check")) usual_budget_option) lines_flag) assumed_flag
 
 abbrev pub conditions_line : App
-conditions_line = with_rule (with_rule (new_app (codes "conditions")) usual_budget_option) lines_flag
+conditions_line = with_rule (with_rule (with_rule (new_app (codes "conditions")) usual_budget_option) lines_flag) assumed_flag
 
 abbrev pub run_line : App
 run_line = with_rule (with_rule (new_app (codes "run")) (wanted_rule (codes "end"))) lines_flag
 
 abbrev pub prove_line : App
-prove_line = with_rule (with_rule (new_app (codes "prove")) usual_budget_option) lines_flag
+prove_line = with_rule (with_rule (with_rule (new_app (codes "prove")) usual_budget_option) lines_flag) assumed_flag
 
 -- ---- the whole
 

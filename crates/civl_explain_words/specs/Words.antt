@@ -33,9 +33,17 @@ number_of least most id rows = option_and_then (number_between least most) (one_
 abbrev pub budget_among : List Row → Option ℕ
 budget_among = number_of 0 most_budget (codes "budget")
 
--- whether `--lines` is among the words
+-- whether a flag with this name is among the words
+abbrev pub is_flagged : Text → List Row → Bool
+is_flagged id rows = option_map_or (λ text. bytes_eq text (codes "true")) (first_of id rows) false
+
+-- whether `--lines` is
 abbrev pub lines_among : List Row → Bool
-lines_among rows = option_map_or (λ text. bytes_eq text (codes "true")) (first_of (codes "lines") rows) false
+lines_among = is_flagged (codes "lines")
+
+-- whether `--assumed` is
+abbrev pub assumed_among : List Row → Bool
+assumed_among = is_flagged (codes "assumed")
 
 -- ---- the command that a subcommand and its values are
 
@@ -58,9 +66,10 @@ numbered name rows =
 abbrev pub called : Text → List Row → Option Command
 called name rows = if bytes_eq name (codes "run") then run_among rows else numbered name rows
 
--- the same, and whether it is asked for by lines
+-- the same, whether it is asked for by lines, and whether with what is assumed
 abbrev pub asked : Text → List Row → Option Request
-asked name rows = option_map (λ command. record { command = command; by_lines = lines_among rows }) (called name rows)
+asked name rows =
+    option_map (λ command. record { command = command; by_lines = lines_among rows; assumed = assumed_among rows }) (called name rows)
 
 -- ---- the command that a list of words is
 

@@ -1,6 +1,6 @@
 // Laws of words, each the contract of a function that does nothing.
 ghost use Rattle.civl_explain_words.specs.Words.{NumbersFit, OneCommand};
-ghost use Rattle.civl_explain_words.specs.examples.Lines.{EachCommandHasWords, NumbersAreRead, OthersAreNoCommand};
+ghost use Rattle.civl_explain_words.specs.examples.Lines.{EachCommandHasWords, FlagsAreRead, NumbersAreRead, OthersAreNoCommand};
 
 /// No list of words is that of two commands.
 pub fn one_command()
@@ -20,6 +20,11 @@ pub fn each_command_has_words()
 /// Numbers in words are read.
 pub fn numbers_are_read()
     ensures { NumbersAreRead }
+{}
+
+/// Flags in words are read, in either order.
+pub fn flags_are_read()
+    ensures { FlagsAreRead }
 {}
 
 /// Words that are no command.

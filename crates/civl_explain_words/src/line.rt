@@ -3,7 +3,7 @@ ghost use Rattle.std.specs.Prelude.{◌≡◌, IfOk, false};
 ghost use Rattle.clap.specs.Walk.{rule_of};
 ghost use Rattle.clap.specs.declared.builder.Command.TheViews.{out-Command as fields_of};
 ghost use Rattle.clap.specs.Simple.{App, app_of};
-ghost use Rattle.civl_explain_words.specs.Line.{IsLine, with_line, budget_option, usual_budget_option, lines_flag, wanted_rule, check_line, conditions_line, text_lines, run_line, prove_line, all_lines, command_line};
+ghost use Rattle.civl_explain_words.specs.Line.{IsLine, with_line, budget_option, usual_budget_option, lines_flag, assumed_flag, wanted_rule, check_line, conditions_line, text_lines, run_line, prove_line, all_lines, command_line};
 
 use clap::{Arg, ArgAction, Command, value_parser};
 use std::alloc::{AllocError, Global};
@@ -36,6 +36,16 @@ fn lines_flag<'a>(alloc: Global) -> Arg<'a>
         .action(ArgAction::SetTrue)
 }
 
+/// `--assumed`
+fn assumed_flag<'a>(alloc: Global) -> Arg<'a>
+    ensures rule { rule_of result ≡ assumed_flag }
+    ensures local { result.global ≡ false }
+{
+    Arg::new(alloc, "assumed")
+        .long("assumed")
+        .action(ArgAction::SetTrue)
+}
+
 /// A word that is wanted.
 fn wanted_word<'a>(alloc: Global, id: &'a str) -> Arg<'a>
     ensures rule { rule_of result ≡ wanted_rule id.entry.now }
@@ -49,7 +59,8 @@ fn check_line<'a>(alloc: Global) -> Result<Command<'a>, AllocError>
 {
     Command::new(alloc, "check")
         .arg(usual_budget_option(alloc))?
-        .arg(lines_flag(alloc))
+        .arg(lines_flag(alloc))?
+        .arg(assumed_flag(alloc))
 }
 
 fn conditions_line<'a>(alloc: Global) -> Result<Command<'a>, AllocError>
@@ -57,7 +68,8 @@ fn conditions_line<'a>(alloc: Global) -> Result<Command<'a>, AllocError>
 {
     Command::new(alloc, "conditions")
         .arg(usual_budget_option(alloc))?
-        .arg(lines_flag(alloc))
+        .arg(lines_flag(alloc))?
+        .arg(assumed_flag(alloc))
 }
 
 fn run_line<'a>(alloc: Global) -> Result<Command<'a>, AllocError>
@@ -73,7 +85,8 @@ fn prove_line<'a>(alloc: Global) -> Result<Command<'a>, AllocError>
 {
     Command::new(alloc, "prove")
         .arg(usual_budget_option(alloc))?
-        .arg(lines_flag(alloc))
+        .arg(lines_flag(alloc))?
+        .arg(assumed_flag(alloc))
 }
 
 /// A command line with a subcommand more.

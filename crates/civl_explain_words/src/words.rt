@@ -2,7 +2,7 @@
 ghost use Rattle.std.specs.Prelude.{◌≡◌, ◌&&◌, nat_le, if◌then◌else◌, Some, None, IfOk, map, string_bytes, option_map, option_and_then};
 ghost use Rattle.clap.specs.Walk.{first_of, rows_of};
 ghost use Rattle.clap.specs.Words.{found_of, subcommand_rows_of};
-ghost use Rattle.civl_explain_words.specs.Words.{number_of, budget_among, lines_among, run_of, run_among, numbered, called, asked, asked_of};
+ghost use Rattle.civl_explain_words.specs.Words.{number_of, budget_among, is_flagged, lines_among, assumed_among, run_of, run_among, numbered, called, asked, asked_of};
 
 use crate::line::command_line;
 use crate::memory::Memory;
@@ -31,11 +31,13 @@ pub enum Command {
     Prove(u32),
 }
 
-/// What the words ask for: a command, and whether what it says of places stands in lines for editors (`--lines`).
+/// What the words ask for: a command, whether what it says of places stands in lines for editors (`--lines`), and whether each story of
+/// a condition or a goal tells what was assumed too (`--assumed`).
 #[derive(Clone, Copy, Debug, PartialEq, Eq)]
 pub struct Request {
     pub command: Command,
     pub by_lines: bool,
+    pub assumed: bool,
 }
 
 /// The number, where it lies between these two.
@@ -88,14 +90,28 @@ fn word_of<'a>(matches: &ArgMatches<'a>, id: &str) -> Option<&'a str>
     matches.get_str(id)
 }
 
+/// Whether a flag with this name is among the words.
+fn is_flagged(matches: &ArgMatches, id: &str) -> bool
+    ensures { result ≡ is_flagged id.now (rows_of (found_of matches.now)) }
+{
+    match word_of(matches, id) {
+        Some(word) => word == "true",
+        None => false,
+    }
+}
+
 /// Whether `--lines` is among the words.
 fn lines_among(matches: &ArgMatches) -> bool
     ensures { result ≡ lines_among (rows_of (found_of matches.now)) }
 {
-    match word_of(matches, "lines") {
-        Some(word) => word == "true",
-        None => false,
-    }
+    is_flagged(matches, "lines")
+}
+
+/// Whether `--assumed` is among the words.
+fn assumed_among(matches: &ArgMatches) -> bool
+    ensures { result ≡ assumed_among (rows_of (found_of matches.now)) }
+{
+    is_flagged(matches, "assumed")
 }
 
 /// The command that `run` and its value are.
@@ -137,7 +153,7 @@ fn called(name: &str, matches: &ArgMatches) -> Option<Command>
     numbered(name, matches)
 }
 
-/// The same, and whether it is asked for by lines.
+/// The same, whether it is asked for by lines, and whether with what is assumed.
 fn asked(name: &str, matches: &ArgMatches) -> Option<Request>
     ensures { result ≡ asked name.now (rows_of (found_of matches.now)) }
 {
@@ -145,6 +161,7 @@ fn asked(name: &str, matches: &ArgMatches) -> Option<Request>
     Some(Request {
         command,
         by_lines: lines_among(matches),
+        assumed: assumed_among(matches),
     })
 }
 

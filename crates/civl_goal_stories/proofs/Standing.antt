@@ -30,7 +30,7 @@ regrouped : (before first part rest after : List Token)
 regrouped before first part rest after = simp append_assoc
 
 -- a phrase among others, which stand between these tokens
-phrase_stands : {X : Type 0} (spell : X → List Token) (before after all : List Token) (xs : List X) (n : ℕ) (x : X)
+pub phrase_stands : {X : Type 0} (spell : X → List Token) (before after all : List Token) (xs : List X) (n : ℕ) (x : X)
     → all ≡ before ++ (joined (map spell xs) ++ after) → slice_get xs n ≡ Some x
     → StandAt (spell x) all (length (before ++ joined (map spell (take n xs))))
 phrase_stands spell before after all xs n x whole found = record {
@@ -41,7 +41,7 @@ phrase_stands spell before after all xs n x whole found = record {
   place_is = refl;
 }
 
-if_there : {A : Type 0} (P : A → Type 0) (o : Option A) → ((x : A) → o ≡ Some x → P x) → IfSome o P
+pub if_there : {A : Type 0} (P : A → Type 0) (o : Option A) → ((x : A) → o ≡ Some x → P x) → IfSome o P
 if_there P None h = tt
 if_there P (Some x) h = h x refl
 

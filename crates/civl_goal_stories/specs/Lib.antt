@@ -1,5 +1,6 @@
 pub mod Places
 pub mod Frames
 pub mod GoalStories
+pub mod Assumed
 pub mod Laws
 pub mod examples

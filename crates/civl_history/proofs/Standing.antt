@@ -132,7 +132,7 @@ numbers_of : Stand → ℕ × ℕ
 numbers_of (stand.Begins callee) = (0, 0)
 numbers_of (stand.Before procedure number) = (procedure, number)
 numbers_of (stand.Leaves procedure) = (0, 0)
-numbers_of stand.Ended = (0, 0)
+numbers_of (stand.Ended callee) = (0, 0)
 
 abbrev Found : Plain → ℕ → ℕ → Type 0
 Found plain procedure number = (proc : Proc) × (statement : Stmt) × IsStatement plain procedure number proc statement

@@ -124,7 +124,7 @@ FailsAt plain store args locals (stand.Before procedure number) =
     (proc : Proc) × (statement : Stmt) × IsStatement plain procedure number proc statement
     × FormFails plain store proc locals (out-Stmt statement)
 FailsAt plain store args locals (stand.Leaves procedure) = ⊥
-FailsAt plain store args locals stand.Ended = ⊥
+FailsAt plain store args locals (stand.Ended callee) = ⊥
 
 -- A thread that fails stands before the call or the assert that fails.
 abbrev pub FailingStandsThere : Type 0

@@ -28,7 +28,7 @@ frame_stands procedure (Some spot) = Before procedure spot.number
 abbrev pub state_stands : Plain → ℕ → State → Stand
 state_stands plain callee state.Before = Begins callee
 state_stands plain callee (state.Inside below top) = frame_stands top.procedure (spot_of_frame plain top)
-state_stands plain callee state.After = Ended
+state_stands plain callee state.After = Ended callee
 
 -- where a thread stands
 abbrev pub stands : Plain → Running → Stand

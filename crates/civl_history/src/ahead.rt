@@ -9,13 +9,13 @@ use crate::stand::Stand;
 use civl_meaning::remaining::Numbered;
 use civl_meaning::{Plain, Running, State};
 
-/// What lies ahead of a thread: its first call, a statement of a procedure, the end of one, or nothing.
+/// What lies ahead of a thread: its first call, a statement of a procedure, the end of one, or nothing behind its call of a procedure.
 #[derive(Clone, Copy)]
 pub(crate) enum Ahead<'p> {
     Begins(usize),
     Statement(usize, Numbered<'p>),
     Exit(usize),
-    Ended,
+    Ended(usize),
 }
 
 /// What lies ahead in a frame of this procedure.
@@ -36,7 +36,7 @@ pub(crate) fn ahead_of<'p>(plain: &Plain, spots: &Spots<'p>, thread: &Running) -
     match &thread.state {
         State::Before => Ahead::Begins(thread.callee),
         State::Inside(_, top) => in_frame(top.procedure, spot_of(plain, spots, top)),
-        State::After => Ahead::Ended,
+        State::After => Ahead::Ended(thread.callee),
     }
 }
 
@@ -48,6 +48,6 @@ pub(crate) fn stand_before(ahead: Ahead<'_>) -> Stand
         Ahead::Begins(callee) => Stand::Begins(callee),
         Ahead::Statement(procedure, numbered) => Stand::Before(procedure, numbered.number),
         Ahead::Exit(procedure) => Stand::Leaves(procedure),
-        Ahead::Ended => Stand::Ended,
+        Ahead::Ended(callee) => Stand::Ended(callee),
     }
 }

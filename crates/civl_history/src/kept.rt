@@ -47,7 +47,7 @@ fn frame_locals<'a>(below: &'a [Activation], top: &'a Activation, ahead: Ahead<'
 {
     match ahead {
         Ahead::Exit(_) => caller_locals(below),
-        Ahead::Begins(_) | Ahead::Statement(_, _) | Ahead::Ended => top.locals.as_slice(),
+        Ahead::Begins(_) | Ahead::Statement(_, _) | Ahead::Ended(_) => top.locals.as_slice(),
     }
 }
 

@@ -10,6 +10,6 @@ pub enum Stand {
     Before(usize, usize),
     /// At the end of the body of the procedure with this number, from which it returns.
     Leaves(usize),
-    /// Behind its first call: nothing is left to run.
-    Ended,
+    /// Behind its first call, which was one of the procedure with this number: nothing is left to run.
+    Ended(usize),
 }

@@ -88,7 +88,7 @@ fn step_kind(threads: u32, below: usize, ahead: Ahead<'_>, behind: &State) -> St
         Ahead::Begins(_) => first_kind(behind),
         Ahead::Statement(_, numbered) => form_kind(threads, below, numbered.stmt, behind),
         Ahead::Exit(_) => exit_kind(behind),
-        Ahead::Ended => StepKind::Ends,
+        Ahead::Ended(_) => StepKind::Ends,
     }
 }
 

@@ -1,3 +1,5 @@
 pub mod Rendered
 pub mod Pieces
 pub mod Tokens
+pub mod Losing
+pub mod inner

@@ -1,6 +1,6 @@
 -- How the lines of a story are written: for people, with the place, what stands there and what is said of it; or one finding a line, as
 -- compilers write them (`line:column: kind: text`, GNU Coding Standards, "Formatting Error Messages").
-use Rattle.std.specs.Prelude.{ℕ, ◌+◌, ◌-◌, Bool, nat_eq, if◌then◌else◌, List, [], ◌∷◌, ◌++◌, length, take, drop, codes, decimal}
+use Rattle.std.specs.Prelude.{ℕ, ◌+◌, ◌-◌, Bool, false, nat_eq, if◌then◌else◌, List, [], ◌∷◌, ◌++◌, length, take, drop, codes, decimal}
 use Rattle.std.specs.Prelude.{Option, None, Some, slice_get, bytes_eq}
 use Rattle.std.specs.Option.{option_map_or}
 use Rattle.std.specs.List.{before_first, flat_map}
@@ -44,9 +44,14 @@ abbrev pub head_count : List Placed → ℕ
 head_count [] = 0
 head_count (t ∷ ts) = if is_sign (codes ";") t then 1 else if is_sign (codes "{") t then 0 else head_count ts + 1
 
+-- a line without the carriage return that stands at its end, if one does
+abbrev pub without_return : List ℕ → List ℕ
+without_return line =
+    if option_map_or (λ byte. nat_eq byte 13) (slice_get line (length line - 1)) false then take (length line - 1) line else line
+
 -- the bytes from one offset up to another, without what stands behind a line feed
 abbrev pub cut : List ℕ → ℕ → ℕ → List ℕ
-cut bytes start end = before_first is_feed (take (end - start) (drop start bytes))
+cut bytes start end = without_return (before_first is_feed (take (end - start) (drop start bytes)))
 
 -- from one token on to the end of another
 abbrev pub from_to : List ℕ → Option Placed → Option Placed → List ℕ

@@ -5,13 +5,15 @@
 #![tactic(auto)]
 
 mod line;
+mod naming;
 mod parts;
 mod pieces;
 mod render;
 mod source;
 
 pub use line::{Kind, Line, Shown};
-pub use parts::push_parts;
+pub use naming::{Naming, as_written, of_other};
+pub use parts::{push_named_parts, push_parts};
 pub use pieces::{put_change, put_equation};
 pub use render::{Form, put_lines};
-pub use source::{Text, offset_of, place_of, put_place, shown_text};
+pub use source::{Text, offset_of, place_of, put_place, shown_text, without_return};

@@ -3,7 +3,7 @@ ghost use Rattle.std.specs.Prelude.{◌≡◌, ◌≤◌, ◌++◌, ◌-◌, OnO
 ghost use Rattle.std.specs.List.{before_first};
 ghost use Rattle.civl_places.specs.Lines.{is_feed};
 ghost use Rattle.civl_lines.specs.Tokens.{AreTokens};
-ghost use Rattle.civl_lines.specs.Rendered.{cut, head_count, is_sign, last_of, offset_of, place_of, place_text, position_of, shown_text, tokens_text};
+ghost use Rattle.civl_lines.specs.Rendered.{cut, head_count, is_sign, last_of, offset_of, place_of, place_text, position_of, shown_text, tokens_text, without_return};
 
 use crate::line::Shown;
 use civl_lex::Token;
@@ -82,11 +82,30 @@ fn between(bytes: &[u8], start: usize, end: usize) -> &[u8]
     &bytes[start..end]
 }
 
+/// A line without the carriage return that stands at its end, if one does.
+///
+/// Nothing is allocated.
+pub fn without_return(line: &[u8]) -> &[u8]
+    ensures { result.now ≡ without_return line.now }
+{
+    let before = line.len().saturating_sub(1);
+    match line.get(before) {
+        Some(byte) => {
+            if *byte == b'\r' {
+                &line[..before]
+            } else {
+                line
+            }
+        }
+        None => line,
+    }
+}
+
 /// The same, without what stands behind a line feed.
 fn cut(bytes: &[u8], start: usize, end: usize) -> &[u8]
     ensures { result.now ≡ cut bytes.now start end }
 {
-    first_line(between(bytes, start, end))
+    without_return(first_line(between(bytes, start, end)))
 }
 
 /// Whether a token is spelled so.

@@ -1,5 +1,5 @@
 -- Texts and lines behind one another.
-use Rattle.std.proofs.Common.{◌≡◌, ◌∙◌, ℕ, ◌+◌, ◌<◌, ◌≤◌, List, [], ◌∷◌, ◌++◌, length, get_or, map, drop, flat_map, Option, None, Some, sym, ap, append_assoc, append-nil}
+use Rattle.std.proofs.Common.{◌≡◌, ◌∙◌, ℕ, zero, suc, ◌+◌, ◌<◌, ◌≤◌, List, [], ◌∷◌, ◌++◌, length, get_or, map, drop, flat_map, Option, None, Some, refl, sym, ap, append_assoc, append-nil, arith}
 use Rattle.std.specs.Prelude.{slice_get}
 use Rattle.std.specs.Option.{option_map_or}
 use Rattle.std.proofs.lemmas.List.{drop_more}
@@ -46,3 +46,9 @@ module _ {X : Type 0} (xs : List X) (i : ℕ) (x : X) (below : i < length xs) (h
       ∙ append_assoc out (f x ∷ []) (map f (drop (i + 1) xs))
       ∙ ap (λ (ys : List X). out ++ map f ys) (sym opened)
       ∙ so_far
+
+-- what is read within a list doesn't hang on what stands for the rest
+pub read_within : {X : Type 0} (xs : List X) (i : ℕ) (d e : X) → i < length xs → get_or xs i d ≡ get_or xs i e
+read_within [] i d e h = absurd (omega (arith, h))
+read_within (x ∷ xs) zero d e h = refl
+read_within (x ∷ xs) (suc i) d e h = read_within xs i d e (omega (arith, h))

@@ -5,3 +5,6 @@ pub mod Fitting
 pub mod Names
 pub mod Standing
 pub mod Worked
+pub mod Losing
+pub mod Surrounding
+pub mod Passing

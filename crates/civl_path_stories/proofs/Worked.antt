@@ -25,7 +25,8 @@ use Rattle.civl_losses.specs.Losses.{walked_of}
 use Rattle.civl_losses.specs.Stories.{PathStory, story_from}
 use Rattle.civl_reasons.proofs.Parts.{parts_is}
 use Rattle.civl_places.proofs.Walking.{starts_is}
-use Rattle.civl_path_stories.specs.Paths.{Told, parts, told_lines, path_story}
+use Rattle.civl_path_stories.specs.Paths.{Told, named_parts, told_lines, path_story}
+use Rattle.civl_path_stories.specs.Around.{around_among}
 use Rattle.civl_path_stories.specs.examples.Gates.{procedure, gating, given, story, WorkedStory}
 
 abbrev calls : List (ℕ × List Choice)
@@ -78,8 +79,8 @@ abbrev told_by : PathStory → Told
 told_by path = record { program = gating; step = 1; number = 0; proc = procedure; cut = entry_cut; path = path }
 
 lines_are : told_lines (told_by (record { begun = begins calls; walked = walked })) None given (FalseGate 1 (bool true ∷ [])) ≡ story
-unfolding parts
-lines_are = simp (starts_is, parts_is, of_trees)
+unfolding named_parts around_among
+lines_are = simp (layers, starts_is, parts_is, of_trees)
 
 pub worked_story : WorkedStory
 unfolding path_story

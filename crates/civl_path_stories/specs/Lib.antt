@@ -1,3 +1,5 @@
+pub mod Around
 pub mod Paths
 pub mod examples
 pub mod inner
+pub mod Laws

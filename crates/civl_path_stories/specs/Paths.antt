@@ -51,7 +51,11 @@ use Rattle.civl_lines.specs.declared.line.Kind.TheVariants.{Info, Error}
 use Rattle.civl_lines.specs.declared.line.Shown.{Shown}
 use Rattle.civl_lines.specs.declared.line.Shown.TheVariants.{Nothing, Head, Tokens}
 use Rattle.civl_lines.specs.declared.line.Line.{Line}
-use Rattle.civl_lines.specs.Pieces.{equation, change_text, part_lines}
+use Rattle.civl_lines.specs.Pieces.{Naming, as_written, of_other, equation, change_text, named_part_lines}
+use Rattle.civl_path_stories.specs.declared.around.Around.{Around}
+use Rattle.civl_path_stories.specs.declared.around.Branch.{Branch}
+use Rattle.civl_path_stories.specs.declared.around.Branch.TheVariants.{Body, First, Second}
+use Rattle.civl_path_stories.specs.Around.{around}
 
 -- a path of which a story is told, of a condition at this step: its procedure with its number, the cut where it begins, and what it passes
 pub record Told : Type 0 where
@@ -83,6 +87,19 @@ begin_line t =
     then info (item_start t.program (proc_item t.program t.number)) (Tokens 2) (codes "begins here")
     else info (token t t.cut.statement) Head (codes "begins here")
 
+-- how the cut stands in a statement around it
+abbrev pub branch_text : Branch → List ℕ
+branch_text Body = codes "around it, in its body"
+branch_text First = codes "around it, where it is true"
+branch_text Second = codes "around it, where it is false"
+
+abbrev pub around_line : Told → Around → Line
+around_line t a = info (token t a.statement) Head (branch_text a.branch)
+
+-- the statements around the cut; none are around the entry, whose statement is the first
+abbrev pub around_lines : Told → List Line
+around_lines t = map (around_line t) (around t.proc.body t.cut.statement)
+
 -- the name at a place; empty where there is none
 abbrev pub name_at : List Name → ℕ → Name
 name_at names place = slice_index_or names place (record { bytes = [] })
@@ -97,6 +114,19 @@ passage_text names q = option_map_or bool_text q.took (listed (change_texts name
 
 abbrev pub passage_line : Told → Passage → Line
 passage_line t q = info (token t q.statement) Head (passage_text (note_names t.program.globals t.proc) q)
+
+abbrev pub passage_lines : Told → List Passage → List Line
+passage_lines t passed = map (passage_line t) passed
+
+-- those before the first of this statement
+abbrev pub before_statement : ℕ → List Passage → List Passage
+before_statement statement [] = []
+before_statement statement (q ∷ qs) = if nat_eq q.statement statement then [] else q ∷ before_statement statement qs
+
+-- what is told of what is passed: all of it, but of a second commit only what stands before it
+abbrev pub told_passages : Loss → List Passage → List Passage
+told_passages (loss.CommitAgain statement) passed = before_statement statement passed
+told_passages _ passed = passed
 
 -- ---- where it ends
 
@@ -118,9 +148,13 @@ lost_at_end t text = lost_by t.path.walked.ending t text
 
 -- ---- formulas that are false
 
--- the false parts of an expression of the program, whose names stand for this
-unfoldable pub parts : Program → Scope → Formula → List Line
-parts program scope formula = option_map_or (part_lines scope) (formula_at program formula) []
+-- the false parts of an expression of the program, whose names stand for this and are told so
+unfoldable pub named_parts : Program → Naming → Scope → Formula → List Line
+named_parts program naming scope formula = option_map_or (named_part_lines naming scope) (formula_at program formula) []
+
+-- the same with the names as they are
+abbrev pub parts : Program → Scope → Formula → List Line
+parts program = named_parts program as_written
 
 -- those of the gate of the action with this number, with these inputs in a store
 abbrev pub gate_parts : Program → ℕ → Store → List Value → List Line
@@ -233,7 +267,7 @@ target_text (target.Yield number cut) = codes "what another thread's yield says 
 abbrev pub other_parts : Program → ℕ → List Value → ℕ → Store → Proc → Cut → List Line
 other_parts program number values at store proc cut =
     let other = other_of proc values at in
-    parts program (steady_note_values program.globals proc store other.locals other.done)
+    named_parts program (of_other program.globals) (steady_note_values program.globals proc store other.locals other.done)
     (formula.Statement number cut.statement part.Invariant)
 
 -- the false parts of a target in a store: of the invariant of the step, or of what another thread's yield says
@@ -264,9 +298,13 @@ loss_lines t target values (loss.ActionGives gs os) = lost_at_end t (gives_text 
 loss_lines t target values (loss.RankStays before after) = lost_at t t.cut.statement (rank_text before after) ∷ []
 loss_lines t target values loss.TargetLost = option_map_or (target_lines t values) target []
 
--- where the path begins, what it passes, and what is lost
+-- what the path passes, as far as it is told, and what is lost
+abbrev pub course_lines : Told → Option Target → List Value → Loss → List Line
+course_lines t target values lost = passage_lines t (told_passages lost t.path.walked.passed) ++ loss_lines t target values lost
+
+-- where the path begins, what is around it, what it passes, and what is lost
 abbrev pub told_lines : Told → Option Target → List Value → Loss → List Line
-told_lines t target values lost = begin_line t ∷ map (passage_line t) t.path.walked.passed ++ loss_lines t target values lost
+told_lines t target values lost = begin_line t ∷ around_lines t ++ course_lines t target values lost
 
 -- from a cut of a procedure at a step
 abbrev pub story_lines : Program → ℕ → ℕ → Option Target → List Value → Loss → Proc → Cut → List Line

@@ -1,1 +1,3 @@
+pub mod Around
+pub mod Before
 pub mod Gates

@@ -3,24 +3,45 @@ ghost use Rattle.std.specs.Prelude.{◌≡◌, ◌++◌, ◌<◌, ◌^◌, lengt
 ghost use Rattle.civl_tree.specs.SpellingProgram.{spell_program};
 ghost use Rattle.civl_firing.specs.Scope.{gate_values, guard_values};
 ghost use Rattle.civl_firing.specs.Settings.{scope_in};
-ghost use Rattle.civl_path_stories.specs.Paths.{parts, gate_parts, guard_parts};
+ghost use Rattle.civl_lines.specs.inner.Named.{told};
+ghost use Rattle.civl_path_stories.specs.Paths.{named_parts, parts, gate_parts, guard_parts};
 
 use civl_bits::Value;
 use civl_firing::Store;
 use civl_firing::names::Names;
 use civl_firing::setting::{Bindings, Setting};
-use civl_lines::{Line, push_parts};
+use civl_lines::{Line, Naming, as_written, push_named_parts};
 use civl_places::laws::formulas_stand;
 use civl_places::{Formula, InAction, formula_at};
 use civl_tree::{Action, Global, Memory, Program};
 use std::alloc::Global as Alloc;
+
+/// Puts the false parts of an expression of the program behind the others, with its names told so.
+#[tactic(auto, using(crate::proofs::Standing::stands_within), unfolding(crate::specs::Paths::named_parts))]
+pub(crate) fn push_named_formula<B: Bindings>(
+    alloc: Alloc,
+    lines: &mut Vec<Line>,
+    program: &Program,
+    naming: &Naming<'_>,
+    bindings: &B,
+    formula: &Formula,
+) -> Result<(), Memory>
+    requires { length (spell_program program.now) < 2 ^ 64 }
+    ensures { OnOk result (lines.new.items ≡ lines.old.items
+        ++ named_parts program.now (told naming.now) (B.scope bindings.now) formula.now) }
+{
+    formulas_stand();
+    match formula_at(program, formula) {
+        Some(part) => push_named_parts(alloc, lines, naming, bindings, &part),
+        None => Ok(()),
+    }
+}
 
 /// Puts the false parts of an expression of the program behind the others.
 ///
 /// # Errors
 ///
 /// For want of memory.
-#[tactic(auto, using(crate::proofs::Standing::stands_within), unfolding(crate::specs::Paths::parts))]
 pub fn push_formula<B: Bindings>(
     alloc: Alloc,
     lines: &mut Vec<Line>,
@@ -31,11 +52,7 @@ pub fn push_formula<B: Bindings>(
     requires { length (spell_program program.now) < 2 ^ 64 }
     ensures { OnOk result (lines.new.items ≡ lines.old.items ++ parts program.now (B.scope bindings.now) formula.now) }
 {
-    formulas_stand();
-    match formula_at(program, formula) {
-        Some(part) => push_parts(alloc, lines, bindings, &part),
-        None => Ok(()),
-    }
+    push_named_formula(alloc, lines, program, &as_written(), bindings, formula)
 }
 
 /// What an action's gate is about.

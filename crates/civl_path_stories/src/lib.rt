@@ -1,9 +1,10 @@
-//! The story of a condition K9 or K10 that fails at its values, as lines: where its path begins, each statement that the path passes,
-//! and what is lost.
+//! The story of a condition K9 or K10 that fails at its values, as lines: where its path begins and what is around it, each statement
+//! that the path passes, and what is lost.
 //!
-//! The definition stands in specs/ (`Paths`), over the paths and the losses of [`civl_losses`] and the lines of [`civl_lines`].
+//! The definitions stand in specs/ (`Paths`, `Around`), over the paths and the losses of [`civl_losses`] and the lines of [`civl_lines`].
 #![tactic(auto)]
 
+mod around;
 mod begin;
 mod blocks;
 mod changes;

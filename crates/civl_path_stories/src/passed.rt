@@ -1,8 +1,8 @@
 // What a path passes.
-ghost use Rattle.std.specs.Prelude.{◌≡◌, ◌++◌, ◌∷◌, [], map, IfOk, OnOk};
+ghost use Rattle.std.specs.Prelude.{◌≡◌, ◌++◌, ◌∷◌, [], IfOk, OnOk};
 ghost use Rattle.civl_firing.specs.Names.{names_of};
 ghost use Rattle.civl_verdicts.specs.models.Text.{bool_text};
-ghost use Rattle.civl_path_stories.specs.Paths.{passage_text, passage_line};
+ghost use Rattle.civl_path_stories.specs.Paths.{before_statement, passage_line, passage_lines, passage_text, told_passages};
 ghost use Rattle.civl_path_stories.specs.inner.Routes.{told, Fits};
 
 use crate::changes::put_changes;
@@ -11,6 +11,7 @@ use crate::route::Route;
 use crate::tokens::token;
 use civl_firing::names::Names;
 use civl_lines::{Kind, Line, Shown};
+use civl_losses::Loss;
 use civl_traces::Passage;
 use civl_tree::{List, Memory};
 use civl_verdicts::reports::put;
@@ -73,17 +74,65 @@ fn push_passage(
 }
 
 /// Puts the lines of these statements behind the others.
-pub(crate) fn push_passed(
+fn push_passages(
     alloc: Global,
     lines: &mut Vec<Line>,
     route: &Route<'_>,
     passed: &[Passage],
 ) -> Result<(), Memory>
     requires { Fits route.now }
-    ensures { OnOk result (lines.new.items ≡ lines.old.items ++ map (passage_line (told route.now)) passed.now) }
+    ensures { OnOk result (lines.new.items ≡ lines.old.items ++ passage_lines (told route.now) passed.now) }
 {
     for passage in passed {
         push_passage(alloc, lines, route, passage)?;
     }
     Ok(())
+}
+
+/// Puts the lines of those of these statements that are passed before the first passage of this one behind the others.
+#[tactic(auto, using(crate::proofs::Passing::passing))]
+fn push_before(
+    alloc: Global,
+    lines: &mut Vec<Line>,
+    route: &Route<'_>,
+    passed: &[Passage],
+    statement: usize,
+) -> Result<(), Memory>
+    requires { Fits route.now }
+    ensures { OnOk result (lines.new.items ≡ lines.old.items
+        ++ passage_lines (told route.now) (before_statement statement passed.now)) }
+{
+    for passage in passed {
+        if passage.statement == statement {
+            return Ok(());
+        }
+        push_passage(alloc, lines, route, passage)?;
+    }
+    Ok(())
+}
+
+/// Puts the lines of what the path passes behind the others: all of it, but of a second commit only what stands before it.
+pub(crate) fn push_passed(
+    alloc: Global,
+    lines: &mut Vec<Line>,
+    route: &Route<'_>,
+    passed: &[Passage],
+    loss: &Loss,
+) -> Result<(), Memory>
+    requires { Fits route.now }
+    ensures { OnOk result (lines.new.items ≡ lines.old.items
+        ++ passage_lines (told route.now) (told_passages loss.now passed.now)) }
+{
+    match loss {
+        Loss::CommitAgain(statement) => push_before(alloc, lines, route, passed, *statement),
+        Loss::FalseGate(_, _) => push_passages(alloc, lines, route, passed),
+        Loss::FalseAssert => push_passages(alloc, lines, route, passed),
+        Loss::FalseNote(_) => push_passages(alloc, lines, route, passed),
+        Loss::NoCommit => push_passages(alloc, lines, route, passed),
+        Loss::Changes(_, _) => push_passages(alloc, lines, route, passed),
+        Loss::ActionWaits(_) => push_passages(alloc, lines, route, passed),
+        Loss::ActionGives(_, _) => push_passages(alloc, lines, route, passed),
+        Loss::RankStays(_, _) => push_passages(alloc, lines, route, passed),
+        Loss::TargetLost => push_passages(alloc, lines, route, passed),
+    }
 }

@@ -8,10 +8,10 @@ ghost use Rattle.civl_conditions.specs.Steps.{of_cut};
 ghost use Rattle.civl_conditions.specs.Variables.{variables};
 ghost use Rattle.civl_losses.specs.Stories.{story, story_of};
 ghost use Rattle.civl_losses.specs.Stories.{IsAtStep};
-ghost use Rattle.civl_path_stories.specs.Paths.{loss_lines, path_story, story_lines, target_lines, told_lines};
+ghost use Rattle.civl_path_stories.specs.Paths.{course_lines, loss_lines, path_story, story_lines, target_lines, told_lines};
 ghost use Rattle.civl_path_stories.specs.inner.Routes.{told, Fits};
 
-use crate::begin::push_begin;
+use crate::begin::{push_around, push_begin};
 use crate::blocks::{push_changes, push_gives, push_rank, push_waits};
 use crate::ends::{push_lost, push_lost_at_end, push_lost_at_exit};
 use crate::gates::{push_false_assert, push_false_gate};
@@ -114,7 +114,31 @@ fn push_loss(
     }
 }
 
-/// Puts the lines of a path and of what is lost on it behind the others.
+/// Puts the lines of what a path passes and of what is lost on it behind the others.
+fn push_course(
+    alloc: Global,
+    lines: &mut Vec<Line>,
+    src: &Layered,
+    route: &Route<'_>,
+    target: Option<Target>,
+    values: &[Value],
+    loss: &Loss,
+) -> Result<(), Memory>
+    requires fits { Fits route.now }
+    requires same { route.now.program.now ≡ src.now }
+    ensures { OnOk result (lines.new.items ≡ lines.old.items ++ course_lines (told route.now) target values.now loss.now) }
+{
+    push_passed(
+        alloc,
+        lines,
+        route,
+        route.path.walked.passed.as_slice(),
+        loss,
+    )?;
+    push_loss(alloc, lines, src, route, target, values, loss)
+}
+
+/// Puts the lines of a path, with what is around its beginning and what is lost on it, behind the others.
 fn push_told(
     alloc: Global,
     lines: &mut Vec<Line>,
@@ -129,8 +153,8 @@ fn push_told(
     ensures { OnOk result (lines.new.items ≡ lines.old.items ++ told_lines (told route.now) target values.now loss.now) }
 {
     push_begin(alloc, lines, route)?;
-    push_passed(alloc, lines, route, route.path.walked.passed.as_slice())?;
-    push_loss(alloc, lines, src, route, target, values, loss)
+    push_around(alloc, lines, route)?;
+    push_course(alloc, lines, src, route, target, values, loss)
 }
 
 /// A condition on paths: its step, the numbers of its procedure and its cut, and its target, if it has one.

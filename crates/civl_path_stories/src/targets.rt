@@ -11,7 +11,7 @@ ghost use Rattle.civl_conditions.specs.Targets.{frame_size, other_of};
 ghost use Rattle.civl_path_stories.specs.Paths.{other_parts, place_among, target_parts, target_text};
 ghost use Rattle.civl_path_stories.specs.inner.Others.{meant};
 
-use crate::formulas::push_formula;
+use crate::formulas::{push_formula, push_named_formula};
 use civl_assumed::steady;
 use civl_bits::Value;
 use civl_conditions::Target;
@@ -19,7 +19,7 @@ use civl_firing::Store;
 use civl_firing::setting::at_start;
 use civl_firing::values::{is_true, nothing};
 use civl_layers::{Cut, Layered, cuts, program};
-use civl_lines::Line;
+use civl_lines::{Line, of_other};
 use civl_meaning::slices::{behind, first};
 use civl_places::{Formula, InStatement};
 use civl_tree::{Invariant, Memory, Proc, Program};
@@ -145,7 +145,8 @@ fn push_said(
         cut.statement as usize,
         InStatement::Invariant,
     );
-    push_formula(alloc, lines, program, &note, &said)
+    let naming = of_other(program.globals.as_slice());
+    push_named_formula(alloc, lines, program, &naming, &note, &said)
 }
 
 /// The cut of a procedure that has this number.

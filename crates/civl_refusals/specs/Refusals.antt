@@ -1,7 +1,7 @@
 -- Where a text is refused, and why: the place, the line itself with a caret under it, and what is wrong there. (As compilers show a
 -- diagnostic: GNU Coding Standards, "Formatting Error Messages"; the caret as Clang's "Expressive Diagnostics".)
-use Rattle.std.specs.Prelude.{ℕ, ◌-◌, nat_eq, nat_lt, if◌then◌else◌, List, [], ◌∷◌, ◌++◌, length, codes}
-use Rattle.std.specs.Prelude.{Option, None, Some, replicate, option_and_then}
+use Rattle.std.specs.Prelude.{ℕ, ◌-◌, nat_eq, nat_lt, if◌then◌else◌, List, [], ◌∷◌, ◌++◌, length, map, take, codes}
+use Rattle.std.specs.Prelude.{Option, None, Some, option_and_then}
 use Rattle.std.specs.Option.{option_map_or}
 use Rattle.std.specs.List.{flat_map}
 use Rattle.civl_tree.specs.declared.program.Program.{Program}
@@ -20,20 +20,55 @@ use Rattle.civl_lines.specs.declared.line.Shown.TheVariants.{Tokens}
 use Rattle.civl_lines.specs.declared.line.Line.{Line}
 use Rattle.civl_lines.specs.declared.render.Form.{Form}
 use Rattle.civl_lines.specs.declared.render.Form.TheVariants.{Story, Findings}
-use Rattle.civl_lines.specs.Rendered.{position_of, offset_of, place_text, lines_text}
+use Rattle.civl_lines.specs.Rendered.{position_of, offset_of, place_text, lines_text, without_return}
+use Rattle.civl_refusals.specs.declared.spot.Spot.{Spot}
 
 -- ---- a place and what is wrong there
+
+-- under a byte of a line: a tab under a tab, and a blank under any other byte
+abbrev pub margin_byte : ℕ → ℕ
+margin_byte byte = if nat_eq byte 9 then 9 else 32
+
+-- under the bytes of a line before a column
+abbrev pub margin_text : List ℕ → ℕ → List ℕ
+margin_text line column = map margin_byte (take (column - 1) line)
 
 -- the line of an offset, and under it a caret at its column
 abbrev pub caret_text : List ℕ → ℕ → List ℕ
 caret_text bytes offset =
-    line (codes "    " ++ line_at bytes offset) ++ line (codes "    " ++ (replicate (column_of bytes offset - 1) 32 ++ codes "^"))
+    line (codes "    " ++ without_return (line_at bytes offset))
+    ++ line (codes "    " ++ (margin_text (line_at bytes offset) (column_of bytes offset) ++ codes "^"))
 
 -- `line:column  what is wrong`, and the caret; or the place and what is wrong in one line
 abbrev pub fault_told : Form → List ℕ → ℕ → List ℕ → List ℕ
 fault_told Story bytes offset text =
     line (codes "  " ++ (place_text (position_of bytes offset) ++ (codes "  " ++ text))) ++ caret_text bytes offset
 fault_told Findings bytes offset text = line (place_text (position_of bytes offset) ++ (codes ": error: " ++ text))
+
+-- ---- places in a program
+
+-- the token of an item, if there is one
+abbrev pub item_at : Program → ℕ → ℕ
+item_at program item = if nat_lt item (item_count program) then item_start program item else 0
+
+-- an item as a line of a story
+abbrev pub item_line : Program → ℕ → Line
+item_line program item = record { token = item_at program item; shown = Tokens 2; kind = Info; text = [] }
+
+-- an item, and nothing in it
+abbrev pub at_item : ℕ → Spot
+at_item item = record { item = item; inside = None }
+
+-- the item of `init`
+abbrev pub init_spot : Program → Spot
+init_spot program = at_item (length program.globals)
+
+-- the item, and the place in it with what is wrong there; or the item alone with this
+abbrev pub spot_told : Form → List ℕ → List Placed → Program → Spot → List ℕ → List ℕ
+spot_told form bytes tokens program spot text =
+    option_map_or (λ at.
+    lines_text form bytes tokens (item_line program spot.item ∷ []) ++ fault_told form bytes (offset_of bytes tokens at) text)
+    spot.inside (fault_told form bytes (offset_of bytes tokens (item_at program spot.item)) text)
 
 -- ---- a token that can't stand where it does
 
@@ -119,30 +154,20 @@ proc_of_item program item =
     option_and_then (behind (length program.actions)) (option_and_then (behind (length program.invariants))
     (option_and_then (behind 1) (behind (length program.globals) item)))
 
--- the token of the statement that a refusal names, where its item is a procedure
-abbrev pub refused_statement : Program → Refusal → Option ℕ
-refused_statement program refusal =
-    option_and_then (λ proc. statement_start program proc refusal.statement) (proc_of_item program refusal.item)
+-- the token of this statement of an item, where it is a procedure
+abbrev pub statement_in : Program → ℕ → ℕ → Option ℕ
+statement_in program item statement = option_and_then (λ proc. statement_start program proc statement) (proc_of_item program item)
 
--- the token of an item, if there is one
-abbrev pub item_at : Program → ℕ → ℕ
-item_at program item = if nat_lt item (item_count program) then item_start program item else 0
+-- an item by its number, and in a procedure a statement
+abbrev pub place_spot : Program → ℕ → ℕ → Spot
+place_spot program item statement = record { item = item; inside = statement_in program item statement }
 
--- the item that a refusal names
-abbrev pub item_line : Program → Refusal → Line
-item_line program refusal = record { token = item_at program refusal.item; shown = Tokens 2; kind = Info; text = [] }
-
--- the item, where it is a procedure, and the place in it, with what the rule forbids and what that is about; or the item alone
--- with these
+-- at the item and the statement that a refusal names, what the rule forbids and what that is about
 abbrev pub refusal_told : Form → List ℕ → List Placed → Program → Refusal → List ℕ
 refusal_told form bytes tokens program refusal =
-    option_map_or (λ at.
-    lines_text form bytes tokens (item_line program refusal ∷ [])
-    ++ fault_told form bytes (offset_of bytes tokens at) (rule_told program refusal))
-    (refused_statement program refusal)
-    (fault_told form bytes (offset_of bytes tokens (item_at program refusal.item)) (rule_told program refusal))
+    spot_told form bytes tokens program (place_spot program refusal.item refusal.statement) (rule_told program refusal)
 
 -- no store is initial, which the item of `init` says
 abbrev pub no_initial_told : Form → List ℕ → List Placed → Program → List ℕ
 no_initial_told form bytes tokens program =
-    fault_told form bytes (offset_of bytes tokens (item_at program (length program.globals))) (codes "no store is initial")
+    spot_told form bytes tokens program (init_spot program) (codes "no store is initial")

@@ -1,31 +1,47 @@
 // Places in a text, and what is wrong there.
-ghost use Rattle.std.specs.Prelude.{◌≡◌, ◌≤◌, ◌++◌, ◌-◌, OnOk, length, replicate, if◌then◌else◌, codes, []};
-ghost use Rattle.civl_places.specs.Lines.{column_of};
+ghost use Rattle.std.specs.Prelude.{◌≡◌, ◌≤◌, ◌++◌, OnOk, length, map, take, if◌then◌else◌, codes, []};
 ghost use Rattle.civl_lines.specs.Rendered.{position_of};
-ghost use Rattle.civl_refusals.specs.Refusals.{candidate_text, candidates_text, caret_text, expected_text, fault_told};
+ghost use Rattle.civl_refusals.specs.Refusals.{candidate_text, candidates_text, caret_text, expected_text, fault_told, margin_byte, margin_text};
 
 use civl_expected::{Candidate, Expected};
-use civl_lines::{Form, put_place};
+use civl_lines::{Form, put_place, without_return};
 use civl_places::{Position, line_at, position_at};
 use civl_tree::Memory;
 use civl_verdicts::reports::put;
 
-/// So many blanks.
-fn put_blanks(out: &mut Vec<u8>, count: usize) -> Result<(), Memory>
-    ensures { OnOk result (out.new.items ≡ out.old.items ++ replicate count 32) }
+/// What stands under a byte of a line, before a caret: a tab under a tab, and a blank under any other byte.
+fn margin_byte(byte: u8) -> u8
+    ensures { result ≡ margin_byte byte }
 {
-    for _ in 0..count {
-        out.push(b' ')?;
+    if byte == b'\t' { b'\t' } else { b' ' }
+}
+
+/// The same under each of these.
+fn put_under(out: &mut Vec<u8>, bytes: &[u8]) -> Result<(), Memory>
+    ensures { OnOk result (out.new.items ≡ out.old.items ++ map margin_byte bytes.now) }
+{
+    for byte in bytes {
+        out.push(margin_byte(*byte))?;
     }
     Ok(())
 }
 
-/// A caret under the column of an offset.
-fn put_caret(out: &mut Vec<u8>, column: usize) -> Result<(), Memory>
-    ensures { OnOk result (out.new.items ≡ out.old.items ++ (codes "    " ++ (replicate (column - 1) 32 ++ codes "^\n"))) }
+/// The first bytes of a line, so many or all.
+fn first_bytes(line: &[u8], count: usize) -> &[u8]
+    ensures { result.now ≡ take count line.now }
+{
+    if count >= line.len() {
+        return line;
+    }
+    &line[..count]
+}
+
+/// A caret under a column of a line.
+fn put_caret(out: &mut Vec<u8>, line: &[u8], column: usize) -> Result<(), Memory>
+    ensures { OnOk result (out.new.items ≡ out.old.items ++ (codes "    " ++ (margin_text line.now column ++ codes "^\n"))) }
 {
     put(out, b"    ")?;
-    put_blanks(out, column.saturating_sub(1))?;
+    put_under(out, first_bytes(line, column.saturating_sub(1)))?;
     put(out, b"^\n")
 }
 
@@ -34,10 +50,11 @@ fn put_marked(out: &mut Vec<u8>, bytes: &[u8], offset: usize) -> Result<(), Memo
     requires { offset ≤ length bytes.now }
     ensures { OnOk result (out.new.items ≡ out.old.items ++ caret_text bytes.now offset) }
 {
+    let line = line_at(bytes, offset);
     put(out, b"    ")?;
-    put(out, line_at(bytes, offset))?;
+    put(out, without_return(line))?;
     put(out, b"\n")?;
-    put_caret(out, position_at(bytes, offset).column)
+    put_caret(out, line, position_at(bytes, offset).column)
 }
 
 /// The line and the column of an offset.

@@ -1,15 +1,14 @@
 // Where a program breaks a static rule.
-ghost use Rattle.std.specs.Prelude.{◌≡◌, ◌<◌, ◌^◌, ◌++◌, [], ◌∷◌, IfOk, OnOk, length};
+ghost use Rattle.std.specs.Prelude.{◌≡◌, ◌<◌, ◌^◌, ◌++◌, IfOk, OnOk, length};
 ghost use Rattle.civl_tree.specs.SpellingProgram.{spell_program};
 ghost use Rattle.civl_lines.specs.Tokens.{AreTokens};
-ghost use Rattle.civl_lines.specs.Rendered.{lines_text, offset_of};
-ghost use Rattle.civl_refusals.specs.Refusals.{fault_told, behind, item_at, item_line, proc_of_item, layers_rule, linear_rule, names_rule, no_initial_told, refusal_told, refused_statement, rule_text, rule_told, sorts_rule, yields_rule};
+ghost use Rattle.civl_refusals.specs.Refusals.{behind, proc_of_item, layers_rule, linear_rule, names_rule, no_initial_told, place_spot, refusal_told, statement_in, rule_text, rule_told, sorts_rule, yields_rule};
 
-use crate::faults::put_fault;
-use civl_lines::{Form, Kind, Line, Shown, Text, offset_of, put_lines};
-use civl_places::{item_token, statement_token};
+use crate::spot::{Spot, item_at, put_at, put_spot};
+use civl_lines::{Form, Text};
+use civl_places::statement_token;
 use civl_subjects::push_subject;
-use civl_tree::{List, Memory, Program, Refusal};
+use civl_tree::{Memory, Program, Refusal};
 use civl_verdicts::reports::put;
 use std::alloc::Global;
 
@@ -130,7 +129,7 @@ fn behind(count: usize, number: usize) -> Option<usize>
 }
 
 /// The procedure that an item is, if it is one.
-fn proc_of_item(program: &Program, item: usize) -> Option<usize>
+pub(crate) fn proc_of_item(program: &Program, item: usize) -> Option<usize>
     ensures { result ≡ proc_of_item program.now item }
 {
     let number = behind(program.globals.len(), item)?;
@@ -139,75 +138,24 @@ fn proc_of_item(program: &Program, item: usize) -> Option<usize>
     behind(program.actions.len(), number)
 }
 
-/// The token of the statement that a refusal names, where its item is a procedure.
-fn refused_statement(program: &Program, refusal: Refusal) -> Option<usize>
+/// The token of this statement of an item, where it is a procedure.
+fn statement_in(program: &Program, item: usize, statement: usize) -> Option<usize>
     requires { length (spell_program program.now) < 2 ^ 64 }
-    ensures { result ≡ refused_statement program.now refusal }
+    ensures { result ≡ statement_in program.now item statement }
 {
-    let proc = proc_of_item(program, refusal.item as usize)?;
-    statement_token(program, proc, refusal.statement as usize)
+    let proc = proc_of_item(program, item)?;
+    statement_token(program, proc, statement)
 }
 
-/// The token of an item.
-fn item_at(program: &Program, item: usize) -> usize
+/// An item by its number, and in a procedure a statement.
+pub(crate) fn place_spot(program: &Program, item: usize, statement: usize) -> Spot
     requires { length (spell_program program.now) < 2 ^ 64 }
-    ensures { result ≡ item_at program.now item }
+    ensures { result ≡ place_spot program.now item statement }
 {
-    match item_token(program, item) {
-        Some(token) => token,
-        None => 0,
+    Spot {
+        item,
+        inside: statement_in(program, item, statement),
     }
-}
-
-/// The line of the item that a refusal names.
-fn item_line(alloc: Global, program: &Program, refusal: Refusal) -> Line
-    requires { length (spell_program program.now) < 2 ^ 64 }
-    ensures { result ≡ item_line program.now refusal }
-{
-    Line {
-        token: item_at(program, refusal.item as usize),
-        shown: Shown::Tokens(2),
-        kind: Kind::Info,
-        text: List::new(alloc),
-    }
-}
-
-/// The item that a refusal names, written as a line of a story.
-fn put_item(
-    alloc: Global,
-    out: &mut Vec<u8>,
-    form: Form,
-    text: &Text<'_>,
-    program: &Program,
-    refusal: Refusal,
-) -> Result<(), Memory>
-    requires short { length (spell_program program.now) < 2 ^ 64 }
-    requires tokens { AreTokens text.now.bytes.now text.now.tokens.now }
-    ensures { OnOk result (out.new.items ≡ out.old.items
-        ++ lines_text form text.now.bytes.now text.now.tokens.now (item_line program.now refusal ∷ [])) }
-{
-    let mut lines = Vec::new(alloc);
-    lines.push(item_line(alloc, program, refusal))?;
-    put_lines(out, form, text, lines.as_slice())
-}
-
-/// Puts a token's place, and what is wrong there, behind what is there.
-///
-/// # Errors
-///
-/// For want of memory.
-pub fn put_at(
-    out: &mut Vec<u8>,
-    form: Form,
-    text: &Text<'_>,
-    token: usize,
-    said: &[u8],
-) -> Result<(), Memory>
-    requires { AreTokens text.now.bytes.now text.now.tokens.now }
-    ensures { OnOk result (out.new.items ≡ out.old.items
-        ++ fault_told form text.now.bytes.now (offset_of text.now.bytes.now text.now.tokens.now token) said.now) }
-{
-    put_fault(out, form, text.bytes, offset_of(text, token), said)
 }
 
 /// What the rule forbids, and what the refusal is about.
@@ -218,24 +166,6 @@ fn rule_told(alloc: Global, program: &Program, refusal: Refusal) -> Result<Vec<u
     put(&mut said, rule_text(refusal.code))?;
     push_subject(alloc, &mut said, program, refusal)?;
     Ok(said)
-}
-
-/// What the rule forbids and what the refusal is about, at a token's place.
-fn put_rule(
-    alloc: Global,
-    out: &mut Vec<u8>,
-    form: Form,
-    text: &Text<'_>,
-    program: &Program,
-    refusal: Refusal,
-    token: usize,
-) -> Result<(), Memory>
-    requires { AreTokens text.now.bytes.now text.now.tokens.now }
-    ensures { OnOk result (out.new.items ≡ out.old.items
-        ++ fault_told form text.now.bytes.now (offset_of text.now.bytes.now text.now.tokens.now token) (rule_told program.now refusal)) }
-{
-    let said = rule_told(alloc, program, refusal)?;
-    put_at(out, form, text, token, &said)
 }
 
 /// Puts the item and the statement that a refusal names, what the rule forbids, and what the refusal is about, behind what
@@ -257,16 +187,9 @@ pub fn put_refusal(
     ensures { OnOk result (out.new.items ≡ out.old.items
         ++ refusal_told form text.now.bytes.now text.now.tokens.now program.now refusal) }
 {
-    match refused_statement(program, refusal) {
-        Some(token) => {
-            put_item(alloc, out, form, text, program, refusal)?;
-            put_rule(alloc, out, form, text, program, refusal, token)
-        }
-        None => {
-            let token = item_at(program, refusal.item as usize);
-            put_rule(alloc, out, form, text, program, refusal, token)
-        }
-    }
+    let said = rule_told(alloc, program, refusal)?;
+    let spot = place_spot(program, refusal.item as usize, refusal.statement as usize);
+    put_spot(alloc, out, form, text, program, spot, &said)
 }
 
 /// Puts that no store is initial, at the item of `init`, behind what is there.

@@ -1,4 +1,5 @@
 pub mod Strays
+pub mod Kinds
 pub mod Subjects
 pub mod Counts
 pub mod Layers

@@ -11,13 +11,15 @@ use Rattle.civl_tree.specs.declared.action.Mode.{Mode}
 use Rattle.civl_tree.specs.declared.action.Mode.TheVariants.{Val, Lend, Take, Give}
 use Rattle.civl_tree.specs.declared.action.Param.{Param}
 use Rattle.civl_tree.specs.rules.Uses.{Need, AnySort, AnyWord, Only}
-use Rattle.civl_subjects.specs.Subjects.{Subject, OfName, OfSort, OfNeed, OfExpr, OfUnsorted, OfMissorted, OfHeader, OfLimit, OfCount, OfRange, OfStep, OfParam}
+use Rattle.civl_subjects.specs.Subjects.{Subject, OfName, OfSort, OfNeed, OfExpr, OfUnsorted, OfMissorted, OfHeader, OfLimit, OfCount, OfRange, OfStep, OfParam, OfStatement, OfLayered, OfRoot}
 use Rattle.civl_subjects.specs.declared.subject.HeaderNumber.{HeaderNumber}
 use Rattle.civl_subjects.specs.declared.subject.HeaderNumber.TheVariants as header
 use Rattle.civl_subjects.specs.declared.subject.Limited.{Limited}
 use Rattle.civl_subjects.specs.declared.subject.Limited.TheVariants as limited
 use Rattle.civl_subjects.specs.declared.subject.Counted.{Counted}
 use Rattle.civl_subjects.specs.declared.subject.Counted.TheVariants.{Arguments, Results, Parameters, Outputs}
+use Rattle.civl_subjects.specs.declared.subject.StatementKind.{StatementKind}
+use Rattle.civl_subjects.specs.declared.subject.StatementKind.TheVariants as kind
 
 -- ---- sorts and expressions
 
@@ -95,6 +97,16 @@ counted_text Results = codes " result"
 counted_text Parameters = codes " parameter"
 counted_text Outputs = codes " output"
 
+-- `a loop`, `a yield`
+abbrev pub kind_text : StatementKind → List ℕ
+kind_text kind.Loop = codes "a loop"
+kind_text kind.YieldLoop = codes "a yield loop"
+kind_text kind.RankLoop = codes "a rank loop"
+kind_text kind.Yield = codes "a yield"
+kind_text kind.Commit = codes "a commit"
+kind_text kind.Intro = codes "an intro"
+kind_text kind.Spawn = codes "a spawn"
+
 -- ---- subjects
 
 abbrev pub subject_text : Subject → List ℕ
@@ -111,3 +123,6 @@ subject_text (OfRange first last layers) =
     decimal first ++ (codes " to " ++ (decimal last ++ (codes ", with " ++ number_text layers (codes " layer"))))
 subject_text (OfStep step layers) = decimal step ++ (codes ", with " ++ number_text layers (codes " layer"))
 subject_text (OfParam param other) = param_text param ++ (codes ", not " ++ param_text other)
+subject_text (OfStatement kind) = kind_text kind
+subject_text (OfLayered kind) = kind_text kind ++ codes " in a procedure that refines an action"
+subject_text (OfRoot kind) = kind_text kind ++ codes " in a root"

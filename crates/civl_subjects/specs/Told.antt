@@ -15,10 +15,10 @@ use Rattle.civl_tree.specs.Numbering.{header_item, statement_at}
 use Rattle.civl_tree.specs.rules.Count.{global_limit, invariant_limit, thread_limit}
 use Rattle.civl_layers.specs.Names.{global_range, action_range}
 use Rattle.civl_subjects.specs.declared.code.Code.{Code}
-use Rattle.civl_subjects.specs.declared.code.Code.TheVariants.{E10, E11, E12, E20, E21, E22, E23, E24, E30, E31, E32, E33, E34, E35, E40, E41, E43, E50, E53}
+use Rattle.civl_subjects.specs.declared.code.Code.TheVariants.{E10, E11, E12, E20, E21, E22, E23, E24, E30, E31, E32, E33, E34, E35, E40, E41, E43, E50, E51, E52, E53}
 use Rattle.civl_subjects.specs.declared.subject.Limited.TheVariants.{Globals, Invariants, Threads}
 use Rattle.civl_subjects.specs.declared.expr_rule.ExprRule.TheVariants.{Unknown, Width, Sorts, Index}
-use Rattle.civl_subjects.specs.Subjects.{Subject, OfName, OfExpr}
+use Rattle.civl_subjects.specs.Subjects.{Subject, OfName, OfExpr, OfStatement}
 use Rattle.civl_subjects.specs.Texts.{subject_text}
 use Rattle.civl_subjects.specs.Parts.{Part, GlobalPart, InitPart, InvariantPart, ActionPart, ProcPart, ThreadPart, part_at}
 use Rattle.civl_subjects.specs.Twice.{global_again, action_again, proc_again, stmt_again}
@@ -26,6 +26,7 @@ use Rattle.civl_subjects.specs.Places.{global_subject, init_subject, invariant_s
 use Rattle.civl_subjects.specs.Counts.{header_subject, limit_subject, action_limits, proc_limits, action_arity, refines_count, stmt_count, thread_count, size_subject}
 use Rattle.civl_subjects.specs.Layers.{range_subject, step_subject, refines_step, action_hidden, invariant_hidden, with_hidden, stmt_hidden, stmt_callee, refines_absent, stmt_absent, thread_absent, proc_signature, stmt_introduced}
 use Rattle.civl_subjects.specs.Linear.{stmt_not_held, stmt_held_twice, stmt_assigned}
+use Rattle.civl_subjects.specs.Kinds.{stmt_pauses, stmt_misplaced}
 use Rattle.civl_subjects.specs.Strays.{first_stray, any_stray, action_stray, refines_stray, stmt_stray}
 use Rattle.civl_yields.specs.Places.{no_leave}
 
@@ -48,9 +49,10 @@ layers_code code =
 abbrev pub other_code : ℕ → Option Code
 other_code code =
     if nat_eq code 40 then Some E40 else if nat_eq code 41 then Some E41 else if nat_eq code 43 then Some E43
-    else if nat_eq code 50 then Some E50 else if nat_eq code 53 then Some E53 else None
+    else if nat_eq code 50 then Some E50 else if nat_eq code 51 then Some E51 else if nat_eq code 52 then Some E52
+    else if nat_eq code 53 then Some E53 else None
 
--- of the rules E42, E51 and E52 nothing is told
+-- of the rule E42 nothing is told
 abbrev pub code_of : ℕ → Option Code
 code_of code =
     if nat_lt code 20 then names_code code else if nat_lt code 30 then sorts_code code
@@ -138,6 +140,8 @@ in_statement E40 program proc number stmt = expr_told (stmt_not_held program pro
 in_statement E41 program proc number stmt = name_told (stmt_held_twice program proc number stmt)
 in_statement E43 program proc number stmt = name_told (stmt_assigned program proc stmt)
 in_statement E50 program proc number stmt = name_told (stmt_callee stmt)
+in_statement E51 program proc number stmt = option_map OfStatement (stmt_pauses stmt)
+in_statement E52 program proc number stmt = stmt_misplaced proc stmt
 in_statement E53 program proc number stmt = expr_told (stmt_stray proc stmt)
 in_statement _ program proc number stmt = None
 

@@ -23,6 +23,8 @@ pub(crate) enum Code {
     E41,
     E43,
     E50,
+    E51,
+    E52,
     E53,
 }
 
@@ -100,6 +102,12 @@ fn other_code(code: u32) -> Option<Code>
     }
     if code == 50 {
         return Some(Code::E50);
+    }
+    if code == 51 {
+        return Some(Code::E51);
+    }
+    if code == 52 {
+        return Some(Code::E52);
     }
     if code == 53 {
         return Some(Code::E53);

@@ -47,7 +47,7 @@ pub fn linear_is_told()
     ensures { LinearIsTold }
 {}
 
-/// E50 and E53.
+/// E50 to E53.
 pub fn yields_are_told()
     ensures { YieldsAreTold }
 {}

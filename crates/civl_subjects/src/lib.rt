@@ -9,6 +9,7 @@ mod expressions;
 mod fitting;
 mod hidden;
 mod inside;
+mod kinds;
 pub mod laws;
 mod layers;
 mod linear;
@@ -25,5 +26,6 @@ mod twice;
 mod uses;
 mod writing;
 
-pub use subject::{Counted, HeaderNumber, Limited, Needed, Subject};
+pub use subject::{Counted, HeaderNumber, Limited, Needed, StatementKind, Subject};
 pub use told::push_subject;
+pub use writing::put_sort;

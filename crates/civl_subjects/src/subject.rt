@@ -41,6 +41,19 @@ pub enum Needed {
     Only(Sort),
 }
 
+/// What a statement is, of those that may not stand everywhere.
+#[derive(Clone, Copy)]
+pub enum StatementKind {
+    /// A loop with neither `yield` nor `rank`.
+    Loop,
+    YieldLoop,
+    RankLoop,
+    Yield,
+    Commit,
+    Intro,
+    Spawn,
+}
+
 /// What a refusal is about.
 #[derive(Clone, Copy)]
 pub enum Subject<'a> {
@@ -68,4 +81,10 @@ pub enum Subject<'a> {
     Step(u32, u32),
     /// A parameter or an output, and that of the refined action in its place.
     Differs(&'a Param, &'a Param),
+    /// What a statement is.
+    Statement(StatementKind),
+    /// What a statement is that stands in a procedure which refines an action.
+    InLayered(StatementKind),
+    /// What a statement is that stands in a root.
+    InRoot(StatementKind),
 }

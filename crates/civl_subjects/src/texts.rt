@@ -1,12 +1,12 @@
 // Subjects, written.
 ghost use Rattle.std.specs.Prelude.{◌≡◌, ◌++◌, OnOk};
 ghost use Rattle.civl_tree.specs.rules.Uses.{Only};
-ghost use Rattle.civl_subjects.specs.Subjects.{OfSort, OfNeed, OfUnsorted, OfMissorted, OfCount, OfRange, OfStep, OfParam};
-ghost use Rattle.civl_subjects.specs.Texts.{counted_text, header_text, limit_text, mode_text, need_text, param_text, subject_text};
+ghost use Rattle.civl_subjects.specs.Subjects.{OfSort, OfNeed, OfUnsorted, OfMissorted, OfCount, OfRange, OfStep, OfParam, OfLayered, OfRoot};
+ghost use Rattle.civl_subjects.specs.Texts.{counted_text, header_text, kind_text, limit_text, mode_text, need_text, param_text, subject_text};
 ghost use Rattle.civl_subjects.specs.inner.Meant.{meant, need_of};
 
 use crate::expressions::put_expr;
-use crate::subject::{Counted, HeaderNumber, Limited, Needed, Subject};
+use crate::subject::{Counted, HeaderNumber, Limited, Needed, StatementKind, Subject};
 use crate::writing::{put, put_many, put_number, put_sort};
 use civl_tree::{Expr, Memory, Mode, Name, Param, Sort};
 
@@ -178,6 +178,37 @@ fn put_differs(out: &mut Vec<u8>, param: &Param, other: &Param) -> Result<(), Me
     put_param(out, other)
 }
 
+/// What a statement is.
+fn kind_text(kind: StatementKind) -> &'static [u8]
+    ensures { result.now ≡ kind_text kind }
+{
+    match kind {
+        StatementKind::Loop => b"a loop",
+        StatementKind::YieldLoop => b"a yield loop",
+        StatementKind::RankLoop => b"a rank loop",
+        StatementKind::Yield => b"a yield",
+        StatementKind::Commit => b"a commit",
+        StatementKind::Intro => b"an intro",
+        StatementKind::Spawn => b"a spawn",
+    }
+}
+
+/// What a statement is that stands in a procedure which refines an action.
+fn put_in_layered(out: &mut Vec<u8>, kind: StatementKind) -> Result<(), Memory>
+    ensures { OnOk result (out.new.items ≡ out.old.items ++ subject_text (OfLayered kind)) }
+{
+    put(out, kind_text(kind))?;
+    put(out, b" in a procedure that refines an action")
+}
+
+/// What a statement is that stands in a root.
+fn put_in_root(out: &mut Vec<u8>, kind: StatementKind) -> Result<(), Memory>
+    ensures { OnOk result (out.new.items ≡ out.old.items ++ subject_text (OfRoot kind)) }
+{
+    put(out, kind_text(kind))?;
+    put(out, b" in a root")
+}
+
 /// A subject.
 pub(crate) fn put_subject(out: &mut Vec<u8>, subject: &Subject) -> Result<(), Memory>
     ensures { OnOk result (out.new.items ≡ out.old.items ++ subject_text (meant subject.now)) }
@@ -195,5 +226,8 @@ pub(crate) fn put_subject(out: &mut Vec<u8>, subject: &Subject) -> Result<(), Me
         Subject::Range(first, last, layers) => put_range(out, *first, *last, *layers),
         Subject::Step(step, layers) => put_step(out, *step, *layers),
         Subject::Differs(param, other) => put_differs(out, param, other),
+        Subject::Statement(kind) => put(out, kind_text(*kind)),
+        Subject::InLayered(kind) => put_in_layered(out, *kind),
+        Subject::InRoot(kind) => put_in_root(out, *kind),
     }
 }

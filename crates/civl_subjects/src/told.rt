@@ -12,6 +12,7 @@ use crate::counts::{
 use crate::declared::global_subject;
 use crate::expr_rule::ExprRule;
 use crate::hidden::{action_hidden, invariant_hidden, stmt_hidden, with_hidden};
+use crate::kinds::{stmt_misplaced, stmt_pauses};
 use crate::layers::{
     proc_signature, range_subject, refines_step, step_subject, stmt_callee, stmt_introduced,
 };
@@ -69,7 +70,8 @@ fn in_global<'a>(
         Code::E30 => range_subject(program, global.first, global.last),
         Code::E35 => Some(Subject::Name(&global.name)),
         Code::E11 | Code::E21 | Code::E23 | Code::E31 | Code::E32 | Code::E33 => None,
-        Code::E34 | Code::E40 | Code::E41 | Code::E43 | Code::E50 | Code::E53 => None,
+        Code::E34 | Code::E40 | Code::E41 | Code::E43 | Code::E50 | Code::E51 => None,
+        Code::E52 | Code::E53 => None,
     }
 }
 
@@ -85,7 +87,7 @@ fn in_init(code: Code, program: &Program) -> Option<Subject<'_>>
         Code::E53 => expr_told(plain_stray(&program.init)),
         Code::E10 | Code::E12 | Code::E23 | Code::E24 | Code::E30 | Code::E31 => None,
         Code::E32 | Code::E33 | Code::E34 | Code::E35 | Code::E40 | Code::E41 => None,
-        Code::E43 | Code::E50 => None,
+        Code::E43 | Code::E50 | Code::E51 | Code::E52 => None,
     }
 }
 
@@ -109,6 +111,7 @@ fn in_invariant<'a>(
         Code::E53 => expr_told(plain_stray(&invariant.expr)),
         Code::E10 | Code::E23 | Code::E24 | Code::E32 | Code::E33 | Code::E34 => None,
         Code::E35 | Code::E40 | Code::E41 | Code::E43 | Code::E50 => None,
+        Code::E51 | Code::E52 => None,
     }
 }
 
@@ -137,7 +140,7 @@ fn in_action<'a>(
         Code::E31 => Ok(name_told(action_hidden(program, action))),
         Code::E53 => Ok(expr_told(action_stray(action))),
         Code::E24 | Code::E32 | Code::E33 | Code::E34 | Code::E35 => Ok(None),
-        Code::E40 | Code::E41 | Code::E43 | Code::E50 => Ok(None),
+        Code::E40 | Code::E41 | Code::E43 | Code::E50 | Code::E51 | Code::E52 => Ok(None),
     }
 }
 
@@ -168,7 +171,7 @@ fn in_head<'a>(
         Code::E34 => Ok(proc_signature(program, proc)),
         Code::E53 => Ok(expr_told(refines_stray(&proc.refines))),
         Code::E24 | Code::E32 | Code::E35 | Code::E40 | Code::E41 => Ok(None),
-        Code::E43 | Code::E50 => Ok(None),
+        Code::E43 | Code::E50 | Code::E51 | Code::E52 => Ok(None),
     }
 }
 
@@ -207,6 +210,8 @@ fn in_statement<'a>(
         Code::E35 => Ok(name_told(stmt_introduced(stmt))),
         Code::E43 => Ok(name_told(stmt_assigned(program, proc, stmt))),
         Code::E50 => Ok(name_told(stmt_callee(stmt))),
+        Code::E51 => Ok(stmt_pauses(stmt)),
+        Code::E52 => Ok(stmt_misplaced(proc, stmt)),
         Code::E53 => Ok(expr_told(stmt_stray(proc, stmt))),
         Code::E12 | Code::E24 | Code::E30 | Code::E34 => Ok(None),
     }
@@ -263,6 +268,7 @@ fn in_thread<'a>(
         Code::E53 => expr_told(any_stray(thread.args.as_slice())),
         Code::E10 | Code::E24 | Code::E30 | Code::E31 | Code::E32 | Code::E34 => None,
         Code::E35 | Code::E40 | Code::E41 | Code::E43 | Code::E50 => None,
+        Code::E51 | Code::E52 => None,
     }
 }
 
@@ -299,7 +305,8 @@ fn in_header(code: Code, program: &Program, item: usize) -> Option<Subject<'_>>
         }
         Code::E10 | Code::E11 | Code::E20 | Code::E21 | Code::E22 | Code::E23 => None,
         Code::E24 | Code::E30 | Code::E31 | Code::E32 | Code::E33 | Code::E34 => None,
-        Code::E35 | Code::E40 | Code::E41 | Code::E43 | Code::E50 | Code::E53 => None,
+        Code::E35 | Code::E40 | Code::E41 | Code::E43 | Code::E50 | Code::E51 => None,
+        Code::E52 | Code::E53 => None,
     }
 }
 

@@ -34,8 +34,12 @@ pub(crate) fn put_many(out: &mut Vec<u8>, number: usize, word: &[u8]) -> Result<
     put(out, b"s")
 }
 
-/// A sort.
-pub(crate) fn put_sort(out: &mut Vec<u8>, sort: Sort) -> Result<(), Memory>
+/// Puts a sort behind what is there, as the language writes it.
+///
+/// # Errors
+///
+/// For want of memory.
+pub fn put_sort(out: &mut Vec<u8>, sort: Sort) -> Result<(), Memory>
     ensures { OnOk result (out.new.items ≡ out.old.items ++ sort_text sort) }
 {
     match sort {

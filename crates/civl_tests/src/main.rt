@@ -163,12 +163,16 @@ stories_of_each_condition
 stories_with_more_in_them
 stories_of_all_conditions
 stories_of_goals
+stories_with_what_is_assumed
+goals_with_what_is_assumed
 stories_of_runs
 stories_by_lines
 slips_are_told
 places_of_first_faults
 places_of_broken_rules
 reports_with_a_place_or_without
+refusals_with_their_places
+returns_at_line_ends
 stories_and_devices
 words_of_civl_explain
 words_that_are_commands";

@@ -98,7 +98,7 @@ ReadStory =
     ∷ at 98 (Tokens 2) Info (codes "then Write with w = 7:8: x: 3:8 -> 7:8")
     ∷ at 98 (Tokens 2) Info (codes "exchanged, Write: x: 3:8 -> 7:8")
     ∷ at 66 (Tokens 2) Info (codes "then Read: v = 7:8")
-    ∷ at 98 (Tokens 2) Error (codes "v is 3:8, and 7:8 in the exchanged order")
+    ∷ at 98 (Tokens 2) Error (codes "X.v is 3:8, and 7:8 in the exchanged order")
     ∷ []
 
 -- K4: Free makes the gate of Write false
@@ -131,5 +131,5 @@ StayStory =
     ≡ at 41 (Tokens 2) Info (codes "Free: f: true -> false")
     ∷ at 152 Head Error (codes "what it says is lost")
     ∷ at 154 (Tokens 1) Info (codes "is false, f = false")
-    ∷ at 156 (Tokens 5) Info (codes "is false, x = 3:8, k = 5:8")
+    ∷ at 156 (Tokens 5) Info (codes "is false, x = 3:8, other.k = 5:8")
     ∷ []

@@ -29,19 +29,19 @@ use Rattle.civl_history.specs.inner.Spots.{numbered_spot}
 
 -- ---- what lies ahead
 
--- its first call; a statement of the procedure with this number, with its own number; the end of such a procedure; nothing
+-- its first call; a statement of the procedure with this number, with its own number; the end of such a procedure; nothing, behind its call
 pub data Next : Type 0 where
   Begins : ℕ → Next
   Statement : ℕ → ℕ → Stmt → Next
   Exit : ℕ → Next
-  Ended : Next
+  Ended : ℕ → Next
 
 -- what the code says
 abbrev pub said : Ahead → Next
 said (code.Begins callee) = Begins callee
 said (code.Statement procedure numbered) = Statement procedure numbered.number numbered.stmt.now
 said (code.Exit procedure) = Exit procedure
-said code.Ended = Ended
+said (code.Ended callee) = Ended callee
 
 abbrev pub frame_next : ℕ → Option (ℕ × Stmt) → Next
 frame_next procedure None = Exit procedure
@@ -50,7 +50,7 @@ frame_next procedure (Some numbered) = Statement procedure numbered.0 numbered.1
 abbrev pub state_next : Plain → ℕ → State → Next
 state_next plain callee state.Before = Begins callee
 state_next plain callee (state.Inside below top) = frame_next top.procedure (numbered_spot (spot_of_frame plain top))
-state_next plain callee state.After = Ended
+state_next plain callee state.After = Ended callee
 
 abbrev pub next_of : Plain → Running → Next
 next_of plain thread = state_next plain thread.callee thread.state
@@ -59,7 +59,7 @@ abbrev pub stand_before : Next → Stand
 stand_before (Begins callee) = stand.Begins callee
 stand_before (Statement procedure number stmt) = stand.Before procedure number
 stand_before (Exit procedure) = stand.Leaves procedure
-stand_before Ended = stand.Ended
+stand_before (Ended callee) = stand.Ended callee
 
 -- ---- what is kept of a thread before its move
 
@@ -74,7 +74,7 @@ abbrev pub frame_kept : List Activation → Activation → Next → List Value
 frame_kept below top (Begins callee) = top.locals
 frame_kept below top (Statement procedure number stmt) = top.locals
 frame_kept below top (Exit procedure) = locals_of (caller_of below)
-frame_kept below top Ended = top.locals
+frame_kept below top (Ended callee) = top.locals
 
 abbrev pub locals_kept : State → Next → List Value
 locals_kept state.Before next = []
@@ -117,7 +117,7 @@ abbrev pub kind_seen : ℕ → ℕ → Next → State → StepKind
 kind_seen threads below (Begins callee) behind = first_kind behind
 kind_seen threads below (Statement procedure number s) behind = form_kind threads below (out-Stmt s) behind
 kind_seen threads below (Exit procedure) behind = exit_kind behind
-kind_seen threads below Ended behind = kind.Ends
+kind_seen threads below (Ended callee) behind = kind.Ends
 
 abbrev pub top_locals : State → List Value
 top_locals state.Before = []

@@ -34,7 +34,7 @@ use Rattle.civl_path_stories.specs.Paths.{info, error, path_story}
 abbrev x : Expr
 x = name (codes "x")
 
-abbrev p : Expr
+abbrev pub p : Expr
 p = name (codes "p")
 
 abbrev bit : List ℕ → List Param

@@ -77,9 +77,11 @@ LinearIsTold =
     × Tells (dock (gives (codes "x") ∷ [])) 41 6 0 (codes "x")
     × Tells (dock (gives (codes "o") ∷ tells (codes "z") ∷ [])) 43 6 1 (codes "z")
 
--- E50 and E53: calls that come too late, `done` and `old(..)`
+-- E50 to E53: calls that come too late, statements that may not stand there, `done` and `old(..)`
 abbrev pub YieldsAreTold : Type 0
 YieldsAreTold =
     Tells (with_body (call_set ∷ call_set ∷ [])) 50 4 1 (codes "Set")
+    × Tells (with_body (stmt.RankLoop expr.True (expr.Literal 0 8) expr.True (stmt.Yield expr.True ∷ []) ∷ [])) 51 4 1 (codes "a yield")
+    × Tells (with_body (stmt.While expr.True [] ∷ [])) 52 4 0 (codes "a loop in a procedure that refines an action")
     × Tells (with_init (expr.Two And expr.True expr.Done)) 53 1 0 (codes "done")
     × Tells (with_body (stmt.Yield (expr.Old (named (codes "f"))) ∷ [])) 53 4 0 (codes "old(f)")

@@ -4,7 +4,7 @@ use Rattle.std.specs.Option.{option_map}
 use Rattle.civl_tree.specs.declared.name.Name.{Name}
 use Rattle.civl_tree.specs.declared.expr.Sort.{Sort}
 use Rattle.civl_tree.specs.rules.Uses.{Need, AnySort, AnyWord, Only, param_sorts}
-use Rattle.civl_subjects.specs.Subjects.{Subject, OfName, OfSort, OfNeed, OfExpr, OfUnsorted, OfMissorted, OfHeader, OfLimit, OfCount, OfRange, OfStep, OfParam}
+use Rattle.civl_subjects.specs.Subjects.{Subject, OfName, OfSort, OfNeed, OfExpr, OfUnsorted, OfMissorted, OfHeader, OfLimit, OfCount, OfRange, OfStep, OfParam, OfStatement, OfLayered, OfRoot}
 use Rattle.civl_subjects.specs.Parts.{Part, GlobalPart, InitPart, InvariantPart, ActionPart, ProcPart, ThreadPart}
 use Rattle.civl_subjects.specs.declared.subject.Needed.{Needed}
 use Rattle.civl_subjects.specs.declared.subject.Needed.TheVariants as needed
@@ -44,6 +44,9 @@ meant (lent.Count counted found needs) = OfCount counted found needs
 meant (lent.Range first last layers) = OfRange first last layers
 meant (lent.Step step layers) = OfStep step layers
 meant (lent.Differs param other) = OfParam param.now other.now
+meant (lent.Statement kind) = OfStatement kind
+meant (lent.InLayered kind) = OfLayered kind
+meant (lent.InRoot kind) = OfRoot kind
 
 abbrev pub all_meant : Option Lent → Option Subject
 all_meant told = option_map meant told

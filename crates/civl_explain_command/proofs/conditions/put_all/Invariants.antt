@@ -5,5 +5,5 @@ use Rattle.civl_explain_command.proofs.conditions.put_all.Given as goal
 
 abbrev pub invariant-loop-at : goal.invariant-loop-at
 invariant-loop-at l =
-    l.out.items ++ beside (found_story l.written.form l.written.text.now.bytes.now l.written.text.now.tokens.now l.told.src.now) (drop l.at l.list) (drop l.at l.findings)
-    ≡ l.initial.out.items ++ beside (found_story l.written.form l.written.text.now.bytes.now l.written.text.now.tokens.now l.told.src.now) l.list l.findings
+    l.out.items ++ beside (found_story l.written.manner l.written.text.now.bytes.now l.written.text.now.tokens.now l.told.src.now) (drop l.at l.list) (drop l.at l.findings)
+    ≡ l.initial.out.items ++ beside (found_story l.written.manner l.written.text.now.bytes.now l.written.text.now.tokens.now l.told.src.now) l.list l.findings

@@ -3,7 +3,7 @@ use Rattle.civl_frontend.specs.Texts.{IsScriptReading}
 use Rattle.civl_frontend.proofs.Lawful.{script_numbered, script_few}
 use Rattle.civl_explain_command.specs.Outcome.{Traces}
 use Rattle.civl_explain_command.specs.inner.Read.{plain_for}
-use Rattle.civl_explain_command.proofs.Sizes.{script_short}
+use Rattle.civl_explain_command.proofs.Sizes.{script_short, script_whole}
 use Rattle.civl_explain_command.proofs.Telling.{found_in}
 use Rattle.civl_explain_command.proofs.run.run_text.Goals as goal
 
@@ -21,3 +21,6 @@ returns-in-Spelled c = found_in _ _ _ c.judge_script.result IsScriptReading (Tra
 
 pub returns-in-Unread : goal.returns-in-Unread
 returns-in-Unread c = found_in _ _ _ c.judge_fault.result IsScriptReading (Traces (plain_for c.args.end)) (Err c.in-Unread.fault) c.requires c.in-Unread.ensures c.judge_fault.ensures
+
+pub judge_script-requires-clause-whole : goal.judge_script-requires-clause-whole
+judge_script-requires-clause-whole c = script_whole c.args.input.now.bytes.now c.in-Spelled.script c.in-Spelled.ensures.0 c.requires

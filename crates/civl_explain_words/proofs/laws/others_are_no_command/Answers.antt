@@ -6,7 +6,7 @@ use Rattle.civl_explain_words.proofs.laws.others_are_no_command.Goals as goal
 
 shown : OthersAreNoCommand
 unfolding clap_on_literals asked_of
-shown = (refl, refl, refl, refl, refl, refl, refl, refl, refl, refl, refl, refl)
+shown = (refl, refl, refl, refl, refl, refl, refl, refl, refl, refl, refl, refl, refl, refl)
 
 pub returns : goal.returns
 returns c = shown

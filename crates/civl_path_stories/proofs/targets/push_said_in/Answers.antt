@@ -1,4 +1,3 @@
-use Rattle.std.proofs.Common.{sym}
 use Rattle.civl_path_stories.proofs.Chains.{none_here}
 use Rattle.civl_path_stories.proofs.targets.push_said_in.Goals as goal
 

@@ -1,0 +1,2 @@
+pub mod ScriptsStand
+pub mod ScriptsFit
